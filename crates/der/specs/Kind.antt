@@ -1,0 +1,62 @@
+-- The kinds of a type, by document 01's numbers (Type table).
+use Prim.Native.Nat.{ℕ}
+use mathlib.Core.Bool.{Bool, true, false}
+use lib.Dec.{ltb, leb, eqb}
+use Rattle.octets.specs.Pick.{pick, either}
+use Rattle.octets.specs.Text.{within}
+
+abbrev pub boolean : ℕ
+boolean = 1
+
+abbrev pub integer : ℕ
+integer = 2
+
+abbrev pub enumerated : ℕ
+enumerated = 3
+
+abbrev pub null : ℕ
+null = 4
+
+abbrev pub objectIdentifier : ℕ
+objectIdentifier = 5
+
+abbrev pub octetString : ℕ
+octetString = 6
+
+abbrev pub bitString : ℕ
+bitString = 7
+
+abbrev pub utf8String : ℕ
+utf8String = 8
+
+abbrev pub printableString : ℕ
+printableString = 9
+
+abbrev pub ia5String : ℕ
+ia5String = 10
+
+abbrev pub generalizedTime : ℕ
+generalizedTime = 11
+
+abbrev pub sequence : ℕ
+sequence = 12
+
+abbrev pub choice : ℕ
+choice = 13
+
+abbrev pub sequenceOf : ℕ
+sequenceOf = 14
+
+abbrev pub setOf : ℕ
+setOf = 15
+
+abbrev pub member : ℕ
+member = 16
+
+-- the string kinds
+unfoldable pub isString : ℕ → Bool
+isString k = within utf8String ia5String k
+
+-- kinds whose values hold other values
+unfoldable pub isConstructed : ℕ → Bool
+isConstructed k = either (eqb k sequence) (either (eqb k sequenceOf) (eqb k setOf))

@@ -1,0 +1,9 @@
+pub mod Kind
+pub mod Tag
+pub mod Header
+pub mod Contents
+pub mod Time
+pub mod Meaning
+pub mod Dotted
+pub mod Computing
+pub mod Examples

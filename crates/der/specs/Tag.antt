@@ -1,0 +1,56 @@
+-- Tags. "A tag octet has two top bits class, the next constructed, five the tag number."
+use Prim.Native.Nat.{ℕ, _+_, _*_, _/_, _%_}
+use mathlib.Core.Bool.{Bool, true, false}
+use lib.Dec.{ltb, leb, eqb}
+use Rattle.octets.specs.Pick.{pick}
+use Rattle.der.specs.Kind.{boolean, integer, enumerated, null, objectIdentifier, octetString, bitString, utf8String, printableString, ia5String, generalizedTime, setOf, isConstructed}
+
+-- 0 universal, 1 application, 2 context, 3 private
+unfoldable pub class : ℕ → ℕ
+class o = o / 64
+
+unfoldable pub constructed : ℕ → ℕ
+constructed o = o / 32 % 2
+
+unfoldable pub number : ℕ → ℕ
+number o = o % 32
+
+-- A tag by class and number, as types are told apart: n for universal n, 32 + n for context n, 64 for any other
+abbrev pub context : ℕ → ℕ
+context n = 32 + n
+
+unfoldable pub tagOf : ℕ → ℕ
+tagOf o =
+    pick (eqb (class o) 0) (number o)
+    (pick (eqb (class o) 2) (context (number o)) 64)
+
+-- the universal tag of a kind that is no CHOICE (X.680)
+unfoldable pub universal : ℕ → ℕ
+universal k =
+    pick (eqb k boolean) 1
+    (pick (eqb k integer) 2
+    (pick (eqb k enumerated) 10
+    (pick (eqb k null) 5
+    (pick (eqb k objectIdentifier) 6
+    (pick (eqb k octetString) 4
+    (pick (eqb k bitString) 3
+    (pick (eqb k utf8String) 12
+    (pick (eqb k printableString) 19
+    (pick (eqb k ia5String) 22
+    (pick (eqb k generalizedTime) 24
+    (pick (eqb k setOf) 17
+    16)))))))))))
+
+-- the constructed bit of a kind's tag octet
+abbrev pub form : ℕ → ℕ
+form k = pick (isConstructed k) 32 0
+
+-- the tag octet of a kind's values: its own, or with an implicit context tag; and that of an explicit wrapper
+unfoldable pub ownOctet : ℕ → ℕ
+ownOctet k = form k + universal k
+
+unfoldable pub implicitOctet : ℕ → ℕ → ℕ
+implicitOctet n k = 128 + form k + n
+
+unfoldable pub wrapperOctet : ℕ → ℕ
+wrapperOctet n = 160 + n

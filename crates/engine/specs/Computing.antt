@@ -1,0 +1,14 @@
+-- The definitions of this crate and those below, as one name for the `unfolding` line of a computed example.
+use Prim.Native.Nat.{ℕ}
+use Rattle.filter.specs.Computing.{filterComputes}
+use Rattle.engine.specs.Opened.{ownHeader, openAt}
+use Rattle.engine.specs.Trail.{then, eachFrom, countFrom, positionFrom, findMember, findAlternative, along, trail, faulty, reached}
+use Rattle.engine.specs.Truth.{every as everyTruth, any as anyTruth, conjunction, disjunction, truth}
+use Rattle.engine.specs.Reading.{reading}
+use Rattle.engine.specs.Assertion.{asked, testing, outcome}
+use Rattle.engine.specs.Answer.{budgeted, questionFits, evaluated, askReport}
+use Rattle.engine.specs.Listing.{written, listed, walked, listingFits, listReport}
+
+unfoldable pub engineComputes : ℕ
+unfolding filterComputes ownHeader openAt then eachFrom countFrom positionFrom findMember findAlternative along trail faulty reached everyTruth anyTruth conjunction disjunction truth reading asked testing outcome budgeted questionFits evaluated askReport written listed walked listingFits listReport
+engineComputes = 0

@@ -1,0 +1,12 @@
+pub mod Limits
+pub mod Opened
+pub mod Trail
+pub mod Truth
+pub mod Reading
+pub mod Assertion
+pub mod Answer
+pub mod Listing
+pub mod Computing
+pub mod Paper
+pub mod Laws
+pub mod Examples

@@ -1,0 +1,162 @@
+-- The walk along a reference, on the octets. Refusal 7: "walking a checked value from its first octet along the reference, each header being
+-- where the type and the lengths before it put it, the engine reaches one that doesn't fit its row or its enclosing length".
+use Prim.Native.Nat.{ℕ, zero, suc, _+_, _-_}
+use mathlib.Core.Bool.{Bool, true, false}
+use mathlib.Core.Option.{Option, none, some}
+use mathlib.Core.List.{List, [], _∷_}
+use lib.ListN.{length}
+use lib.Dec.{ltb, leb, eqb}
+use Rattle.octets.specs.Pick.{pick, either}
+use Rattle.octets.specs.Octets.{octet, same}
+use Rattle.table.specs.Types.{Tagging, untagged, Presence, mandatory, optional, default, Member, Ty, basic, sequence, choice, listOf, Members, noMore, more}
+use Rattle.table.specs.Begins.{isMandatory}
+use Rattle.value.specs.Decode.{startsHere}
+use Rattle.reference.specs.Reference.{Id, name, position, fromEnd, count, all}
+use Rattle.reference.specs.Numbers.{Component, stored, defaulted, tallied}
+use Rattle.engine.specs.Opened.{Opened, spotOf, after, openAt}
+
+-- the components in the order in which the walk reaches them; it ends well, or in a fault
+pub data Trail : Type 0 where
+  done : Trail
+  fault : Trail
+  reach : Component → Trail → Trail
+
+-- one walk after another
+unfoldable pub then : Trail → Trail → Trail
+then done b = b
+then fault b = fault
+then (reach c a) b = reach c (then a b)
+
+-- ---- elements of a list: o opens one, and they are from i up to stop, at most k of them
+abbrev pub eachThen : (Opened → Trail) → (ℕ → Trail) → Option Opened → Trail
+eachThen f rest none = fault
+eachThen f rest (some x) = then (f x) (rest (after x))
+
+unfoldable pub eachFrom : (ℕ → ℕ → Option Opened) → (Opened → Trail) → ℕ → ℕ → ℕ → Trail
+eachFrom o f zero stop i = pick (ltb i stop) fault done
+eachFrom o f (suc k) stop i =
+    let elements = eachThen f (λ j. eachFrom o f k stop j) (o i stop) in
+    pick (ltb i stop) elements done
+
+-- their number, after n of them; none where a header doesn't fit
+abbrev pub countThen : (ℕ → Option ℕ) → Option Opened → Option ℕ
+countThen rest none = none
+countThen rest (some x) = rest (after x)
+
+unfoldable pub countFrom : (ℕ → ℕ → Option Opened) → ℕ → ℕ → ℕ → ℕ → Option ℕ
+countFrom o zero stop n i = pick (ltb i stop) none (some n)
+countFrom o (suc k) stop n i =
+    let elements = countThen (λ j. countFrom o k stop (n + 1) j) (o i stop) in
+    pick (ltb i stop) elements (some n)
+
+-- the one at a position from 1
+abbrev pub positionThen : ℕ → (Opened → Trail) → (ℕ → Trail) → Option Opened → Trail
+positionThen n f rest none = fault
+positionThen n f rest (some x) = pick (eqb n 1) (f x) (rest (after x))
+
+unfoldable pub positionFrom : (ℕ → ℕ → Option Opened) → (Opened → Trail) → ℕ → ℕ → ℕ → ℕ → Trail
+positionFrom o f zero stop n i = pick (ltb i stop) fault done
+positionFrom o f (suc k) stop n i =
+    let elements = positionThen n f (λ j. positionFrom o f k stop (n - 1) j) (o i stop) in
+    pick (ltb i stop) elements done
+
+-- ---- members of a SEQUENCE, alternatives of a CHOICE
+pub data Found : Type 0 where
+  found : Ty → Opened → Found
+  missing : Member → Found
+  nothing : Found
+  broken : Found
+
+abbrev pub memberThen : Bool → Ty → (ℕ → Found) → Option Opened → Found
+memberThen named ty rest none = broken
+memberThen named ty rest (some o) = pick named (found ty o) (rest (after o))
+
+-- the member with a name, among those from i on: a mandatory one has to be there, any other is where the next tag is one it can begin with
+unfoldable pub findMember : List ℕ → Members → List ℕ → ℕ → ℕ → Found
+findMember x noMore v stop i = nothing
+findMember x (more m ty ms) v stop i =
+    let there = memberThen (same (m .name) x) ty (λ j. findMember x ms v stop j) (openAt ty (m .tagging) v i stop) in
+    let without = pick (same (m .name) x) (missing m) (findMember x ms v stop i) in
+    pick (either (isMandatory (m .presence)) (startsHere m ty v stop i)) there without
+
+abbrev pub alternativeOf : Ty → Option Opened → Found
+alternativeOf ty none = broken
+alternativeOf ty (some o) = found ty o
+
+-- the alternative that can begin with the tag here, if it has the name
+unfoldable pub findAlternative : List ℕ → Members → List ℕ → ℕ → ℕ → Found
+findAlternative x noMore v stop at = broken
+findAlternative x (more m ty ms) v stop at =
+    let this = pick (same (m .name) x) (alternativeOf ty (openAt ty (m .tagging) v at stop)) nothing in
+    let others = findAlternative x ms v stop at in
+    pick (startsHere m ty v stop at) this others
+
+-- ---- one component identifier at an opened value; f walks along the rest of the identifiers
+-- a default and a count have no components of their own
+abbrev pub ending : List Id → Component → Trail
+ending [] c = reach c done
+ending (i ∷ is) c = done
+
+abbrev pub missingTrail : Bool → List Id → ℕ → Member → Presence → Trail
+missingTrail defaults is place m mandatory = done
+missingTrail defaults is place m optional = done
+missingTrail defaults is place m (default c) = pick defaults (ending is (defaulted place m)) done
+
+abbrev pub onFound : Bool → List Id → ℕ → (Ty → Opened → Trail) → Found → Trail
+onFound defaults is place f (found ty o) = f ty o
+onFound defaults is place f (missing m) = missingTrail defaults is place m (m .presence)
+onFound defaults is place f nothing = done
+onFound defaults is place f broken = fault
+
+abbrev pub onCount : List Id → ℕ → Option ℕ → Trail
+onCount is place none = fault
+onCount is place (some n) = ending is (tallied place n)
+
+abbrev pub onFromEnd : ℕ → (ℕ → Trail) → Option ℕ → Trail
+onFromEnd n f none = fault
+onFromEnd n f (some c) = pick (leb n c) (f (c + 1 - n)) done
+
+abbrev pub inMembers : Id → (List ℕ → Found) → Bool → List Id → ℕ → (Ty → Opened → Trail) → Trail
+inMembers (name x) find defaults is place f = onFound defaults is place f (find x)
+inMembers (position n) find defaults is place f = done
+inMembers (fromEnd n) find defaults is place f = done
+inMembers count find defaults is place f = done
+inMembers all find defaults is place f = done
+
+abbrev pub inList : Id → (ℕ → ℕ → Option Opened) → List Id → Opened → (Opened → Trail) → Trail
+inList (name x) o is l f = done
+inList (position n) o is l f = positionFrom o f (l .size) (after l) n (l .start)
+inList (fromEnd n) o is l f = onFromEnd n (λ p. positionFrom o f (l .size) (after l) p (l .start)) (countFrom o (l .size) (after l) 0 (l .start))
+inList count o is l f = onCount is (l .place) (countFrom o (l .size) (after l) 0 (l .start))
+inList all o is l f = eachFrom o f (l .size) (after l) (l .start)
+
+abbrev pub inValue : Id → Ty → List ℕ → Bool → List Id → Opened → (Ty → Opened → Trail) → Trail
+inValue i (basic k) v defaults is o f = done
+inValue i (sequence ms) v defaults is o f = inMembers i (λ x. findMember x ms v (after o) (o .start)) defaults is (o .place) f
+inValue i (choice ms) v defaults is o f = inMembers i (λ x. findAlternative x ms v (after o) (o .place)) defaults is (o .place) f
+inValue i (listOf k ty) v defaults is o f = inList i (openAt ty untagged v) is o (f ty)
+
+-- ---- along the identifiers, from an opened value
+unfoldable pub along : List Id → List ℕ → Bool → Ty → Opened → Trail
+along [] v defaults ty o = reach (stored (spotOf v o)) done
+along (i ∷ is) v defaults ty o = inValue i ty v defaults is o (λ u p. along is v defaults u p)
+
+abbrev pub fromOpened : (Opened → Trail) → Option Opened → Trail
+fromOpened f none = fault
+fromOpened f (some o) = f o
+
+-- from the value's first octet
+unfoldable pub trail : List Id → List ℕ → Bool → Ty → Trail
+trail is v defaults ty = fromOpened (along is v defaults ty) (openAt ty untagged v 0 (length v))
+
+-- the walk has a fault
+unfoldable pub faulty : Trail → Bool
+faulty done = false
+faulty fault = true
+faulty (reach c a) = faulty a
+
+-- the components it reaches
+unfoldable pub reached : Trail → List Component
+reached done = []
+reached fault = []
+reached (reach c a) = c ∷ reached a

@@ -1,0 +1,105 @@
+-- Filter text: "GSER, case sensitive, valid UTF-8". The filter that a text is.
+use Prim.Native.Nat.{ℕ, zero, suc, _+_}
+use mathlib.Core.Bool.{Bool, true, false}
+use mathlib.Core.Option.{Option, none, some}
+use mathlib.Core.List.{List}
+use lib.ListN.{length, drop}
+use lib.Dec.{leb, eqb}
+use Rattle.octets.specs.Pick.{pick, both, bind}
+use Rattle.octets.specs.Octets.{octet, bytes}
+use Rattle.octets.specs.Text.{starts, skip}
+use Rattle.octets.specs.Utf8.{utf8}
+use Rattle.filter.specs.Limits.{Limits}
+use Rattle.filter.specs.Filter.{Item, Join, and, or, Filter, Filters, item, list, inverse, endFilters, next, depth, items}
+use Rattle.filter.specs.Spaces.{markAt, comma, openBrace, closeBrace}
+use Rattle.filter.specs.Assertion.{Part, partTo, assertionAt}
+
+-- what a filter begins with: an assertion at a place, an empty list that ends at a place, a list whose first filter is at a place, a filter
+-- under `not:`, or nothing that a filter begins with
+pub data Head : Type 0 where
+  assertion : ℕ → Head
+  emptyList : Join → ℕ → Head
+  openList : Join → ℕ → Head
+  negation : ℕ → Head
+  noHead : Head
+
+-- behind a list's opening brace and its spaces
+abbrev pub inBraces : List ℕ → Join → Option ℕ → Head
+inBraces s j none = noHead
+inBraces s j (some p) = pick (eqb (octet s p) closeBrace) (emptyList j (p + 1)) (openList j p)
+
+unfoldable pub headAt : List ℕ → ℕ → Head
+headAt s at =
+    pick (starts (bytes "item:") (drop at s)) (assertion (at + 5))
+    (pick (starts (bytes "and:") (drop at s)) (inBraces s and (markAt openBrace s (at + 4)))
+    (pick (starts (bytes "or:") (drop at s)) (inBraces s or (markAt openBrace s (at + 3)))
+    (pick (starts (bytes "not:") (drop at s)) (negation (at + 4))
+    noHead)))
+
+-- what follows a filter in a list: a comma and another filter, or the closing brace
+pub data Tail : Type 0 where
+  another : ℕ → Tail
+  closed : ℕ → Tail
+  noTail : Tail
+
+abbrev pub orClosed : List ℕ → ℕ → Option ℕ → Tail
+orClosed s p none = pick (eqb (octet s p) closeBrace) (closed (p + 1)) noTail
+orClosed s p (some q) = another q
+
+unfoldable pub tailAt : List ℕ → ℕ → Tail
+tailAt s at = orClosed s (skip s at) (markAt comma s at)
+
+-- ---- a filter, and the filters of a list from one of them on, with the place after them
+abbrev pub asItem : Part Item → Option (Part Filter)
+asItem p = partTo (item (p .is)) (p .after)
+
+abbrev pub asList : Join → Part Filters → Option (Part Filter)
+asList j p = partTo (list j (p .is)) (p .after)
+
+abbrev pub asInverse : Part Filter → Option (Part Filter)
+asInverse p = partTo (inverse (p .is)) (p .after)
+
+abbrev pub onto : Filter → Part Filters → Option (Part Filters)
+onto f p = partTo (next f (p .is)) (p .after)
+
+abbrev pub byHead : List ℕ → (ℕ → Option (Part Filters)) → (ℕ → Option (Part Filter)) → Head → Option (Part Filter)
+byHead s lists filters (assertion p) = bind (assertionAt s p) asItem
+byHead s lists filters (emptyList j p) = partTo (list j endFilters) p
+byHead s lists filters (openList j p) = bind (lists p) (asList j)
+byHead s lists filters (negation p) = bind (filters p) asInverse
+byHead s lists filters noHead = none
+
+abbrev pub byTail : (ℕ → Option (Part Filters)) → Filter → Tail → Option (Part Filters)
+byTail lists f (another p) = bind (lists p) (onto f)
+byTail lists f (closed p) = partTo (next f endFilters) p
+byTail lists f noTail = none
+
+abbrev pub afterFirst : List ℕ → (ℕ → Option (Part Filters)) → Part Filter → Option (Part Filters)
+afterFirst s lists p = byTail lists (p .is) (tailAt s (p .after))
+
+-- n bounds the calls: more than the length of the text is enough
+unfoldable mutual
+  pub filterFrom : ℕ → List ℕ → ℕ → Option (Part Filter)
+  filterFrom zero s at = none
+  filterFrom (suc n) s at = byHead s (λ p. filtersFrom n s p) (λ p. filterFrom n s p) (headAt s at)
+
+  pub filtersFrom : ℕ → List ℕ → ℕ → Option (Part Filters)
+  filtersFrom zero s at = none
+  filtersFrom (suc n) s at = bind (filterFrom n s at) (afterFirst s (λ p. filtersFrom n s p))
+
+unfoldable pub filterAt : List ℕ → ℕ → Option (Part Filter)
+filterAt s at = filterFrom (length s + 1) s at
+
+-- ---- the whole text; "Depth at most 16 .., at most 64 items"
+abbrev pub ifWhole : List ℕ → Part Filter → Option Filter
+ifWhole s p = pick (eqb (p .after) (length s)) (some (p .is)) none
+
+abbrev pub withinLimits : Limits → Filter → Option Filter
+withinLimits l f = pick (both (leb (depth f) (l .depth)) (leb (items f) (l .items))) (some f) none
+
+-- the filter of the whole text, whatever its depth and items
+unfoldable pub whole : List ℕ → Option Filter
+whole s = pick (utf8 s) (bind (filterAt s 0) (ifWhole s)) none
+
+unfoldable pub parse : Limits → List ℕ → Option Filter
+parse l s = bind (whole s) (withinLimits l)

@@ -1,0 +1,1 @@
+// The filter text: reading it into a filter. The definitions are in specs/.

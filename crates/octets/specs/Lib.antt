@@ -1,0 +1,7 @@
+pub mod Pick
+pub mod Octets
+pub mod Text
+pub mod Utf8
+pub mod Quoted
+pub mod Computing
+pub mod Examples

@@ -1,0 +1,74 @@
+-- Text: characters by their kind, words, spaces, decimal numbers.
+use Prim.Native.Nat.{ℕ, zero, suc, _+_, _-_, _*_}
+use mathlib.Core.Bool.{Bool, true, false}
+use mathlib.Core.List.{List, [], _∷_}
+use lib.ListN.{length, drop}
+use lib.Dec.{ltb, leb, eqb}
+use Rattle.octets.specs.Pick.{pick, both, either}
+use Rattle.octets.specs.Octets.{octet, every}
+
+-- from a to b, both included
+abbrev pub within : ℕ → ℕ → ℕ → Bool
+within a b o = both (leb a o) (leb o b)
+
+unfoldable pub isDigit : ℕ → Bool
+isDigit b = within 48 57 b
+
+unfoldable pub isLower : ℕ → Bool
+isLower b = within 97 122 b
+
+unfoldable pub isUpper : ℕ → Bool
+isUpper b = within 65 90 b
+
+unfoldable pub isLetter : ℕ → Bool
+isLetter b = either (isLower b) (isUpper b)
+
+unfoldable pub isAlnum : ℕ → Bool
+isAlnum b = either (isLetter b) (isDigit b)
+
+-- A to Z turned into a to z; any other octet as it is
+unfoldable pub lower : ℕ → ℕ
+lower b = pick (isUpper b) (b + 32) b
+
+-- a text begins with a word
+unfoldable pub starts : List ℕ → List ℕ → Bool
+starts [] s = true
+starts (w ∷ ws) [] = false
+starts (w ∷ ws) (b ∷ s) = let r = starts ws s in both (eqb b w) r
+
+-- the number of spaces (U+0020) that a text begins with
+unfoldable pub lead : List ℕ → ℕ
+lead [] = 0
+lead (b ∷ s) = let r = suc (lead s) in pick (eqb b 32) r 0
+
+-- the first place at or after this one that has no space
+unfoldable pub skip : List ℕ → ℕ → ℕ
+skip s at = at + lead (drop at s)
+
+-- the number that decimal digits stand for, after digits that stand for n
+unfoldable pub decimalFrom : ℕ → List ℕ → ℕ
+decimalFrom n [] = n
+decimalFrom n (b ∷ bs) = decimalFrom (n * 10 + (b - 48)) bs
+
+abbrev pub decimal : List ℕ → ℕ
+decimal s = decimalFrom 0 s
+
+-- decimal digits, at least one, without leading zeros
+unfoldable pub isNumber : List ℕ → Bool
+isNumber [] = false
+isNumber (b ∷ bs) = both (every isDigit (b ∷ bs)) (either (eqb (length bs) 0) (ltb 48 b))
+
+-- without its spaces at the end
+unfoldable pub trimmed : List ℕ → List ℕ
+trimmed [] = []
+trimmed (b ∷ s) = let r = trimmed s in pick (eqb (length r) 0) (pick (eqb b 32) [] (b ∷ r)) (b ∷ r)
+
+-- ---- texts divided by dots
+abbrev pub ontoFirst : ℕ → List (List ℕ) → List (List ℕ)
+ontoFirst b [] = (b ∷ []) ∷ []
+ontoFirst b (p ∷ ps) = (b ∷ p) ∷ ps
+
+-- the pieces before, between and after the dots
+unfoldable pub pieces : List ℕ → List (List ℕ)
+pieces [] = [] ∷ []
+pieces (b ∷ s) = let r = pieces s in pick (eqb b 46) ([] ∷ r) (ontoFirst b r)

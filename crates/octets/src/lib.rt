@@ -1,0 +1,1 @@
+// Octets and text: the lowest layer. Its definitions are in specs/.

@@ -1,0 +1,54 @@
+-- Whether a type allows a reference, and what it then leads to: a type, or the count of a list, which is an INTEGER.
+use Prim.Native.Nat.{ℕ}
+use mathlib.Core.Bool.{Bool, true, false}
+use mathlib.Core.Option.{Option, none, some}
+use mathlib.Core.List.{List, [], _∷_}
+use Rattle.octets.specs.Pick.{pick, bind}
+use Rattle.octets.specs.Octets.{same}
+use Rattle.table.specs.Types.{Member, Ty, basic, sequence, choice, listOf, Members, noMore, more}
+use Rattle.reference.specs.Reference.{Id, name, position, fromEnd, count, all}
+
+pub data Target : Type 0 where
+  ofType : Ty → Target
+  ofCount : Target
+
+-- the type of the member or alternative with a name
+unfoldable pub memberType : List ℕ → Members → Option Ty
+memberType x noMore = none
+memberType x (more m ty ms) = let r = memberType x ms in pick (same (m .name) x) (some ty) r
+
+abbrev pub asType : Option Ty → Option Target
+asType none = none
+asType (some ty) = some (ofType ty)
+
+-- identifiers on SEQUENCE and CHOICE
+abbrev pub underMembers : Id → Members → Option Target
+underMembers (name x) ms = asType (memberType x ms)
+underMembers (position n) ms = none
+underMembers (fromEnd n) ms = none
+underMembers count ms = none
+underMembers all ms = none
+
+-- positions, count and all on SEQUENCE OF and SET OF
+abbrev pub underList : Id → Ty → Option Target
+underList (name x) ty = none
+underList (position n) ty = some (ofType ty)
+underList (fromEnd n) ty = some (ofType ty)
+underList count ty = some ofCount
+underList all ty = some (ofType ty)
+
+-- one component identifier at a target
+unfoldable pub under : Id → Target → Option Target
+under i ofCount = none
+under i (ofType (basic k)) = none
+under i (ofType (sequence ms)) = underMembers i ms
+under i (ofType (choice ms)) = underMembers i ms
+under i (ofType (listOf k ty)) = underList i ty
+
+-- all of them in turn
+unfoldable pub allowedFrom : List Id → Target → Option Target
+allowedFrom [] g = some g
+allowedFrom (i ∷ is) g = bind (under i g) (λ h. allowedFrom is h)
+
+unfoldable pub allowed : List Id → Ty → Option Target
+allowed is ty = allowedFrom is (ofType ty)

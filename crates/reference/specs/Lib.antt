@@ -1,0 +1,6 @@
+pub mod Reference
+pub mod Allowed
+pub mod Named
+pub mod Numbers
+pub mod Computing
+pub mod Examples

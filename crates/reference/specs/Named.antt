@@ -1,0 +1,91 @@
+-- What a reference names in a decoded value. "A reference is read from the left: at first the whole value is held; each component identifier
+-- in it then replaces each held value by those it names there, none, one or more. The reference names what is held at its end."
+use Prim.Native.Nat.{ℕ, zero, suc, _+_, _-_}
+use mathlib.Core.Bool.{Bool, true, false}
+use mathlib.Core.List.{List, [], _∷_, _++_}
+use lib.Dec.{ltb, leb, eqb}
+use Rattle.octets.specs.Pick.{pick}
+use Rattle.octets.specs.Octets.{same}
+use Rattle.table.specs.Types.{Presence, mandatory, optional, default, Member}
+use Rattle.value.specs.Value.{Spot, Value, leaf, fields, chosen, elements, Fields, endFields, present, absent, Values, endValues, next}
+use Rattle.reference.specs.Reference.{Id, name, position, fromEnd, count, all}
+
+-- a held value: a stored one; the default of a member that is absent from the SEQUENCE at a place; the count of the list at a place
+pub data Held : Type 0 where
+  value : Value → Held
+  missing : ℕ → Member → Held
+  counted : ℕ → ℕ → Held
+
+-- "An alternative not chosen or an optional member absent names nothing. An absent default member names its default, or nothing if defaults are off."
+abbrev pub absentNames : Bool → ℕ → Member → Presence → List Held
+absentNames defaults place m mandatory = []
+absentNames defaults place m optional = []
+absentNames defaults place m (default c) = pick defaults (missing place m ∷ []) []
+
+unfoldable pub memberNamed : Bool → ℕ → List ℕ → Fields → List Held
+memberNamed defaults place x endFields = []
+memberNamed defaults place x (present m y fs) = let r = memberNamed defaults place x fs in pick (same (m .name) x) (value y ∷ []) r
+memberNamed defaults place x (absent m fs) = let r = memberNamed defaults place x fs in pick (same (m .name) x) (absentNames defaults place m (m .presence)) r
+
+-- the elements of a list
+unfoldable pub size : Values → ℕ
+size endValues = 0
+size (next x xs) = suc (size xs)
+
+unfoldable pub each : Values → List Held
+each endValues = []
+each (next x xs) = value x ∷ each xs
+
+-- the element at a position from 1; "one beyond the end names nothing"
+unfoldable pub elementAt : ℕ → Values → List Held
+elementAt n endValues = []
+elementAt n (next x xs) = let r = elementAt (n - 1) xs in pick (eqb n 1) (value x ∷ []) r
+
+-- the element at a position from the end
+abbrev pub elementFromEnd : ℕ → Values → List Held
+elementFromEnd n xs = pick (leb n (size xs)) (elementAt (size xs + 1 - n) xs) []
+
+-- what one identifier names in a SEQUENCE, a CHOICE, a list
+abbrev pub inFields : Bool → Id → ℕ → Fields → List Held
+inFields defaults (name x) place fs = memberNamed defaults place x fs
+inFields defaults (position n) place fs = []
+inFields defaults (fromEnd n) place fs = []
+inFields defaults count place fs = []
+inFields defaults all place fs = []
+
+abbrev pub inChosen : Id → Member → Value → List Held
+inChosen (name x) m y = pick (same (m .name) x) (value y ∷ []) []
+inChosen (position n) m y = []
+inChosen (fromEnd n) m y = []
+inChosen count m y = []
+inChosen all m y = []
+
+abbrev pub inElements : Id → ℕ → Values → List Held
+inElements (name x) place xs = []
+inElements (position n) place xs = elementAt n xs
+inElements (fromEnd n) place xs = elementFromEnd n xs
+inElements count place xs = counted place (size xs) ∷ []
+inElements all place xs = each xs
+
+-- what one identifier names in one held value
+unfoldable pub step : Bool → Id → Held → List Held
+step defaults i (value (leaf k s)) = []
+step defaults i (value (fields s fs)) = inFields defaults i (s .place) fs
+step defaults i (value (chosen s m y)) = inChosen i m y
+step defaults i (value (elements s xs)) = inElements i (s .place) xs
+step defaults i (missing place m) = []
+step defaults i (counted place n) = []
+
+-- each held value is replaced by those that the identifier names there
+unfoldable pub replaced : Bool → Id → List Held → List Held
+replaced defaults i [] = []
+replaced defaults i (h ∷ hs) = step defaults i h ++ replaced defaults i hs
+
+-- what is held at the end of the identifiers
+unfoldable pub held : Bool → List Id → List Held → List Held
+held defaults [] hs = hs
+held defaults (i ∷ is) hs = held defaults is (replaced defaults i hs)
+
+-- "A missing reference names the whole value": it has no identifiers
+unfoldable pub named : Bool → List Id → Value → List Held
+named defaults is x = held defaults is (value x ∷ [])

@@ -1,0 +1,54 @@
+-- Component references (RFC 3687 section 3.1): component identifiers, divided by dots.
+use Prim.Native.Nat.{ℕ}
+use mathlib.Core.Bool.{Bool, true, false}
+use mathlib.Core.Option.{Option, none, some}
+use mathlib.Core.List.{List, [], _∷_}
+use lib.ListN.{drop}
+use lib.Dec.{ltb, leb, eqb}
+use Rattle.octets.specs.Pick.{pick, both, either, no}
+use Rattle.octets.specs.Octets.{octet, same, bytes}
+use Rattle.octets.specs.Text.{isLower, isAlnum, isNumber, decimal, pieces}
+
+-- "Identifiers on SEQUENCE and CHOICE; on SEQUENCE OF and SET OF a position from 1, `-`position from the end, `0` for the count, `*` for all."
+pub data Id : Type 0 where
+  name : List ℕ → Id
+  position : ℕ → Id
+  fromEnd : ℕ → Id
+  count : Id
+  all : Id
+
+-- ASN.1 identifiers: a lowercase letter, then letters, digits and single hyphens, no hyphen last; after octet a
+unfoldable pub identifierFrom : ℕ → List ℕ → Bool
+identifierFrom a [] = no (eqb a 45)
+identifierFrom a (b ∷ s) = let r = identifierFrom b s in both (either (isAlnum b) (both (eqb b 45) (no (eqb a 45)))) r
+
+unfoldable pub isIdentifier : List ℕ → Bool
+isIdentifier [] = false
+isIdentifier (b ∷ s) = both (isLower b) (identifierFrom b s)
+
+-- "Positions may be of any size, without leading zeros"
+unfoldable pub isPosition : List ℕ → Bool
+isPosition p = both (isNumber p) (no (same p (bytes "0")))
+
+-- one component identifier
+unfoldable pub idOf : List ℕ → Option Id
+idOf p =
+    pick (same p (bytes "*")) (some all)
+    (pick (same p (bytes "0")) (some count)
+    (pick (isPosition p) (some (position (decimal p)))
+    (pick (both (eqb (octet p 0) 45) (isPosition (drop 1 p))) (some (fromEnd (decimal (drop 1 p))))
+    (pick (isIdentifier p) (some (name p))
+    none))))
+
+abbrev pub consed : Option Id → Option (List Id) → Option (List Id)
+consed none is = none
+consed (some i) none = none
+consed (some i) (some is) = some (i ∷ is)
+
+unfoldable pub idsOf : List (List ℕ) → Option (List Id)
+idsOf [] = some []
+idsOf (p ∷ ps) = let r = idsOf ps in consed (idOf p) r
+
+-- the component identifiers of a reference; none where it is malformed
+unfoldable pub readReference : List ℕ → Option (List Id)
+readReference s = idsOf (pieces s)

@@ -1,0 +1,1 @@
+// Component references: reading one, and whether a type allows it. The definitions are in specs/.

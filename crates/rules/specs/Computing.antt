@@ -1,0 +1,12 @@
+-- The definitions of this crate and those below, as one name for the `unfolding` line of a computed example.
+use Prim.Native.Nat.{ℕ}
+use Rattle.reference.specs.Computing.{referenceComputes}
+use Rattle.rules.specs.Rule.{sameName, ruleIn, ruleOf}
+use Rattle.rules.specs.Suits.{allStrings, suitsTarget, suits}
+use Rattle.rules.specs.Prepared.{squeezed, folded, prepared}
+use Rattle.rules.specs.Asserted.{isTruth, isInteger, assertedInteger, inQuotes, isHexString, isBitText, isOctets, assertedOctets, isBits, hexBits, textBits, assertedBits, isText, assertedText, isTime, conformsTo, conforms}
+use Rattle.rules.specs.Accepts.{isEqual, isLess, acceptsContents, acceptsCount, accepts}
+
+unfoldable pub rulesCompute : ℕ
+unfolding referenceComputes sameName ruleIn ruleOf allStrings suitsTarget suits squeezed folded prepared isTruth isInteger assertedInteger inQuotes isHexString isBitText isOctets assertedOctets isBits hexBits textBits assertedBits isText assertedText isTime conformsTo conforms isEqual isLess acceptsContents acceptsCount accepts
+rulesCompute = 0

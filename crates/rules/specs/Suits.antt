@@ -1,0 +1,57 @@
+-- Rules: which rule is for which type ("on"). The count is an INTEGER.
+use Prim.Native.Nat.{ℕ}
+use mathlib.Core.Bool.{Bool, true, false}
+use lib.Dec.{eqb}
+use Rattle.octets.specs.Pick.{pick, both}
+use Rattle.der.specs.Kind as kind
+use Rattle.der.specs.Kind.{isString}
+use Rattle.table.specs.Types.{Tagging, untagged, explicit, implicit, Member, Ty, basic, sequence, choice, listOf, Members, noMore, more}
+use Rattle.reference.specs.Allowed.{Target, ofType, ofCount}
+use Rattle.rules.specs.Rule.{Syntax, booleans, integers, objectIdentifiers, octetStrings, bitStrings, strings, times, Rule, present, equal, less}
+
+abbrev pub suitsKind : Syntax → ℕ → Bool
+suitsKind booleans k = eqb k kind.boolean
+suitsKind integers k = eqb k kind.integer
+suitsKind objectIdentifiers k = eqb k kind.objectIdentifier
+suitsKind octetStrings k = eqb k kind.octetString
+suitsKind bitStrings k = eqb k kind.bitString
+suitsKind (strings fold) k = isString k
+suitsKind times k = eqb k kind.generalizedTime
+
+-- "CHOICE of untagged string rows"
+abbrev pub isUntagged : Tagging → Bool
+isUntagged untagged = true
+isUntagged (explicit n) = false
+isUntagged (implicit n) = false
+
+abbrev pub isStringType : Ty → Bool
+isStringType (basic k) = isString k
+isStringType (sequence ms) = false
+isStringType (choice ms) = false
+isStringType (listOf k ty) = false
+
+unfoldable pub allStrings : Members → Bool
+allStrings noMore = true
+allStrings (more m ty ms) = let r = allStrings ms in both (both (isUntagged (m .tagging)) (isStringType ty)) r
+
+abbrev pub suitsChoice : Syntax → Members → Bool
+suitsChoice booleans ms = false
+suitsChoice integers ms = false
+suitsChoice objectIdentifiers ms = false
+suitsChoice octetStrings ms = false
+suitsChoice bitStrings ms = false
+suitsChoice (strings fold) ms = allStrings ms
+suitsChoice times ms = false
+
+unfoldable pub suitsTarget : Syntax → Target → Bool
+suitsTarget s (ofType (basic k)) = suitsKind s k
+suitsTarget s (ofType (sequence ms)) = false
+suitsTarget s (ofType (choice ms)) = suitsChoice s ms
+suitsTarget s (ofType (listOf k ty)) = false
+suitsTarget s ofCount = suitsKind s kind.integer
+
+-- the rule is for the target
+unfoldable pub suits : Rule → Target → Bool
+suits present g = true
+suits (equal s) g = suitsTarget s g
+suits (less s) g = suitsTarget s g

@@ -1,0 +1,1 @@
+// Matching rules: known rules, asserted values, acceptance. The definitions are in specs/.

@@ -1,0 +1,151 @@
+-- Type table: "Admitted", a test for each of its clauses. t is the table, s its rows.
+use Prim.Native.Nat.{ℕ, zero, suc, _+_, _-_}
+use mathlib.Core.Bool.{Bool, true, false}
+use mathlib.Core.List.{List, [], _∷_}
+use lib.ListN.{length}
+use lib.Dec.{ltb, leb, eqb}
+use Rattle.octets.specs.Pick.{pick, both, either, no, all}
+use Rattle.octets.specs.Octets.{part, same}
+use Rattle.octets.specs.Text.{within}
+use Rattle.der.specs.Kind as kind
+use Rattle.der.specs.Contents.{legal}
+use Rattle.table.specs.Limits.{Limits}
+use Rattle.table.specs.Row.{kindAt, elementAt, typeRowAt, modeAt, presenceAt, defaultLengthAt, defaultAt, isList, rows, rowAt, membersAt}
+use Rattle.table.specs.Body.{rowFormed}
+use Rattle.table.specs.Types.{typeFrom}
+use Rattle.table.specs.Begins.{tagsApart}
+
+-- "1 to 128 whole rows"
+unfoldable pub wholeRows : Limits → List ℕ → Bool
+wholeRows l s = within 1 (l .rows) (length s)
+
+-- the bodies are as the type table has them
+unfoldable pub formedAt : Limits → List ℕ → List ℕ → ℕ → Bool
+formedAt l t s i = rowFormed l t (rowAt s i)
+
+unfoldable pub bodiesFormed : Limits → List ℕ → List ℕ → Bool
+bodiesFormed l t s = all (formedAt l t s) (length s)
+
+-- "row 0 is a type"
+unfoldable pub isType : List ℕ → List ℕ → ℕ → Bool
+isType t s i = both (ltb i (length s)) (no (eqb (kindAt t (rowAt s i)) kind.member))
+
+unfoldable pub firstIsType : List ℕ → List ℕ → Bool
+firstIsType t s = isType t s 0
+
+-- "row numbers point to later rows of types": row i names row j
+unfoldable pub laterType : List ℕ → List ℕ → ℕ → ℕ → Bool
+laterType t s i j = both (ltb i j) (isType t s j)
+
+unfoldable pub pointsLater : List ℕ → List ℕ → ℕ → Bool
+pointsLater t s i =
+    pick (isList (kindAt t (rowAt s i))) (laterType t s i (elementAt t (rowAt s i)))
+    (pick (eqb (kindAt t (rowAt s i)) kind.member) (laterType t s i (typeRowAt t (rowAt s i)))
+    true)
+
+unfoldable pub pointLater : List ℕ → List ℕ → Bool
+pointLater t s = all (pointsLater t s) (length s)
+
+-- "member rows stand directly after their SEQUENCE or CHOICE and nowhere else": so many members are still due before these rows
+unfoldable pub standing : List ℕ → ℕ → List ℕ → Bool
+standing t due [] = eqb due 0
+standing t due (p ∷ ps) =
+    let member = standing t (due - 1) ps in
+    let type = standing t (membersAt t p) ps in
+    pick (eqb (kindAt t p) kind.member) (both (ltb 0 due) member) (both (eqb due 0) type)
+
+unfoldable pub membersStand : List ℕ → List ℕ → Bool
+membersStand t s = standing t 0 s
+
+-- "names in one type differ": members a and b of row i
+abbrev pub memberRow : List ℕ → ℕ → ℕ → ℕ
+memberRow s i j = rowAt s (i + 1 + j)
+
+unfoldable pub sameName : Limits → List ℕ → ℕ → ℕ → Bool
+sameName l t p q = same (part t (p + 1) (l .name)) (part t (q + 1) (l .name))
+
+unfoldable pub differsFrom : Limits → List ℕ → List ℕ → ℕ → ℕ → ℕ → Bool
+differsFrom l t s i b a = no (sameName l t (memberRow s i a) (memberRow s i b))
+
+unfoldable pub newName : Limits → List ℕ → List ℕ → ℕ → ℕ → Bool
+newName l t s i b = all (differsFrom l t s i b) b
+
+unfoldable pub namesDifferAt : Limits → List ℕ → List ℕ → ℕ → Bool
+namesDifferAt l t s i = all (newName l t s i) (membersAt t (rowAt s i))
+
+unfoldable pub namesDiffer : Limits → List ℕ → List ℕ → Bool
+namesDiffer l t s = all (namesDifferAt l t s) (length s)
+
+-- "alternatives are mandatory"
+unfoldable pub mandatoryAt : List ℕ → List ℕ → ℕ → ℕ → Bool
+mandatoryAt t s i j = eqb (presenceAt t (memberRow s i j)) 0
+
+unfoldable pub alternativesAt : List ℕ → List ℕ → ℕ → Bool
+alternativesAt t s i = either (no (eqb (kindAt t (rowAt s i)) kind.choice)) (all (mandatoryAt t s i) (membersAt t (rowAt s i)))
+
+unfoldable pub alternativesMandatory : List ℕ → List ℕ → Bool
+alternativesMandatory t s = all (alternativesAt t s) (length s)
+
+-- "no implicit tag on a CHOICE": member row i, whose type has kind k
+abbrev pub typeKind : List ℕ → List ℕ → ℕ → ℕ
+typeKind t s i = kindAt t (rowAt s (typeRowAt t (rowAt s i)))
+
+unfoldable pub taggableAt : List ℕ → List ℕ → ℕ → Bool
+taggableAt t s i =
+    either (no (eqb (kindAt t (rowAt s i)) kind.member))
+    (either (no (eqb (modeAt t (rowAt s i)) 2)) (no (eqb (typeKind t s i) kind.choice)))
+
+unfoldable pub noImplicitChoice : List ℕ → List ℕ → Bool
+noImplicitChoice t s = all (taggableAt t s) (length s)
+
+-- "defaults only on BOOLEAN, INTEGER, ENUMERATED, with legal DER contents of 1 to 8 octets (length 0 without presence 2)"
+unfoldable pub defaultAllowed : ℕ → List ℕ → Bool
+defaultAllowed k c = both (within kind.boolean kind.enumerated k) (legal k c)
+
+unfoldable pub defaultsAt : List ℕ → List ℕ → ℕ → Bool
+defaultsAt t s i =
+    either (no (eqb (kindAt t (rowAt s i)) kind.member))
+    (pick (eqb (presenceAt t (rowAt s i)) 2) (defaultAllowed (typeKind t s i) (defaultAt t (rowAt s i))) (eqb (defaultLengthAt t (rowAt s i)) 0))
+
+unfoldable pub defaultsLegal : List ℕ → List ℕ → Bool
+defaultsLegal t s = all (defaultsAt t s) (length s)
+
+-- "Alternatives' tags differ; so do those of a run of optional or default members and the mandatory one after it."
+unfoldable pub tagsDifferAt : Limits → List ℕ → List ℕ → ℕ → Bool
+tagsDifferAt l t s i = tagsApart (typeFrom (l .chain) l t s i)
+
+unfoldable pub tagsDiffer : Limits → List ℕ → List ℕ → Bool
+tagsDiffer l t s = all (tagsDifferAt l t s) (length s)
+
+-- "A chain of rows, each naming the next as its element or as its member's type, has at most 16 type rows (member rows not counted)."
+-- Each chain from row i on has at most n type rows
+unfoldable pub ofMember : (ℕ → Bool) → List ℕ → List ℕ → ℕ → ℕ → Bool
+ofMember f t s i j = f (typeRowAt t (memberRow s i j))
+
+unfoldable pub chainFits : ℕ → List ℕ → List ℕ → ℕ → Bool
+chainFits zero t s i = false
+chainFits (suc n) t s i =
+    let element = chainFits n t s (elementAt t (rowAt s i)) in
+    pick (isList (kindAt t (rowAt s i))) element
+    (all (ofMember (chainFits n t s) t s i) (membersAt t (rowAt s i)))
+
+unfoldable pub chainsShort : Limits → List ℕ → List ℕ → Bool
+chainsShort l t s = all (chainFits (l .chain) t s) (length s)
+
+-- all clauses
+unfoldable pub admittedRows : Limits → List ℕ → List ℕ → Bool
+admittedRows l t s =
+    both (wholeRows l s)
+    (both (bodiesFormed l t s)
+    (both (firstIsType t s)
+    (both (pointLater t s)
+    (both (membersStand t s)
+    (both (namesDiffer l t s)
+    (both (alternativesMandatory t s)
+    (both (noImplicitChoice t s)
+    (both (defaultsLegal t s)
+    (both (chainsShort l t s)
+    (tagsDiffer l t s))))))))))
+
+unfoldable pub admitted : Limits → List ℕ → Bool
+admitted l t = admittedRows l t (rows (l .rows) t)

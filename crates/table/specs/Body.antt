@@ -1,0 +1,54 @@
+-- Type table: what the bodies of rows are like, apart from other rows.
+use Prim.Native.Nat.{ℕ, zero, suc, _+_, _-_, _*_}
+use mathlib.Core.Bool.{Bool, true, false}
+use mathlib.Core.List.{List}
+use lib.Dec.{ltb, leb, eqb}
+use Rattle.octets.specs.Pick.{pick, both, either, no, all}
+use Rattle.octets.specs.Octets.{part, every}
+use Rattle.octets.specs.Text.{within, isLower, isAlnum}
+use Rattle.der.specs.Kind as kind
+use Rattle.table.specs.Limits.{Limits}
+use Rattle.table.specs.Row.{kindAt, countAt, letterAt, modeAt, numberAt, presenceAt, defaultLengthAt}
+
+-- members, 0..16; alternatives, 1..16
+unfoldable pub countFormed : Limits → List ℕ → ℕ → Bool
+countFormed l t p =
+    pick (eqb (kindAt t p) kind.sequence) (leb (countAt t p) (l .members))
+    (pick (eqb (kindAt t p) kind.choice) (within 1 (l .members) (countAt t p))
+    true)
+
+-- ---- "A name is a lowercase letter, then letters, digits and single hyphens, no hyphen last"; filled with zeros
+-- what may follow an octet of a name: after the fill only fill, after a hyphen neither a hyphen nor the end
+unfoldable pub follows : ℕ → ℕ → Bool
+follows a b =
+    pick (eqb a 0) (eqb b 0)
+    (pick (eqb a 45) (isAlnum b)
+    (either (eqb b 0) (either (eqb b 45) (isAlnum b))))
+
+unfoldable pub followed : List ℕ → ℕ → ℕ → Bool
+followed t p j = follows (letterAt t p j) (letterAt t p (j + 1))
+
+unfoldable pub nameFormed : Limits → List ℕ → ℕ → Bool
+nameFormed l t p = both (isLower (letterAt t p 0)) (both (no (eqb (letterAt t p (l .name - 1)) 45)) (all (followed t p) (l .name - 1)))
+
+-- tag mode 0 none, 1 explicit, 2 implicit; context tag number 0..30, and 0 in mode 0
+unfoldable pub tagFormed : List ℕ → ℕ → Bool
+tagFormed t p = both (leb (modeAt t p) 2) (both (leb (numberAt t p) 30) (either (no (eqb (modeAt t p) 0)) (eqb (numberAt t p) 0)))
+
+-- presence 0 mandatory, 1 optional, 2 default
+unfoldable pub presenceFormed : List ℕ → ℕ → Bool
+presenceFormed t p = leb (presenceAt t p) 2
+
+-- default contents: 8, zero after the length
+abbrev pub isZero : ℕ → Bool
+isZero b = eqb b 0
+
+unfoldable pub defaultFilled : List ℕ → ℕ → Bool
+defaultFilled t p = both (leb (defaultLengthAt t p) 8) (every isZero (part t (p + 31 + defaultLengthAt t p) (8 - defaultLengthAt t p)))
+
+-- a member's body
+unfoldable pub bodyFormed : Limits → List ℕ → ℕ → Bool
+bodyFormed l t p = both (nameFormed l t p) (both (tagFormed t p) (both (presenceFormed t p) (defaultFilled t p)))
+
+unfoldable pub rowFormed : Limits → List ℕ → ℕ → Bool
+rowFormed l t p = pick (eqb (kindAt t p) kind.member) (bodyFormed l t p) (countFormed l t p)

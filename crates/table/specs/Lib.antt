@@ -1,0 +1,10 @@
+pub mod Limits
+pub mod Row
+pub mod Body
+pub mod Types
+pub mod Begins
+pub mod Admitted
+pub mod Check
+pub mod Computing
+pub mod Paper
+pub mod Examples

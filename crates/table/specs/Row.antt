@@ -1,0 +1,94 @@
+-- Type table: rows. "Rows stand one after another and are numbered from 0. A row is one byte of kind, then a body whose length the kind fixes."
+-- A row is known by the place of its first octet; the rows of a table are the list of these places.
+use Prim.Native.Nat.{ℕ, zero, suc, _+_, _-_, _*_}
+use mathlib.Core.Bool.{Bool, true, false}
+use mathlib.Core.Option.{Option, none, some}
+use mathlib.Core.List.{List, [], _∷_}
+use lib.ListN.{getD, length}
+use lib.Dec.{ltb, leb, eqb}
+use Rattle.octets.specs.Pick.{pick, both, either}
+use Rattle.octets.specs.Octets.{octet, two, part}
+use Rattle.octets.specs.Text.{within}
+use Rattle.der.specs.Kind as kind
+
+-- ---- the parts of the row at p
+abbrev pub kindAt : List ℕ → ℕ → ℕ
+kindAt t p = octet t p
+
+-- of a SEQUENCE or CHOICE: members, alternatives
+abbrev pub countAt : List ℕ → ℕ → ℕ
+countAt t p = octet t (p + 1)
+
+-- of a SEQUENCE OF or SET OF: its element's row
+abbrev pub elementAt : List ℕ → ℕ → ℕ
+elementAt t p = two t (p + 1)
+
+-- of a member: a name's octet, type row, tag mode, context tag number, presence, default length, default contents
+abbrev pub letterAt : List ℕ → ℕ → ℕ → ℕ
+letterAt t p j = octet t (p + 1 + j)
+
+abbrev pub typeRowAt : List ℕ → ℕ → ℕ
+typeRowAt t p = two t (p + 25)
+
+abbrev pub modeAt : List ℕ → ℕ → ℕ
+modeAt t p = octet t (p + 27)
+
+abbrev pub numberAt : List ℕ → ℕ → ℕ
+numberAt t p = octet t (p + 28)
+
+abbrev pub presenceAt : List ℕ → ℕ → ℕ
+presenceAt t p = octet t (p + 29)
+
+abbrev pub defaultLengthAt : List ℕ → ℕ → ℕ
+defaultLengthAt t p = octet t (p + 30)
+
+abbrev pub defaultAt : List ℕ → ℕ → List ℕ
+defaultAt t p = part t (p + 31) (defaultLengthAt t p)
+
+-- ---- the rows
+-- kinds with members, and kinds with an element
+unfoldable pub isGroup : ℕ → Bool
+isGroup k = either (eqb k kind.sequence) (eqb k kind.choice)
+
+unfoldable pub isList : ℕ → Bool
+isList k = either (eqb k kind.sequenceOf) (eqb k kind.setOf)
+
+-- the octets of a row of kind k: one and its body; 0 where there is no such kind
+unfoldable pub rowSize : ℕ → ℕ
+rowSize k =
+    pick (within kind.boolean kind.generalizedTime k) 1
+    (pick (isGroup k) 2
+    (pick (isList k) 3
+    (pick (eqb k kind.member) 39
+    0)))
+
+abbrev pub consed : ℕ → Option (List ℕ) → Option (List ℕ)
+consed p none = none
+consed p (some ps) = some (p ∷ ps)
+
+-- the rows from a place on: whole ones, at most n of them
+unfoldable pub rowsFrom : ℕ → List ℕ → ℕ → Option (List ℕ)
+rowsFrom zero t at = pick (ltb at (length t)) none (some [])
+rowsFrom (suc n) t at =
+    let rest = rowsFrom n t (at + rowSize (kindAt t at)) in
+    pick (ltb at (length t))
+    (pick (eqb (rowSize (kindAt t at)) 0) none
+    (pick (ltb (length t - at) (rowSize (kindAt t at))) none
+    (consed at rest)))
+    (some [])
+
+abbrev pub orNone : Option (List ℕ) → List ℕ
+orNone none = []
+orNone (some ps) = ps
+
+-- the rows of a table of at most `most` whole rows; of any other, none
+unfoldable pub rows : ℕ → List ℕ → List ℕ
+rows most t = orNone (rowsFrom most t 0)
+
+-- the place of row i
+abbrev pub rowAt : List ℕ → ℕ → ℕ
+rowAt s i = getD s i 0
+
+-- how many members stand after the row at p
+unfoldable pub membersAt : List ℕ → ℕ → ℕ
+membersAt t p = pick (isGroup (kindAt t p)) (countAt t p) 0

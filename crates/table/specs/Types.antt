@@ -1,0 +1,88 @@
+-- The type that a row describes.
+use Prim.Native.Nat.{ℕ, zero, suc, _+_}
+use mathlib.Core.Bool.{Bool, true, false}
+use mathlib.Core.List.{List, [], _∷_}
+use lib.Dec.{ltb, leb, eqb}
+use Rattle.octets.specs.Pick.{pick}
+use Rattle.octets.specs.Octets.{part}
+use Rattle.der.specs.Kind as kind
+use Rattle.table.specs.Limits.{Limits}
+use Rattle.table.specs.Row.{kindAt, elementAt, typeRowAt, modeAt, numberAt, presenceAt, defaultAt, isList, rows, rowAt, membersAt}
+
+-- tag mode: none, explicit, implicit, with the context tag number
+pub data Tagging : Type 0 where
+  untagged : Tagging
+  explicit : ℕ → Tagging
+  implicit : ℕ → Tagging
+
+-- presence: mandatory, optional, default with its contents
+pub data Presence : Type 0 where
+  mandatory : Presence
+  optional : Presence
+  default : List ℕ → Presence
+
+pub record Member : Type 0 where
+  pub row : ℕ
+  pub name : List ℕ
+  pub tagging : Tagging
+  pub presence : Presence
+
+mutual
+  pub data Ty : Type 0 where
+    -- kinds 1..11
+    basic : ℕ → Ty
+    sequence : Members → Ty
+    choice : Members → Ty
+    -- SEQUENCE OF or SET OF, by its kind
+    listOf : ℕ → Ty → Ty
+
+  pub data Members : Type 0 where
+    noMore : Members
+    more : Member → Ty → Members → Members
+
+-- the kind of a type
+abbrev pub kindOf : Ty → ℕ
+kindOf (basic k) = k
+kindOf (sequence ms) = kind.sequence
+kindOf (choice ms) = kind.choice
+kindOf (listOf k ty) = k
+
+-- a name without its fill
+unfoldable pub unfilled : List ℕ → List ℕ
+unfilled [] = []
+unfilled (b ∷ bs) = let r = b ∷ unfilled bs in pick (eqb b 0) [] r
+
+unfoldable pub taggingOf : ℕ → ℕ → Tagging
+taggingOf mode n = pick (eqb mode 0) untagged (pick (eqb mode 1) (explicit n) (implicit n))
+
+unfoldable pub presenceOf : ℕ → List ℕ → Presence
+presenceOf presence c = pick (eqb presence 0) mandatory (pick (eqb presence 1) optional (default c))
+
+-- the member of row i, which is the row at p
+unfoldable pub memberOf : Limits → List ℕ → ℕ → ℕ → Member
+memberOf l t i p = record { row = i; name = unfilled (part t (p + 1) (l .name)); tagging = taggingOf (modeAt t p) (numberAt t p); presence = presenceOf (presenceAt t p) (defaultAt t p) }
+
+-- n members from row i on; f gives a row's type
+unfoldable pub membersFrom : (ℕ → Ty) → Limits → List ℕ → List ℕ → ℕ → ℕ → Members
+membersFrom f l t s i zero = noMore
+membersFrom f l t s i (suc n) = more (memberOf l t i (rowAt s i)) (f (typeRowAt t (rowAt s i))) (membersFrom f l t s (i + 1) n)
+
+-- the type of a row of kind k, with the type of its element and its members
+abbrev pub typed : ℕ → Ty → Members → Ty
+typed k e ms =
+    pick (eqb k kind.sequence) (sequence ms)
+    (pick (eqb k kind.choice) (choice ms)
+    (pick (isList k) (listOf k e)
+    (basic k)))
+
+-- the type of row i of the rows s, at most n rows deep
+unfoldable pub typeFrom : ℕ → Limits → List ℕ → List ℕ → ℕ → Ty
+typeFrom zero l t s i = basic 0
+typeFrom (suc n) l t s i =
+    let e = typeFrom n l t s (elementAt t (rowAt s i)) in
+    let ms = membersFrom (typeFrom n l t s) l t s (i + 1) (membersAt t (rowAt s i)) in
+    typed (kindAt t (rowAt s i)) e ms
+
+-- the type that row i of a table describes; an admitted table's chains are within their limit, so it is described in full
+unfoldable pub typeAt : Limits → List ℕ → ℕ → Ty
+typeAt l t i = typeFrom (l .chain) l t (rows (l .rows) t) i

@@ -1,0 +1,33 @@
+-- The value check, standing alone: refusals 1, 2 and 4.
+use Prim.Native.Nat.{ℕ}
+use mathlib.Core.Bool.{Bool, true, false}
+use mathlib.Core.List.{List}
+use lib.ListN.{length}
+use Rattle.octets.specs.Pick.{pick, both, isSome}
+use Rattle.octets.specs.Text.{within}
+use Rattle.table.specs.Limits as table
+use Rattle.table.specs.Types.{typeAt}
+use Rattle.table.specs.Admitted.{admitted}
+use Rattle.table.specs.Check.{tableFits}
+use Rattle.value.specs.Limits.{Limits}
+use Rattle.value.specs.Decode.{storedValue}
+
+pub data ValueReport : Type 0 where
+  refused : ℕ → ValueReport
+  good : ValueReport
+
+-- 2..4,096 octets
+unfoldable pub valueFits : Limits → List ℕ → Bool
+valueFits l v = within (l .least) (l .most) (length v)
+
+-- refusal 4: "value not as above"
+unfoldable pub isStored : table.Limits → List ℕ → List ℕ → Bool
+isStored l t v = isSome (storedValue (typeAt l t 0) v)
+
+unfoldable pub valueReport : table.Limits → Limits → List ℕ → List ℕ → ValueReport
+valueReport tl vl t v =
+    pick (both (tableFits tl t) (valueFits vl v))
+    (pick (admitted tl t)
+    (pick (isStored tl t v) good (refused 4))
+    (refused 2))
+    (refused 1)

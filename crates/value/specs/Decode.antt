@@ -1,0 +1,148 @@
+-- Stored value: the value of a type that stands at a place, before an end; and the place after it.
+use Prim.Native.Nat.{ℕ, zero, suc, _+_, _-_}
+use mathlib.Core.Bool.{Bool, true, false}
+use mathlib.Core.Option.{Option, none, some}
+use mathlib.Core.List.{List}
+use lib.ListN.{length}
+use lib.Dec.{ltb, leb, eqb}
+use Rattle.octets.specs.Pick.{pick, both, either, bind}
+use Rattle.octets.specs.Octets.{octet, part, same}
+use Rattle.der.specs.Kind as kind
+use Rattle.der.specs.Tag.{tagOf, ownOctet, implicitOctet, wrapperOctet}
+use Rattle.der.specs.Header.{headerAt, bodyAt, anyTag, opened}
+use Rattle.der.specs.Contents.{legal}
+use Rattle.table.specs.Types.{Tagging, untagged, explicit, implicit, Presence, mandatory, optional, default, Member, Ty, basic, sequence, choice, listOf, Members, noMore, more}
+use Rattle.table.specs.Begins.{memberBegins}
+use Rattle.value.specs.Value.{Spot, spotAt, spotOf, Value, leaf, fields, chosen, elements, Fields, endFields, present, absent, Values, endValues, next}
+use Rattle.value.specs.Order.{rising}
+
+pub record Decoded : Type 0 where
+  pub value : Value
+  pub after : ℕ
+
+abbrev pub decoded : Value → ℕ → Option Decoded
+decoded x after = some (record { value = x; after = after })
+
+-- ---- tags
+-- the tag octet expected of a value of kind k
+abbrev pub tagOctet : Tagging → ℕ → ℕ
+tagOctet untagged k = ownOctet k
+tagOctet (explicit n) k = ownOctet k
+tagOctet (implicit n) k = implicitOctet n k
+
+-- an explicit wrapper is exactly filled: f decodes what is inside
+abbrev pub filling : ℕ → Option Decoded → Option Decoded
+filling stop none = none
+filling stop (some d) = pick (eqb (d .after) stop) (some d) none
+
+abbrev pub inside : (ℕ → ℕ → Option Decoded) → ℕ → ℕ → Option Decoded
+inside f start n = filling (start + n) (f start (start + n))
+
+unfoldable pub inWrapper : Tagging → (ℕ → ℕ → Option Decoded) → List ℕ → ℕ → ℕ → Option Decoded
+inWrapper untagged f v at end = f at end
+inWrapper (implicit n) f v at end = f at end
+inWrapper (explicit n) f v at end = opened (bodyAt (wrapperOctet n) v at end) (inside f)
+
+-- a member is present where the next tag is one it can begin with
+unfoldable pub startsHere : Member → Ty → List ℕ → ℕ → ℕ → Bool
+startsHere m ty v stop i = both (ltb i stop) (memberBegins m ty (tagOf (octet v i)))
+
+-- ---- values of one header, whose contents are n octets from start on
+abbrev pub leafOf : ℕ → List ℕ → ℕ → ℕ → ℕ → Option Decoded
+leafOf k v at start n = pick (legal k (part v start n)) (decoded (leaf k (spotAt v at start n)) (start + n)) none
+
+abbrev pub fieldsIn : Spot → ℕ → Option Fields → Option Decoded
+fieldsIn s stop none = none
+fieldsIn s stop (some fs) = decoded (fields s fs) stop
+
+-- a SEQUENCE; f decodes its members before a stop
+abbrev pub fieldsOf : List ℕ → ℕ → (ℕ → ℕ → Option Fields) → ℕ → ℕ → Option Decoded
+fieldsOf v at f start n = fieldsIn (spotAt v at start n) (start + n) (f (start + n) start)
+
+abbrev pub elementsIn : ℕ → List ℕ → Spot → ℕ → Option Values → Option Decoded
+elementsIn k v s stop none = none
+elementsIn k v s stop (some xs) = pick (either (eqb k kind.sequenceOf) (rising v xs)) (decoded (elements s xs) stop) none
+
+-- a SEQUENCE OF or SET OF; f decodes its elements, so many at most, before a stop
+abbrev pub elementsOf : ℕ → List ℕ → ℕ → (ℕ → ℕ → ℕ → Option Values) → ℕ → ℕ → Option Decoded
+elementsOf k v at f start n = elementsIn k v (spotAt v at start n) (start + n) (f n (start + n) start)
+
+abbrev pub chosenIn : Member → List ℕ → ℕ → Option Decoded → ℕ → ℕ → Option Decoded
+chosenIn m v at none start n = none
+chosenIn m v at (some d) start n = decoded (chosen (spotAt v at start n) m (d .value)) (d .after)
+
+-- a CHOICE, by its alternative
+abbrev pub chosenOf : Member → List ℕ → ℕ → ℕ → Option Decoded → Option Decoded
+chosenOf m v at end d = opened (anyTag (headerAt v at end)) (chosenIn m v at d)
+
+-- ---- members and elements in turn
+-- "A default is never stored explicitly."
+abbrev pub isDefault : Presence → List ℕ → Bool
+isDefault mandatory c = false
+isDefault optional c = false
+isDefault (default d) c = same c d
+
+abbrev pub ontoFields : (Fields → Fields) → Option Fields → Option Fields
+ontoFields f none = none
+ontoFields f (some fs) = some (f fs)
+
+-- a member that is there, and those after it
+abbrev pub presentThen : Member → (ℕ → Option Fields) → Option Decoded → Option Fields
+presentThen m rest none = none
+presentThen m rest (some d) = pick (isDefault (m .presence) (spotOf (d .value) .contents)) none (ontoFields (present m (d .value)) (rest (d .after)))
+
+-- one that isn't
+abbrev pub absentThen : Member → Presence → Option Fields → Option Fields
+absentThen m mandatory rest = none
+absentThen m optional rest = ontoFields (absent m) rest
+absentThen m (default c) rest = ontoFields (absent m) rest
+
+abbrev pub ontoValues : Value → Option Values → Option Values
+ontoValues x none = none
+ontoValues x (some xs) = some (next x xs)
+
+abbrev pub nextThen : (ℕ → Option Values) → Option Decoded → Option Values
+nextThen rest none = none
+nextThen rest (some d) = ontoValues (d .value) (rest (d .after))
+
+-- the elements from i up to stop, at most k of them; f decodes one
+unfoldable pub many : (ℕ → ℕ → Option Decoded) → ℕ → ℕ → ℕ → Option Values
+many f zero stop i = pick (ltb i stop) none (some endValues)
+many f (suc k) stop i =
+    let more = nextThen (many f k stop) (f i stop) in
+    pick (ltb i stop) more (some endValues)
+
+-- ---- a value as its type says, one level deeper in each step
+unfoldable mutual
+  -- inside an explicit wrapper, where there is one
+  pub unwrapped : Ty → Tagging → List ℕ → ℕ → ℕ → Option Decoded
+  unwrapped (basic k) g v at end = opened (bodyAt (tagOctet g k) v at end) (leafOf k v at)
+  unwrapped (sequence ms) g v at end = opened (bodyAt (tagOctet g kind.sequence) v at end) (fieldsOf v at (λ stop i. fieldsFrom ms v stop i))
+  unwrapped (choice ms) g v at end = alternativeFrom ms v at end
+  unwrapped (listOf k ty) g v at end = opened (bodyAt (tagOctet g k) v at end) (elementsOf k v at (many (λ i stop. unwrapped ty untagged v i stop)))
+
+  pub fieldsFrom : Members → List ℕ → ℕ → ℕ → Option Fields
+  fieldsFrom noMore v stop i = pick (eqb i stop) (some endFields) none
+  fieldsFrom (more m ty ms) v stop i =
+      let there = presentThen m (λ i. fieldsFrom ms v stop i) (inWrapper (m .tagging) (λ a e. unwrapped ty (m .tagging) v a e) v i stop) in
+      let without = absentThen m (m .presence) (fieldsFrom ms v stop i) in
+      pick (startsHere m ty v stop i) there without
+
+  -- the alternative that can begin with the tag here
+  pub alternativeFrom : Members → List ℕ → ℕ → ℕ → Option Decoded
+  alternativeFrom noMore v at end = none
+  alternativeFrom (more m ty ms) v at end =
+      let this = chosenOf m v at end (inWrapper (m .tagging) (λ a e. unwrapped ty (m .tagging) v a e) v at end) in
+      let others = alternativeFrom ms v at end in
+      pick (startsHere m ty v end at) this others
+
+-- a value of a type under an expected tag
+unfoldable pub decode : Ty → Tagging → List ℕ → ℕ → ℕ → Option Decoded
+decode ty g v at end = inWrapper g (unwrapped ty g v) v at end
+
+-- "DER, whole buffer, type of row 0"
+abbrev pub ifWhole : List ℕ → Decoded → Option Value
+ifWhole v d = pick (eqb (d .after) (length v)) (some (d .value)) none
+
+unfoldable pub storedValue : Ty → List ℕ → Option Value
+storedValue ty v = bind (decode ty untagged v 0 (length v)) (ifWhole v)

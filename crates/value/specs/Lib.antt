@@ -1,0 +1,9 @@
+pub mod Limits
+pub mod Value
+pub mod Order
+pub mod Decode
+pub mod Check
+pub mod Part
+pub mod Computing
+pub mod Paper
+pub mod Examples

@@ -1,0 +1,24 @@
+-- The fifth entry: the octets of a stored value, from place and length.
+use Prim.Native.Nat.{ℕ, _+_}
+use mathlib.Core.Bool.{Bool, true, false}
+use mathlib.Core.List.{List, []}
+use lib.ListN.{length}
+use lib.Dec.{leb}
+use Rattle.octets.specs.Pick.{pick}
+use Rattle.octets.specs.Octets.{part}
+use Rattle.value.specs.Limits.{Limits}
+use Rattle.value.specs.Check.{valueFits}
+
+-- a refusal number, 0 for none, and a part, which is empty with a refusal
+pub record PartReport : Type 0 where
+  pub refusal : ℕ
+  pub octets : List ℕ
+
+abbrev pub refusedPart : ℕ → PartReport
+refusedPart n = record { refusal = n; octets = [] }
+
+unfoldable pub partReport : Limits → List ℕ → ℕ → ℕ → PartReport
+partReport l v place size =
+    pick (valueFits l v)
+    (pick (leb (place + size) (length v)) (record { refusal = 0; octets = part v place size }) (refusedPart 4))
+    (refusedPart 1)
