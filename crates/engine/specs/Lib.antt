@@ -8,5 +8,4 @@ pub mod Answer
 pub mod Listing
 pub mod Computing
 pub mod Paper
-pub mod Laws
 pub mod Examples

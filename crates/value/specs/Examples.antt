@@ -1,15 +1,104 @@
 -- Computed examples.
 use mathlib.Core.Path.{_≡_, refl}
 use mathlib.Core.Bool.{Bool, true, false}
+use mathlib.Core.Option.{Option, none, some}
 use mathlib.Core.List.{List, [], _∷_, _++_, map}
 use Prim.Native.Nat.{ℕ}
-use lib.ListN.{length}
-use Rattle.octets.specs.Octets.{hex}
-use Rattle.table.specs.Paper.{tableLimits, licence}
+use Prim.Native.String.{String}
+use lib.ListN.{length, replicate}
+use Rattle.octets.specs.Pick.{isSome}
+use Rattle.octets.specs.Octets.{bytes, hex}
+use Rattle.table.specs.Paper.{tableLimits, memberRow, licence}
+use Rattle.table.specs.Types.{Tagging, untagged, explicit, implicit, Presence, mandatory, optional, default, Member, Ty, basic, sequence, choice, listOf, Members, noMore, more}
 use Rattle.value.specs.Paper.{valueLimits, licenceRecord}
+use Rattle.value.specs.Value.{Spot, Value, leaf, fields, chosen, elements, Fields, endFields, present, absent, Values, endValues, next}
+use Rattle.value.specs.Decode.{storedValue}
 use Rattle.value.specs.Check.{ValueReport, refused, good, valueReport}
+use Rattle.value.specs.Part.{PartReport, refusedPart, partReport}
 use Rattle.value.specs.Computing.{valueComputes}
 
-licence-record : valueReport tableLimits valueLimits licence licenceRecord ≡ good
+abbrev report : List ℕ → ValueReport
+report v = valueReport tableLimits valueLimits licence v
+
+licence-record : report licenceRecord ≡ good
 unfolding valueComputes
 licence-record = refl
+
+-- sizes 0 and 1; a table not admitted, of no octets; an octet more; one less; another tag
+checks : report [] ∷ report (hex "30") ∷ valueReport tableLimits valueLimits (0 ∷ []) licenceRecord ∷ valueReport tableLimits valueLimits [] licenceRecord
+    ∷ report (licenceRecord ++ 0 ∷ []) ∷ report (hex "3000") ∷ report (hex "0200") ∷ []
+    ≡ refused 1 ∷ refused 1 ∷ refused 2 ∷ refused 1 ∷ refused 4 ∷ refused 4 ∷ refused 4 ∷ []
+unfolding valueComputes
+checks = refl
+
+-- ---- one type at a time
+holds : Ty → String → Bool
+holds ty s = isSome (storedValue ty (hex s))
+
+abbrev plain : String → Tagging → Presence → Member
+plain x g p = record { row = 1; name = bytes x; tagging = g; presence = p }
+
+-- a member of a SEQUENCE of one
+abbrev only : Tagging → Presence → Ty → Ty
+only g p ty = sequence (more (plain "a" g p) ty noMore)
+
+-- `[0]` explicit: the wrapper exactly filled; not filled; passed; left out; another number; the constructed bit missing
+wrappers : map (holds (only (explicit 0) mandatory (basic 2))) ("3005A003020105" ∷ "3006A00402010500" ∷ "3005A002020105" ∷ "3003020105" ∷ "3005A103020105" ∷ "30058003020105" ∷ [])
+    ≡ true ∷ false ∷ false ∷ false ∷ false ∷ false ∷ []
+unfolding valueComputes holds
+wrappers = refl
+
+-- `[0]` implicit: an INTEGER is not constructed, a SEQUENCE is
+implicits : map (holds (only (implicit 0) mandatory (basic 2))) ("3003800105" ∷ "3003A00105" ∷ "3003020105" ∷ []) ++ map (holds (only (implicit 0) mandatory (sequence noMore))) ("3002A000" ∷ "30028000" ∷ [])
+    ≡ true ∷ false ∷ false ∷ true ∷ false ∷ []
+unfolding valueComputes holds
+implicits = refl
+
+-- an optional member, there and absent; of a tag that no member has; a mandatory one absent; twice
+optionals : map (holds (only untagged optional (basic 2))) ("3003020105" ∷ "3000" ∷ "3003010100" ∷ "3006020105020105" ∷ []) ++ map (holds (only untagged mandatory (basic 2))) ("3000" ∷ [])
+    ≡ true ∷ true ∷ false ∷ false ∷ false ∷ []
+unfolding valueComputes holds
+optionals = refl
+
+-- a default stored explicitly, under each tag mode; another value there
+defaults : holds (only untagged (default (1 ∷ [])) (basic 2)) "3003020101" ∷ holds (only (implicit 0) (default (1 ∷ [])) (basic 2)) "3003800101"
+    ∷ holds (only (explicit 0) (default (1 ∷ [])) (basic 2)) "3005A003020101" ∷ holds (only untagged (default (1 ∷ [])) (basic 2)) "3003020102" ∷ holds (only untagged (default (1 ∷ [])) (basic 2)) "3000" ∷ []
+    ≡ false ∷ false ∷ false ∷ true ∷ true ∷ []
+unfolding valueComputes holds
+defaults = refl
+
+-- SET OF INTEGER: rising, equal, falling; a longer encoding after a shorter one, and before it; SEQUENCE OF in any order
+orders : map (holds (listOf 15 (basic 2))) ("3106020101020102" ∷ "3106020101020101" ∷ "3106020102020101" ∷ "31070201010202007F" ∷ "310702010102020080" ∷ "310702020080020101" ∷ "3100" ∷ [])
+    ++ map (holds (listOf 14 (basic 2))) ("3006020102020101" ∷ "3106020102020101" ∷ [])
+    ≡ true ∷ true ∷ false ∷ false ∷ true ∷ false ∷ true ∷ true ∷ false ∷ []
+unfolding valueComputes holds
+orders = refl
+
+-- an untagged CHOICE in a CHOICE, with a tagged alternative; a tag of no alternative
+abbrev nested : Ty
+nested = choice (more (plain "a" untagged mandatory) (choice (more (plain "b" untagged mandatory) (basic 2) (more (plain "c" (explicit 3) mandatory) (basic 1) noMore))) noMore)
+
+choices : map (holds nested) ("020105" ∷ "A3030101FF" ∷ "0101FF" ∷ "A3040101FF00" ∷ []) ≡ true ∷ true ∷ false ∷ false ∷ []
+unfolding valueComputes holds
+choices = refl
+
+-- places: a CHOICE starts at its alternative's first octet, the alternative inside its wrapper
+places : storedValue nested (hex "A3030101FF")
+    ≡ some (chosen (record { place = 0; size = 5; contents = hex "0101FF" }) (plain "a" untagged mandatory)
+        (chosen (record { place = 0; size = 5; contents = hex "0101FF" }) (plain "c" (explicit 3) mandatory) (leaf 1 (record { place = 2; size = 3; contents = hex "FF" }))))
+unfolding valueComputes
+places = refl
+
+-- a member inside its explicit wrapper, then an absent one
+member-places : storedValue (sequence (more (plain "a" (explicit 0) mandatory) (basic 2) (more (plain "b" untagged optional) (basic 1) noMore))) (hex "3005A003020105")
+    ≡ some (fields (record { place = 0; size = 7; contents = hex "A003020105" }) (present (plain "a" (explicit 0) mandatory) (leaf 2 (record { place = 4; size = 3; contents = hex "05" }))
+        (absent (plain "b" untagged optional) endFields)))
+unfolding valueComputes
+member-places = refl
+
+-- ---- the fifth entry: a part; an empty one at the end; one octet too many; a place beyond; sizes 1 and 4,097
+parts : map (λ n. partReport valueLimits licenceRecord n 3) (20 ∷ 21 ∷ 100 ∷ []) ++ partReport valueLimits licenceRecord 23 0 ∷ partReport valueLimits licenceRecord 24 0
+    ∷ partReport valueLimits (0 ∷ []) 0 1 ∷ partReport valueLimits (replicate 4097 0) 0 1 ∷ partReport valueLimits licenceRecord 18446744073709551615 18446744073709551615 ∷ []
+    ≡ record { refusal = 0; octets = hex "800103" } ∷ refusedPart 4 ∷ refusedPart 4 ∷ record { refusal = 0; octets = [] } ∷ refusedPart 4 ∷ refusedPart 1 ∷ refusedPart 1 ∷ refusedPart 4 ∷ []
+unfolding valueComputes
+parts = refl

@@ -1,0 +1,208 @@
+"""Drawn types and their tables, with single conditions broken on request."""
+
+from dataclasses import dataclass, field
+
+import der
+
+NAMES = ["a", "b", "c", "d", "n1", "xY", "x-y", "a-b-c", "content", "value", "item", "z9-9",
+         "abcdefghijklmnopqrstuvwx", "b-0", "seats"]
+INTEGERS = [0, 1, -1, 2, 3, 5, 127, 128, -128, -129, 255, 256, 32767, 32768, -32768,
+            2 ** 31, 2 ** 32, 2 ** 63 - 1, -2 ** 63]
+
+
+@dataclass(eq=False)
+class Type:
+    """A drawn type; one object may be used in several places."""
+
+    kind: int
+    members: list = field(default_factory=list)
+    element: object = None
+
+
+@dataclass(eq=False)
+class Member:
+    """A drawn member or alternative."""
+
+    name: str
+    type: Type
+    mode: int = 0
+    number: int = 0
+    presence: int = 0
+    default: bytes = b""
+
+
+def starts(thing):
+    """The tags with which a Type or Member can start."""
+    if isinstance(thing, Member):
+        return {(2, thing.number)} if thing.mode else starts(thing.type)
+    if thing.kind == der.CHOICE:
+        return set().union(*(starts(member) for member in thing.members))
+    return {(0, der.UNIVERSAL_NUMBER[thing.kind])}
+
+
+def integer_octets(number):
+    """The shortest two's complement octets."""
+    size = 1
+    while not -(1 << (8 * size - 1)) <= number < 1 << (8 * size - 1):
+        size += 1
+    return number.to_bytes(size, "big", signed=True)
+
+
+class TypeDrawer:
+    """Draws types within a number of octets for their table."""
+
+    def __init__(self, dice, room, deepest):
+        self.dice, self.room, self.deepest, self.made = dice, room, deepest, []
+
+    def type(self, depth=0):
+        """One type; a finished one may be used again."""
+        dice = self.dice
+        if self.made and depth and dice.random() < 0.15:
+            return dice.choice(self.made)
+        wide = depth < self.deepest and self.room > 60
+        kind = dice.choice([12, 12, 12, 12, 12, 13, 13, 14, 14, 14, 15, 15, 0] if wide and not depth
+                           else [12, 12, 12, 13, 14, 14, 15, 0, 0, 0, 0, 0] if wide else [0])
+        kind = kind or dice.choice([1, 1, 2, 2, 2, 3, 4, 5, 6, 6, 7, 8, 9, 10, 11, 11])
+        drawn = Type(kind)
+        self.room -= 3
+        if kind in der.LIST_KINDS:
+            drawn.element = self.type(depth + 1)
+        elif kind in (der.SEQUENCE, der.CHOICE):
+            self.members(drawn, depth)
+        self.made.append(drawn)
+        return drawn
+
+    def members(self, owner, depth):
+        """Members with names that differ and tags as the table's conditions ask."""
+        dice = self.dice
+        least = 1 if owner.kind == der.CHOICE or dice.random() < 0.97 else 0
+        names = dice.sample(NAMES, min(len(NAMES), max(least, dice.randint(1, 4))) if least else 0)
+        strings = owner.kind == der.CHOICE and dice.random() < 0.4
+        taken = set()
+        for name in names:
+            if self.room < 45 and owner.members:
+                break
+            self.room -= 39
+            inner = Type(dice.choice(der.STRING_KINDS)) if strings else self.type(depth + 1)
+            member = Member(name, inner)
+            if dice.random() < (0.1 if strings else 0.45):
+                member.mode, member.number = dice.choice([1, 2]), dice.choice([0, 0, 1, 2, 3, 30])
+            if owner.kind == der.SEQUENCE:
+                self.presence(member)
+            while (member.mode == 2 and inner.kind == der.CHOICE) or starts(member) & taken:
+                member.mode, member.number = dice.choice([1, 2]), dice.randint(0, 8 if len(taken) < 8 else 30)
+            taken |= starts(member)
+            if owner.kind == der.SEQUENCE and member.presence == 0:
+                taken = set()
+            owner.members.append(member)
+
+    def presence(self, member):
+        """Mandatory, optional, or a default where the type allows one."""
+        dice = self.dice
+        member.presence = dice.choice([0, 0, 0, 1, 2, 2])
+        if member.presence == 2 and member.type.kind not in (1, 2, 3):
+            if dice.random() < 0.5:
+                member.type = Type(dice.choice([1, 2, 3]))
+            else:
+                member.presence = 1
+        if member.presence == 2:
+            member.default = (dice.choice([b"\0", b"\xff"]) if member.type.kind == 1
+                              else integer_octets(dice.choice(INTEGERS)))
+
+
+def lay_out(dice, root, loose=False):
+    """The rows of a type as [kind, body], each type after all that name it; row 0 is the root."""
+    def named(drawn):
+        return [member.type for member in drawn.members] + ([drawn.element] if drawn.element else [])
+
+    waiting, todo, seen = {}, [root], {root}
+    while todo:
+        for inner in named(todo.pop()):
+            waiting[inner] = waiting.get(inner, 0) + 1
+            if inner not in seen:
+                seen.add(inner)
+                todo.append(inner)
+    ready, order = [root], []
+    while ready:
+        drawn = ready.pop(0 if dice.random() < 0.5 else dice.randrange(len(ready)))
+        order.append(drawn)
+        for inner in named(drawn):
+            waiting[inner] -= 1
+            if not waiting[inner]:
+                ready.append(inner)
+    place, rows = {}, 0
+    for drawn in order:
+        place[drawn] = rows
+        rows += 1 + len(drawn.members)
+    out = []
+    for drawn in order:
+        if drawn.kind in der.LIST_KINDS:
+            out.append([drawn.kind, bytearray(place[drawn.element].to_bytes(2, "big"))])
+            continue
+        out.append([drawn.kind, bytearray([len(drawn.members)] if drawn.kind in (12, 13) else [])])
+        for member in drawn.members:
+            out.append([16, bytearray(
+                member.name.encode().ljust(24, b"\0") + place[member.type].to_bytes(2, "big")
+                + bytes([member.mode, member.number, member.presence, len(member.default)])
+                + member.default.ljust(8, b"\0"))])
+    if loose:
+        out.append([dice.randint(1, 11), bytearray()])
+    return out
+
+
+def table_octets(rows):
+    """The rows one after another."""
+    return b"".join(bytes([kind]) + bytes(body) for kind, body in rows)
+
+
+def break_rows(dice, rows):
+    """Break one condition of the table in place; the name of the break."""
+    members = [body for kind, body in rows if kind == 16]
+    owners = [body for kind, body in rows if kind in (12, 13)]
+    lists = [body for kind, body in rows if kind in (14, 15)]
+    choices = ["kind", "member at the end", "chain"]
+    choices += ["count"] if owners else []
+    choices += ["element"] if lists else []
+    choices += ["name", "repeat", "points", "mode", "number", "presence", "default", "fill",
+                "tags"] * 2 if members else []
+    what = dice.choice(choices)
+    body = dice.choice(members) if members else None
+    if what == "kind":
+        dice.choice(rows)[0] = dice.choice([0, 17, 255, 16])
+    elif what == "member at the end":
+        rows.append([16, bytearray(b"q".ljust(24, b"\0") + bytes(14))])
+    elif what == "chain":
+        del rows[:]
+        size = dice.choice([15, 16, 16, 17])
+        rows.extend([dice.choice([14, 15]), bytearray((row + 1).to_bytes(2, "big"))]
+                    for row in range(size))
+        rows.append([dice.randint(1, 11), bytearray()])
+    elif what == "count":
+        dice.choice(owners)[0] = dice.choice([0, 1, 2, 3, 17])
+    elif what == "element":
+        dice.choice(lists)[:] = dice.choice([0, 1, 2, 3, len(rows), 256]).to_bytes(2, "big")
+    elif what == "name":
+        body[:24] = dice.choice([b"", b"A", b"a-", b"a--b", b"-a", b"1a", b"a\0b", b"a_b", b"a-b",
+                                 b"abcdefghijklmnopqrstuvw-"]).ljust(24, b"\0")
+    elif what == "repeat":
+        body[:24] = dice.choice(members)[:24]
+    elif what == "points":
+        body[24:26] = dice.randint(0, len(rows)).to_bytes(2, "big")
+    elif what == "mode":
+        body[26] = dice.choice([0, 1, 2, 3])
+    elif what == "number":
+        body[27] = dice.choice([0, 1, 30, 31, 255])
+    elif what == "presence":
+        body[28] = dice.choice([0, 1, 2, 3])
+    elif what == "default":
+        contents = bytes.fromhex(dice.choice(["01", "00", "FF", "007F", "0080", "FF80", "FF7F", "",
+                                              "0102030405060708"]))
+        body[28], body[29] = dice.choice([2, 2, 1]), dice.choice([len(contents), 9, 0])
+        body[30:38] = contents.ljust(8, b"\0")
+    elif what == "fill":
+        body[dice.choice([23, 30, 37])] = dice.choice([0, 1, 97])
+    elif what == "tags":
+        other = dice.choice(members)
+        body[26:28] = other[26:28]
+        body[24:26] = dice.choice([body[24:26], max(body[24:26], other[24:26])])
+    return what

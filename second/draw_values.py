@@ -1,0 +1,143 @@
+"""Drawn values, encoded by an encoder of their own, with one thing got wrong on request."""
+
+import der
+from draw_types import INTEGERS, integer_octets
+
+SUBIDENTIFIERS = [0, 1, 5, 39, 40, 79, 80, 127, 128, 16383, 16384, 4294967295]
+WORDS = {der.UTF8_STRING: ["a", "B", " ", "e", "\u00e9", "\u20ac", "{", '"', "}", "\U0001f600", "\0"],
+         der.PRINTABLE_STRING: ["a", "B", " ", "z", "Z", "'", "?", "-", "0"],
+         der.IA5_STRING: ["a", "A", " ", '"', "}", "@", "\x7f", "_"]}
+TIMES = ["20240229120000Z", "20231231235960Z", "00000101000000Z", "20000229000000.5Z",
+         "20240301000000.000000001Z", "99991231235959.25Z", "19000228235959Z"]
+BAD_TIMES = ["20230229120000Z", "19000229000000Z", "20240101240000Z", "20240101006000Z",
+             "20240101000061Z", "20240101000000.50Z", "20240101000000.Z", "20240101000000",
+             "20241301000000Z", "20240100000000Z", "20240431000000Z", "20240101000000.0123456789Z"]
+BAD_CONTENTS = {der.BOOLEAN: ["", "01", "FFFF"], der.INTEGER: ["", "007F", "FF80", "010203040506070809"],
+                der.ENUMERATED: ["", "0000", "FFFF"], der.NULL: ["00"],
+                der.OBJECT_IDENTIFIER: ["", "8001", "2A80", "9080808000", "2A" * 33],
+                der.BIT_STRING: ["", "01", "08FF", "01FF", "0780FF"],
+                der.UTF8_STRING: ["C080", "EDA080", "F4908080", "80", "E282", "FF"],
+                der.PRINTABLE_STRING: ["40", "2A", "80"], der.IA5_STRING: ["80", "C3A9"]}
+FAULTS = ["length", "tag", "order", "extra", "default", "missing", "contents"]
+
+
+def length_octets(size):
+    """The shortest length octets."""
+    if size < 128:
+        return bytes([size])
+    octets = size.to_bytes((size.bit_length() + 7) // 8, "big")
+    return bytes([0x80 + len(octets)]) + octets
+
+
+def subidentifier_octets(number):
+    """Base 128, the top bit set on all but the last octet."""
+    octets = [number % 128]
+    while number >= 128:
+        number //= 128
+        octets.append(128 + number % 128)
+    return bytes(reversed(octets))
+
+
+class ValueDrawer:
+    """Encodes drawn values of a type; `fault` names one thing to get wrong, once."""
+
+    def __init__(self, dice, longest, fault=None):
+        self.dice, self.longest, self.fault = dice, longest, fault
+
+    def spoil(self, what):
+        """Whether this is the place to get it wrong."""
+        if self.fault == what and self.dice.random() < 0.6:
+            self.fault = None
+            return True
+        return False
+
+    def header(self, tag, contents):
+        """Tag, length and contents, perhaps with a length that is not the shortest."""
+        size = length_octets(len(contents))
+        if self.spoil("length"):
+            size = self.dice.choice([b"\x81" + bytes([len(contents) % 256]), b"\x80", b"\x84\0\0\0\1",
+                                     b"\x82\0" + bytes([len(contents) % 256]),
+                                     bytes([(len(contents) + 1) % 128])])
+        if self.spoil("tag"):
+            tag ^= self.dice.choice([1, 32, 64, 128])
+        return bytes([tag]) + size + contents
+
+    def encode(self, drawn, number=None, unlike=None):
+        """A value of the type; `number` an implicit tag, `unlike` contents not to be drawn."""
+        if drawn.kind == der.CHOICE:
+            return self.member(self.dice.choice(drawn.members))
+        tag = der.tag_octet(0 if number is None else 2, drawn.kind in der.CONSTRUCTED_KINDS,
+                            der.UNIVERSAL_NUMBER[drawn.kind] if number is None else number)
+        if drawn.kind == der.SEQUENCE:
+            contents = b"".join(self.in_sequence(member) for member in drawn.members)
+        elif drawn.kind in der.LIST_KINDS:
+            several = [self.encode(drawn.element) for _ in range(self.dice.choice([0, 1, 2, 2, 3, 3, 4]))]
+            if drawn.kind == der.SET_OF:
+                several.sort(reverse=self.spoil("order"))
+            contents = b"".join(several)
+        else:
+            contents = self.contents(drawn.kind)
+            while contents == unlike:
+                contents = self.contents(drawn.kind)
+        if self.spoil("extra"):
+            contents += self.dice.choice([b"\0", b"\5\0"])
+        return self.header(tag, contents)
+
+    def in_sequence(self, member):
+        """A member of a SEQUENCE, or nothing where it is left out."""
+        if member.presence == 2 and self.spoil("default"):
+            number = member.number if member.mode == 2 else None
+            tag = der.tag_octet(0 if number is None else 2, False,
+                                der.UNIVERSAL_NUMBER[member.type.kind] if number is None else number)
+            stored = self.header(tag, member.default)
+            return self.header(0xA0 + member.number, stored) if member.mode == 1 else stored
+        if member.presence and self.dice.random() < 0.45 or self.spoil("missing"):
+            return b""
+        return self.member(member)
+
+    def member(self, member):
+        """A member that is stored, with its tag."""
+        unlike = member.default if member.presence == 2 else None
+        if member.mode == 1:
+            return self.header(0xA0 + member.number, self.encode(member.type, None, unlike))
+        return self.encode(member.type, member.number if member.mode == 2 else None, unlike)
+
+    def contents(self, kind):
+        """Contents octets of a kind 1..11."""
+        dice = self.dice
+        if kind in BAD_CONTENTS and self.spoil("contents"):
+            return bytes.fromhex(dice.choice(BAD_CONTENTS[kind]))
+        if kind == der.BOOLEAN:
+            return dice.choice([b"\0", b"\xff"])
+        if kind in (der.INTEGER, der.ENUMERATED):
+            return integer_octets(dice.choice(INTEGERS[:6] if dice.random() < 0.6 else INTEGERS))
+        if kind == der.NULL:
+            return b""
+        if kind == der.OBJECT_IDENTIFIER:
+            return b"".join(subidentifier_octets(dice.choice(SUBIDENTIFIERS))
+                            for _ in range(dice.randint(1, 3)))
+        if kind == der.OCTET_STRING:
+            return bytes(dice.choice([0, 1, 2, 255]) for _ in range(dice.randint(0, self.longest)))
+        if kind == der.BIT_STRING:
+            octets = [dice.randrange(256) for _ in range(dice.randint(0, min(3, self.longest)))]
+            unused = dice.randint(0, 7) if octets else 0
+            return bytes([unused] + octets[:-1] + [octet >> unused << unused for octet in octets[-1:]])
+        if kind == der.GENERALIZED_TIME:
+            return dice.choice(BAD_TIMES if self.spoil("contents") else TIMES).encode()
+        return "".join(dice.choice(WORDS[kind])
+                       for _ in range(dice.randint(0, self.longest))).encode("utf-8")
+
+
+def break_octets(dice, octets):
+    """One octet changed, removed or inserted, or the end cut off."""
+    octets = bytearray(octets)
+    way = dice.randrange(4)
+    if way == 0 or not octets:
+        octets.insert(dice.randint(0, len(octets)), dice.choice([0, 1, 32, 128, 255, 0x7F]))
+    elif way == 1:
+        octets[dice.randrange(len(octets))] ^= dice.choice([1, 2, 32, 128, 255])
+    elif way == 2:
+        del octets[dice.randrange(len(octets))]
+    else:
+        del octets[dice.randrange(len(octets)):]
+    return bytes(octets)
