@@ -1,2 +1,3 @@
 pub mod Shown
 pub mod Licence
+pub mod Rfc3687

@@ -6,6 +6,8 @@ use mathlib.Core.List.{List, [], _∷_, _++_, map}
 use Prim.Native.Nat.{ℕ}
 use Prim.Native.String.{String}
 use lib.ListN.{set, replicate}
+use lib.Dec.{eqb}
+use Rattle.octets.specs.Pick.{pick}
 use Rattle.octets.specs.Octets.{bytes, hex}
 use Rattle.table.specs.Types.{typeAt}
 use Rattle.table.specs.Paper.{tableLimits, licence}
@@ -29,8 +31,97 @@ joins : conjunction [] ∷ conjunction (TRUE ∷ UNDEFINED ∷ []) ∷ conjuncti
 unfolding engineComputes
 joins = refl
 
--- items that say what they are: here an item's rule is its number of tests, and its value text its truth
-abbrev truthOf : ℕ → Truth
-truthOf 0 = FALSE
-truthOf 1 = TRUE
-truthOf (suc (suc n)) = UNDEFINED
+-- an item here is its own outcome: its rule has the number of tests, its value text T, F, U, or X for a fault
+abbrev says : List ℕ → List ℕ → Outcome
+says [] n = faulted 0
+says (u ∷ us) [] = faulted 0
+says (u ∷ us) (n ∷ ns) = pick (eqb u 84) (settled TRUE n) (pick (eqb u 70) (settled FALSE n) (pick (eqb u 85) (settled UNDEFINED n) (faulted n)))
+
+abbrev saysItem : Item → Outcome
+saysItem i = says (i .value) (i .rule)
+
+abbrev one : String → ℕ → Filter
+one u n = item (record { component = none; defaults = true; rule = n ∷ []; value = bytes u })
+
+abbrev three : Join → Filter → Filter → Filter → Outcome
+three j a b c = reading saysItem (list j (next a (next b (next c endFilters))))
+
+-- `and` stops at its first FALSE, `or` at its first TRUE; Undefined stops nothing; what comes after a stop makes no test, and no fault
+stops : three and (one "T" 1) (one "F" 2) (one "T" 4) ∷ three or (one "F" 1) (one "T" 2) (one "F" 4) ∷ three and (one "U" 0) (one "T" 2) (one "F" 4) ∷ three or (one "U" 0) (one "F" 2) (one "T" 4)
+    ∷ three and (one "U" 0) (one "T" 2) (one "T" 4) ∷ three or (one "F" 1) (one "U" 0) (one "F" 4) ∷ three and (one "F" 1) (one "X" 2) (one "T" 4) ∷ three or (one "F" 1) (one "X" 2) (one "T" 4) ∷ []
+    ≡ settled FALSE 3 ∷ settled TRUE 3 ∷ settled FALSE 6 ∷ settled TRUE 6 ∷ settled UNDEFINED 6 ∷ settled UNDEFINED 5 ∷ settled FALSE 1 ∷ faulted 3 ∷ []
+unfolding engineComputes
+stops = refl
+
+nots : map (λ u. reading saysItem (inverse (one u 1))) ("T" ∷ "F" ∷ "U" ∷ "X" ∷ []) ≡ settled FALSE 1 ∷ settled TRUE 1 ∷ settled UNDEFINED 1 ∷ faulted 1 ∷ []
+unfolding engineComputes
+nots = refl
+
+-- of 5 and 7 the first met: a fault after two tests
+budgets : budgeted 2 (settled TRUE 2) ∷ budgeted 1 (settled TRUE 2) ∷ budgeted 2 (faulted 2) ∷ budgeted 1 (faulted 2) ∷ [] ≡ answer.answers TRUE 2 ∷ answer.refused 5 ∷ answer.refused 7 ∷ answer.refused 5 ∷ []
+unfolding engineComputes
+budgets = refl
+
+-- ---- the licence record
+ask : String → answer.Report
+ask s = askReport limits licence licenceRecord (bytes s) 65535
+
+-- Undefined: malformed or unknown reference; unknown rule; a rule not for the type; a value text that doesn't conform. FALSE: nothing is named
+assertions : map ask ("item:{component \"\",rule presentMatch,value NULL}" ∷ "item:{component \"seat\",rule presentMatch,value NULL}" ∷ "item:{component \"seats\",rule noSuchMatch,value 1}"
+    ∷ "item:{component \"event\",rule integerMatch,value 1}" ∷ "item:{component \"seats\",rule integerMatch,value -0}" ∷ "item:{component \"parts.3\",rule presentMatch,value NULL}" ∷ "item:{component \"parts.-3\",rule presentMatch,value NULL}"
+    ∷ "item:{rule presentMatch,value NULL}" ∷ "item:{component \"parts.*.name\",rule caseIgnoreMatch,value \"VA\"}" ∷ "item:{component \"parts.0\",rule integerMatch,value 2}" ∷ [])
+    ≡ answer.answers UNDEFINED 0 ∷ answer.answers UNDEFINED 0 ∷ answer.answers UNDEFINED 0 ∷ answer.answers UNDEFINED 0 ∷ answer.answers UNDEFINED 0 ∷ answer.answers FALSE 0 ∷ answer.answers FALSE 0
+    ∷ answer.answers TRUE 1 ∷ answer.answers TRUE 2 ∷ answer.answers TRUE 1 ∷ []
+unfolding engineComputes ask
+assertions = refl
+
+-- refusals in their order: each question has this cause and all later ones
+abbrev bad : List ℕ
+bad = hex "3000"
+
+refusals : askReport limits [] bad (bytes "x") 65536 ∷ askReport limits licence [] (bytes "x") 0 ∷ askReport limits licence licenceRecord [] 0 ∷ askReport limits licence bad (bytes "x") 65536
+    ∷ askReport limits (0 ∷ []) bad (bytes "x") 0 ∷ askReport limits licence bad (bytes "x") 0 ∷ askReport limits licence bad (bytes "item:{component \"seats\",rule presentMatch,value NULL}") 0
+    ∷ askReport limits licence licenceRecord (bytes "item:{component \"seats\",rule presentMatch,value NULL}") 0 ∷ []
+    ≡ answer.refused 1 ∷ answer.refused 1 ∷ answer.refused 1 ∷ answer.refused 1 ∷ answer.refused 2 ∷ answer.refused 3 ∷ answer.refused 4 ∷ answer.refused 5 ∷ []
+unfolding engineComputes
+refusals = refl
+
+-- ---- the listing
+listing : List ℕ → List ℕ → Bool → List ℕ → ℕ → Listing
+listing t v given r n = listReport limits t v given r true (replicate n 99)
+
+abbrev gives : ℕ → List ℕ → Listing
+gives n memory = record { report = lists n; memory = memory }
+
+-- no reference names the whole value, whatever octets come with it; nothing named needs no room
+whole : listing licence licenceRecord false (replicate 2049 46) 4 ∷ listing licence licenceRecord true (bytes "parts.3") 0 ∷ [] ≡ gives 1 (0 ∷ 0 ∷ 23 ∷ 99 ∷ []) ∷ gives 0 [] ∷ []
+unfolding engineComputes listing
+whole = refl
+
+-- a default for each enclosing SEQUENCE that lacks it
+two-defaults : listing licence (hex "30120C026531300C300413025661300413025662") true (bytes "parts.*.copies") 6 ≡ gives 2 (1 ∷ 8 ∷ 9 ∷ 1 ∷ 14 ∷ 9 ∷ [])
+unfolding engineComputes listing
+two-defaults = refl
+
+-- refusals in their order; each leaves the room as it was
+listing-refusals : listing [] bad true [] 2 ∷ listing licence bad true (replicate 2049 46) 2 ∷ listing (0 ∷ []) bad true [] 2 ∷ listing licence bad true [] 2 ∷ listing licence bad true (bytes "seat") 2 ∷ listing licence bad true (bytes "seats") 2
+    ∷ listing licence licenceRecord true (bytes "seats") 2 ∷ []
+    ≡ map (λ n. refusedList n (99 ∷ 99 ∷ [])) (1 ∷ 1 ∷ 2 ∷ 3 ∷ 3 ∷ 4 ∷ 6 ∷ [])
+unfolding engineComputes listing
+listing-refusals = refl
+
+-- ---- a header that doesn't fit: the second part's length is one more, then its tag another
+walk : List Id → List ℕ → Trail
+walk is v = trail is v true (typeAt tableLimits licence 0)
+
+abbrev copies : List Id
+copies = name (bytes "parts") ∷ all ∷ name (bytes "copies") ∷ []
+
+faults : map (λ v. faulty (walk copies v)) (licenceRecord ∷ set licenceRecord 15 8 ∷ set licenceRecord 14 49 ∷ set licenceRecord 0 49 ∷ set licenceRecord 12 80 ∷ []) ≡ false ∷ true ∷ true ∷ true ∷ false ∷ []
+unfolding engineComputes walk
+faults = refl
+
+-- what is reached before the fault; and a walk that does not come there has none
+before : threes (reached (walk copies (set licenceRecord 15 8))) ∷ threes (reached (walk (name (bytes "parts") ∷ position 1 ∷ []) (set licenceRecord 15 8))) ∷ [] ≡ (1 ∷ 8 ∷ 9 ∷ []) ∷ (0 ∷ 8 ∷ 6 ∷ []) ∷ []
+unfolding engineComputes walk
+before = refl

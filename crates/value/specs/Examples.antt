@@ -48,6 +48,11 @@ wrappers : map (holds (only (explicit 0) mandatory (basic 2))) ("3005A003020105"
 unfolding valueComputes holds
 wrappers = refl
 
+-- what the next member could be does not stand in the wrapper of the one before it
+wrapped-together : map (holds (sequence (more (plain "a" (explicit 0) mandatory) (basic 2) (more (plain "b" untagged optional) (basic 1) noMore)))) ("3008A0030201050101FF" ∷ "3008A0060201050101FF" ∷ []) ≡ true ∷ false ∷ []
+unfolding valueComputes holds
+wrapped-together = refl
+
 -- `[0]` implicit: an INTEGER is not constructed, a SEQUENCE is
 implicits : map (holds (only (implicit 0) mandatory (basic 2))) ("3003800105" ∷ "3003A00105" ∷ "3003020105" ∷ []) ++ map (holds (only (implicit 0) mandatory (sequence noMore))) ("3002A000" ∷ "30028000" ∷ [])
     ≡ true ∷ false ∷ false ∷ true ∷ false ∷ []
