@@ -5,7 +5,7 @@ use mathlib.Core.Option.{Option, none, some}
 use mathlib.Core.List.{List, [], _∷_}
 use lib.ListN.{length}
 use lib.Dec.{ltb, leb, eqb}
-use Rattle.octets.specs.Pick.{pick, both, either, no, bind}
+use Rattle.octets.specs.Pick.{pick, both, either, no, consed}
 use Rattle.octets.specs.Octets.{octet, same, every}
 use Rattle.octets.specs.Text.{within, isAlnum}
 use Rattle.octets.specs.Utf8.{utf8}
@@ -29,10 +29,6 @@ unfoldable pub legalNull : List ℕ → Bool
 legalNull c = eqb (length c) 0
 
 -- ---- OBJECT IDENTIFIER: subidentifiers, base 128; each octet but a subidentifier's last has its top bit set
-abbrev pub consed : ℕ → Option (List ℕ) → Option (List ℕ)
-consed n none = none
-consed n (some l) = some (n ∷ l)
-
 -- the subidentifiers from here on, after octets of one that stand for n (inside), or at the start of one; shortest, so none starts with 80
 unfoldable pub subsFrom : Bool → ℕ → List ℕ → Option (List ℕ)
 subsFrom inside n [] = pick inside none (some [])

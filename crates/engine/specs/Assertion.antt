@@ -4,7 +4,7 @@ use Prim.Native.Nat.{ℕ, _+_}
 use mathlib.Core.Bool.{Bool, true, false}
 use mathlib.Core.Option.{Option, none, some}
 use mathlib.Core.List.{List, []}
-use Rattle.octets.specs.Pick.{pick, both, bind}
+use Rattle.octets.specs.Pick.{pick, both, _>>=_}
 use Rattle.table.specs.Types.{Ty}
 use Rattle.reference.specs.Reference.{Id, readReference}
 use Rattle.reference.specs.Allowed.{Target, allowed}
@@ -28,17 +28,12 @@ pub record Asked : Type 0 where
   pub ids : List Id
   pub rule : Rule
 
-abbrev pub ifConforming : List ℕ → List Id → Target → Rule → Option Asked
-ifConforming text is g r = pick (both (suits r g) (conforms r text)) (some (record { ids = is; rule = r })) none
-
-abbrev pub withTarget : Item → List Id → Target → Option Asked
-withTarget i is g = bind (ruleOf (i .rule)) (ifConforming (i .value) is g)
-
-abbrev pub withIds : Ty → Item → List Id → Option Asked
-withIds ty i is = bind (allowed is ty) (withTarget i is)
-
 unfoldable pub asked : Ty → Item → Option Asked
-asked ty i = bind (identifiers (i .component)) (withIds ty i)
+asked ty i = do
+  is ← identifiers (i .component)
+  target ← allowed is ty
+  r ← ruleOf (i .rule)
+  pick (both (suits r target) (conforms r (i .value))) (some (record { ids = is; rule = r })) none
 
 -- "one [test] per value a rule is applied to. An assertion stops at its first accepted value": after n tests
 unfoldable pub testing : (Component → Bool) → ℕ → Trail → Outcome

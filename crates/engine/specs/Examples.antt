@@ -13,7 +13,7 @@ use Rattle.table.specs.Types.{typeAt}
 use Rattle.table.specs.Paper.{tableLimits, licence}
 use Rattle.value.specs.Paper.{licenceRecord}
 use Rattle.filter.specs.Filter.{Item, Join, and, or, Filter, Filters, item, list, inverse, endFilters, next}
-use Rattle.reference.specs.Reference.{Id, name, position, fromEnd, count, all}
+use Rattle.reference.specs.Reference.{Index, position, fromEnd, count, all, Id, name, index}
 use Rattle.reference.specs.Numbers.{threes}
 use Rattle.engine.specs.Truth.{Truth, TRUE, FALSE, UNDEFINED, conjunction, disjunction, truth}
 use Rattle.engine.specs.Reading.{Outcome, settled, faulted, reading}
@@ -115,13 +115,13 @@ walk : List Id → List ℕ → Trail
 walk is v = trail is v true (typeAt tableLimits licence 0)
 
 abbrev copies : List Id
-copies = name (bytes "parts") ∷ all ∷ name (bytes "copies") ∷ []
+copies = name (bytes "parts") ∷ index all ∷ name (bytes "copies") ∷ []
 
 faults : map (λ v. faulty (walk copies v)) (licenceRecord ∷ set licenceRecord 15 8 ∷ set licenceRecord 14 49 ∷ set licenceRecord 0 49 ∷ set licenceRecord 12 80 ∷ []) ≡ false ∷ true ∷ true ∷ true ∷ false ∷ []
 unfolding engineComputes walk
 faults = refl
 
 -- what is reached before the fault; and a walk that does not come there has none
-before : threes (reached (walk copies (set licenceRecord 15 8))) ∷ threes (reached (walk (name (bytes "parts") ∷ position 1 ∷ []) (set licenceRecord 15 8))) ∷ [] ≡ (1 ∷ 8 ∷ 9 ∷ []) ∷ (0 ∷ 8 ∷ 6 ∷ []) ∷ []
+before : threes (reached (walk copies (set licenceRecord 15 8))) ∷ threes (reached (walk (name (bytes "parts") ∷ index (position 1) ∷ []) (set licenceRecord 15 8))) ∷ [] ≡ (1 ∷ 8 ∷ 9 ∷ []) ∷ (0 ∷ 8 ∷ 6 ∷ []) ∷ []
 unfolding engineComputes walk
 before = refl

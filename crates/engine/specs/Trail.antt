@@ -6,12 +6,12 @@ use mathlib.Core.Option.{Option, none, some}
 use mathlib.Core.List.{List, [], _∷_}
 use lib.ListN.{length}
 use lib.Dec.{ltb, leb, eqb}
-use Rattle.octets.specs.Pick.{pick, either}
-use Rattle.octets.specs.Octets.{octet, same}
+use Rattle.octets.specs.Pick.{pick, either, bind}
+use Rattle.octets.specs.Octets.{same}
 use Rattle.table.specs.Types.{Tagging, untagged, Presence, mandatory, optional, default, Member, Ty, basic, sequence, choice, listOf, Members, noMore, more}
 use Rattle.table.specs.Begins.{isMandatory}
 use Rattle.value.specs.Decode.{startsHere}
-use Rattle.reference.specs.Reference.{Id, name, position, fromEnd, count, all}
+use Rattle.reference.specs.Reference.{Index, position, fromEnd, count, all, Id, name, index}
 use Rattle.reference.specs.Numbers.{Component, stored, defaulted, tallied}
 use Rattle.engine.specs.Opened.{Opened, spotOf, after, openAt}
 
@@ -27,37 +27,33 @@ then done b = b
 then fault b = fault
 then (reach c a) b = reach c (then a b)
 
--- ---- elements of a list: o opens one, and they are from i up to stop, at most k of them
-abbrev pub eachThen : (Opened → Trail) → (ℕ → Trail) → Option Opened → Trail
-eachThen f rest none = fault
-eachThen f rest (some x) = then (f x) (rest (after x))
+-- what f makes of a thing, where the headers fit
+abbrev pub orFault : {A : Type 0} → (A → Trail) → Option A → Trail
+orFault f none = fault
+orFault f (some a) = f a
 
+-- ---- elements of a list: o opens one, and they are from i up to stop, at most k of them
 unfoldable pub eachFrom : (ℕ → ℕ → Option Opened) → (Opened → Trail) → ℕ → ℕ → ℕ → Trail
 eachFrom o f zero stop i = pick (ltb i stop) fault done
 eachFrom o f (suc k) stop i =
-    let elements = eachThen f (λ j. eachFrom o f k stop j) (o i stop) in
+    let elements = orFault (λ x. then (f x) (eachFrom o f k stop (after x))) (o i stop) in
     pick (ltb i stop) elements done
 
 -- their number, after n of them; none where a header doesn't fit
-abbrev pub countThen : (ℕ → Option ℕ) → Option Opened → Option ℕ
-countThen rest none = none
-countThen rest (some x) = rest (after x)
-
 unfoldable pub countFrom : (ℕ → ℕ → Option Opened) → ℕ → ℕ → ℕ → ℕ → Option ℕ
 countFrom o zero stop n i = pick (ltb i stop) none (some n)
 countFrom o (suc k) stop n i =
-    let elements = countThen (λ j. countFrom o k stop (n + 1) j) (o i stop) in
+    let elements = bind (o i stop) (λ x. countFrom o k stop (n + 1) (after x)) in
     pick (ltb i stop) elements (some n)
 
 -- the one at a position from 1
-abbrev pub positionThen : ℕ → (Opened → Trail) → (ℕ → Trail) → Option Opened → Trail
-positionThen n f rest none = fault
-positionThen n f rest (some x) = pick (eqb n 1) (f x) (rest (after x))
+abbrev pub atPosition : ℕ → (Opened → Trail) → (ℕ → Trail) → Opened → Trail
+atPosition n f rest x = pick (eqb n 1) (f x) (rest (after x))
 
 unfoldable pub positionFrom : (ℕ → ℕ → Option Opened) → (Opened → Trail) → ℕ → ℕ → ℕ → ℕ → Trail
 positionFrom o f zero stop n i = pick (ltb i stop) fault done
 positionFrom o f (suc k) stop n i =
-    let elements = positionThen n f (λ j. positionFrom o f k stop (n - 1) j) (o i stop) in
+    let elements = orFault (atPosition n f (λ j. positionFrom o f k stop (n - 1) j)) (o i stop) in
     pick (ltb i stop) elements done
 
 -- ---- members of a SEQUENCE, alternatives of a CHOICE
@@ -67,27 +63,26 @@ pub data Found : Type 0 where
   nothing : Found
   broken : Found
 
-abbrev pub memberThen : Bool → Ty → (ℕ → Found) → Option Opened → Found
-memberThen named ty rest none = broken
-memberThen named ty rest (some o) = pick named (found ty o) (rest (after o))
+abbrev pub orBroken : (Opened → Found) → Option Opened → Found
+orBroken f none = broken
+orBroken f (some o) = f o
+
+abbrev pub memberThen : Bool → Ty → (ℕ → Found) → Opened → Found
+memberThen named ty rest o = pick named (found ty o) (rest (after o))
 
 -- the member with a name, among those from i on: a mandatory one has to be there, any other is where the next tag is one it can begin with
 unfoldable pub findMember : List ℕ → Members → List ℕ → ℕ → ℕ → Found
 findMember x noMore v stop i = nothing
 findMember x (more m ty ms) v stop i =
-    let there = memberThen (same (m .name) x) ty (λ j. findMember x ms v stop j) (openAt ty (m .tagging) v i stop) in
+    let there = orBroken (memberThen (same (m .name) x) ty (λ j. findMember x ms v stop j)) (openAt ty (m .tagging) v i stop) in
     let without = pick (same (m .name) x) (missing m) (findMember x ms v stop i) in
     pick (either (isMandatory (m .presence)) (startsHere m ty v stop i)) there without
-
-abbrev pub alternativeOf : Ty → Option Opened → Found
-alternativeOf ty none = broken
-alternativeOf ty (some o) = found ty o
 
 -- the alternative that can begin with the tag here, if it has the name
 unfoldable pub findAlternative : List ℕ → Members → List ℕ → ℕ → ℕ → Found
 findAlternative x noMore v stop at = broken
 findAlternative x (more m ty ms) v stop at =
-    let this = pick (same (m .name) x) (alternativeOf ty (openAt ty (m .tagging) v at stop)) nothing in
+    let this = pick (same (m .name) x) (orBroken (found ty) (openAt ty (m .tagging) v at stop)) nothing in
     let others = findAlternative x ms v stop at in
     pick (startsHere m ty v stop at) this others
 
@@ -108,27 +103,23 @@ onFound defaults is place f (missing m) = missingTrail defaults is place m (m .p
 onFound defaults is place f nothing = done
 onFound defaults is place f broken = fault
 
-abbrev pub onCount : List Id → ℕ → Option ℕ → Trail
-onCount is place none = fault
-onCount is place (some n) = ending is (tallied place n)
-
-abbrev pub onFromEnd : ℕ → (ℕ → Trail) → Option ℕ → Trail
-onFromEnd n f none = fault
-onFromEnd n f (some c) = pick (leb n c) (f (c + 1 - n)) done
+-- the one at a position from the end, among so many; f walks to a position from 1
+abbrev pub fromLast : ℕ → (ℕ → Trail) → ℕ → Trail
+fromLast n f size = pick (leb n size) (f (size + 1 - n)) done
 
 abbrev pub inMembers : Id → (List ℕ → Found) → Bool → List Id → ℕ → (Ty → Opened → Trail) → Trail
 inMembers (name x) find defaults is place f = onFound defaults is place f (find x)
-inMembers (position n) find defaults is place f = done
-inMembers (fromEnd n) find defaults is place f = done
-inMembers count find defaults is place f = done
-inMembers all find defaults is place f = done
+inMembers (index i) find defaults is place f = done
+
+abbrev pub indexedBy : Index → (ℕ → ℕ → Option Opened) → List Id → Opened → (Opened → Trail) → Trail
+indexedBy (position n) o is l f = positionFrom o f (l .size) (after l) n (l .start)
+indexedBy (fromEnd n) o is l f = orFault (fromLast n (λ p. positionFrom o f (l .size) (after l) p (l .start))) (countFrom o (l .size) (after l) 0 (l .start))
+indexedBy count o is l f = orFault (λ n. ending is (tallied (l .place) n)) (countFrom o (l .size) (after l) 0 (l .start))
+indexedBy all o is l f = eachFrom o f (l .size) (after l) (l .start)
 
 abbrev pub inList : Id → (ℕ → ℕ → Option Opened) → List Id → Opened → (Opened → Trail) → Trail
 inList (name x) o is l f = done
-inList (position n) o is l f = positionFrom o f (l .size) (after l) n (l .start)
-inList (fromEnd n) o is l f = onFromEnd n (λ p. positionFrom o f (l .size) (after l) p (l .start)) (countFrom o (l .size) (after l) 0 (l .start))
-inList count o is l f = onCount is (l .place) (countFrom o (l .size) (after l) 0 (l .start))
-inList all o is l f = eachFrom o f (l .size) (after l) (l .start)
+inList (index i) o is l f = indexedBy i o is l f
 
 abbrev pub inValue : Id → Ty → List ℕ → Bool → List Id → Opened → (Ty → Opened → Trail) → Trail
 inValue i (basic k) v defaults is o f = done
@@ -141,13 +132,9 @@ unfoldable pub along : List Id → List ℕ → Bool → Ty → Opened → Trail
 along [] v defaults ty o = reach (stored (spotOf v o)) done
 along (i ∷ is) v defaults ty o = inValue i ty v defaults is o (λ u p. along is v defaults u p)
 
-abbrev pub fromOpened : (Opened → Trail) → Option Opened → Trail
-fromOpened f none = fault
-fromOpened f (some o) = f o
-
 -- from the value's first octet
 unfoldable pub trail : List Id → List ℕ → Bool → Ty → Trail
-trail is v defaults ty = fromOpened (along is v defaults ty) (openAt ty untagged v 0 (length v))
+trail is v defaults ty = orFault (along is v defaults ty) (openAt ty untagged v 0 (length v))
 
 -- the walk has a fault
 unfoldable pub faulty : Trail → Bool

@@ -6,7 +6,7 @@ use mathlib.Core.Option.{Option, none, some}
 use mathlib.Core.List.{List, [], _∷_}
 use lib.ListN.{drop}
 use lib.Dec.{eqb}
-use Rattle.octets.specs.Pick.{pick, both, either, bind}
+use Rattle.octets.specs.Pick.{pick, both, either, _>>=_}
 use Rattle.octets.specs.Octets.{part, every, bytes}
 use Rattle.octets.specs.Text.{isLetter, isAlnum, starts}
 use Rattle.octets.specs.Quoted.{closingAt, characters}
@@ -25,7 +25,9 @@ partTo a after = some (record { is = a; after = after })
 
 -- a part that a comma and the next part follow
 abbrev pub followed : {A : Type 0} → List ℕ → ℕ → A → Option (Part A)
-followed s at a = bind (markAt comma s at) (partTo a)
+followed s at a = do
+  p ← markAt comma s at
+  partTo a p
 
 -- a part that may be missing: f reads it behind its label
 abbrev pub ifLabelled : {A : Type 0} → A → ℕ → (ℕ → Option (Part A)) → Option ℕ → Option (Part A)
@@ -33,11 +35,10 @@ ifLabelled missing at f none = partTo missing at
 ifLabelled missing at f (some p) = f p
 
 -- ---- `component`
-abbrev pub quotedTo : List ℕ → ℕ → ℕ → Option (Part (Option (List ℕ)))
-quotedTo s at close = followed s (close + 1) (some (characters s at close))
-
 abbrev pub quotedPart : List ℕ → ℕ → Option (Part (Option (List ℕ)))
-quotedPart s at = bind (closingAt s at) (quotedTo s at)
+quotedPart s at = do
+  close ← closingAt s at
+  followed s (close + 1) (some (characters s at close))
 
 unfoldable pub componentAt : List ℕ → ℕ → Option (Part (Option (List ℕ)))
 componentAt s at = ifLabelled none at (quotedPart s) (labelAt (bytes "component") s at)
@@ -68,38 +69,24 @@ unfoldable pub commaFrom : List ℕ → ℕ → Option ℕ
 commaFrom [] at = none
 commaFrom (b ∷ s) at = let r = commaFrom s (at + 1) in pick (eqb b comma) (some at) r
 
-abbrev pub ifRule : List ℕ → ℕ → List ℕ → Option (Part (List ℕ))
-ifRule s at t = pick (isRule t) (followed s at t) none
-
-abbrev pub ruleTo : List ℕ → ℕ → ℕ → Option (Part (List ℕ))
-ruleTo s at end = ifRule s end (part s at (end - at))
-
-abbrev pub rulePart : List ℕ → ℕ → Option (Part (List ℕ))
-rulePart s at = bind (commaFrom (drop at s) at) (ruleTo s at)
-
 unfoldable pub ruleAt : List ℕ → ℕ → Option (Part (List ℕ))
-ruleAt s at = bind (labelAt (bytes "rule") s at) (rulePart s)
+ruleAt s at = do
+  p ← labelAt (bytes "rule") s at
+  end ← commaFrom (drop p s) p
+  pick (isRule (part s p (end - p))) (followed s end (part s p (end - p))) none
 
 -- ---- `value`, which the closing brace follows
 unfoldable pub valueAt : List ℕ → ℕ → Option ValueText
-valueAt s at = bind (labelAt (bytes "value") s at) (valueTextAt s)
+valueAt s at = do
+  p ← labelAt (bytes "value") s at
+  valueTextAt s p
 
--- ---- the four parts in order
-abbrev pub itemOf : Option (List ℕ) → Bool → List ℕ → ValueText → Option (Part Item)
-itemOf c d r v = partTo (record { component = c; defaults = d; rule = r; value = v .text }) (v .brace + 1)
-
-abbrev pub withRule : List ℕ → Option (List ℕ) → Bool → Part (List ℕ) → Option (Part Item)
-withRule s c d r = bind (valueAt s (r .after)) (itemOf c d (r .is))
-
-abbrev pub withDefaults : List ℕ → Option (List ℕ) → Part Bool → Option (Part Item)
-withDefaults s c d = bind (ruleAt s (d .after)) (withRule s c (d .is))
-
-abbrev pub withComponent : List ℕ → Part (Option (List ℕ)) → Option (Part Item)
-withComponent s c = bind (defaultsAt s (c .after)) (withDefaults s (c .is))
-
-abbrev pub partsAt : List ℕ → ℕ → Option (Part Item)
-partsAt s at = bind (componentAt s at) (withComponent s)
-
--- a braced assertion
+-- ---- a braced assertion: the four parts in order
 unfoldable pub assertionAt : List ℕ → ℕ → Option (Part Item)
-assertionAt s at = bind (markAt openBrace s at) (partsAt s)
+assertionAt s at = do
+  p ← markAt openBrace s at
+  c ← componentAt s p
+  d ← defaultsAt s (c .after)
+  r ← ruleAt s (d .after)
+  v ← valueAt s (r .after)
+  partTo (record { component = c .is; defaults = d .is; rule = r .is; value = v .text }) (v .brace + 1)

@@ -50,27 +50,20 @@ unfoldable pub tailAt : List ℕ → ℕ → Tail
 tailAt s at = orClosed s (skip s at) (markAt comma s at)
 
 -- ---- a filter, and the filters of a list from one of them on, with the place after them
-abbrev pub asItem : Part Item → Option (Part Filter)
-asItem p = partTo (item (p .is)) (p .after)
-
-abbrev pub asList : Join → Part Filters → Option (Part Filter)
-asList j p = partTo (list j (p .is)) (p .after)
-
-abbrev pub asInverse : Part Filter → Option (Part Filter)
-asInverse p = partTo (inverse (p .is)) (p .after)
-
-abbrev pub onto : Filter → Part Filters → Option (Part Filters)
-onto f p = partTo (next f (p .is)) (p .after)
+-- f of what has been read
+abbrev pub made : {A B : Type 0} → (A → B) → Option (Part A) → Option (Part B)
+made f none = none
+made f (some p) = partTo (f (p .is)) (p .after)
 
 abbrev pub byHead : List ℕ → (ℕ → Option (Part Filters)) → (ℕ → Option (Part Filter)) → Head → Option (Part Filter)
-byHead s lists filters (assertion p) = bind (assertionAt s p) asItem
+byHead s lists filters (assertion p) = made item (assertionAt s p)
 byHead s lists filters (emptyList j p) = partTo (list j endFilters) p
-byHead s lists filters (openList j p) = bind (lists p) (asList j)
-byHead s lists filters (negation p) = bind (filters p) asInverse
+byHead s lists filters (openList j p) = made (list j) (lists p)
+byHead s lists filters (negation p) = made inverse (filters p)
 byHead s lists filters noHead = none
 
 abbrev pub byTail : (ℕ → Option (Part Filters)) → Filter → Tail → Option (Part Filters)
-byTail lists f (another p) = bind (lists p) (onto f)
+byTail lists f (another p) = made (next f) (lists p)
 byTail lists f (closed p) = partTo (next f endFilters) p
 byTail lists f noTail = none
 

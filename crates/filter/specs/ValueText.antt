@@ -6,7 +6,7 @@ use mathlib.Core.Option.{Option, none, some}
 use mathlib.Core.List.{List, [], _∷_}
 use lib.ListN.{length, drop}
 use lib.Dec.{leb, eqb}
-use Rattle.octets.specs.Pick.{pick, no, bind}
+use Rattle.octets.specs.Pick.{pick, no, _>>=_}
 use Rattle.octets.specs.Octets.{part}
 use Rattle.octets.specs.Text.{trimmed}
 use Rattle.filter.specs.Spaces.{openBrace, closeBrace}
@@ -36,8 +36,7 @@ pub record ValueText : Type 0 where
 abbrev pub notEmpty : List ℕ → ℕ → Option ValueText
 notEmpty text brace = pick (eqb (length text) 0) none (some (record { text = text; brace = brace }))
 
-abbrev pub textTo : List ℕ → ℕ → ℕ → Option ValueText
-textTo s at brace = notEmpty (trimmed (part s at (brace - at))) brace
-
 unfoldable pub valueTextAt : List ℕ → ℕ → Option ValueText
-valueTextAt s at = bind (braceAt s at) (textTo s at)
+valueTextAt s at = do
+  brace ← braceAt s at
+  notEmpty (trimmed (part s at (brace - at))) brace

@@ -2,6 +2,7 @@
 use Prim.Native.Nat.{ℕ, zero, suc}
 use mathlib.Core.Bool.{Bool, true, false}
 use mathlib.Core.Option.{Option, none, some}
+use mathlib.Core.List.{List, _∷_}
 
 abbrev pub pick : {A : Type 0} → Bool → A → A → A
 pick true a b = a
@@ -25,6 +26,15 @@ all f (suc n) = let r = all f n in both (f n) r
 abbrev pub bind : {A B : Type 0} → Option A → (A → Option B) → Option B
 bind none f = none
 bind (some a) f = f a
+
+-- the same for `do`
+abbrev pub _>>=_ : {A B : Type 0} → Option A → (A → Option B) → Option B
+_>>=_ o f = bind o f
+
+-- a thing before a list, where there are both
+abbrev pub consed : {A : Type 0} → A → Option (List A) → Option (List A)
+consed a none = none
+consed a (some l) = some (a ∷ l)
 
 abbrev pub isSome : {A : Type 0} → Option A → Bool
 isSome none = false

@@ -6,7 +6,7 @@ use mathlib.Core.List.{List, [], _∷_}
 use Rattle.octets.specs.Pick.{pick, bind}
 use Rattle.octets.specs.Octets.{same}
 use Rattle.table.specs.Types.{Member, Ty, basic, sequence, choice, listOf, Members, noMore, more}
-use Rattle.reference.specs.Reference.{Id, name, position, fromEnd, count, all}
+use Rattle.reference.specs.Reference.{Index, position, fromEnd, count, all, Id, name, index}
 
 pub data Target : Type 0 where
   ofType : Ty → Target
@@ -17,25 +17,21 @@ unfoldable pub memberType : List ℕ → Members → Option Ty
 memberType x noMore = none
 memberType x (more m ty ms) = let r = memberType x ms in pick (same (m .name) x) (some ty) r
 
-abbrev pub asType : Option Ty → Option Target
-asType none = none
-asType (some ty) = some (ofType ty)
-
 -- identifiers on SEQUENCE and CHOICE
 abbrev pub underMembers : Id → Members → Option Target
-underMembers (name x) ms = asType (memberType x ms)
-underMembers (position n) ms = none
-underMembers (fromEnd n) ms = none
-underMembers count ms = none
-underMembers all ms = none
+underMembers (name x) ms = bind (memberType x ms) (λ ty. some (ofType ty))
+underMembers (index i) ms = none
 
 -- positions, count and all on SEQUENCE OF and SET OF
+abbrev pub indexed : Index → Ty → Target
+indexed (position n) ty = ofType ty
+indexed (fromEnd n) ty = ofType ty
+indexed count ty = ofCount
+indexed all ty = ofType ty
+
 abbrev pub underList : Id → Ty → Option Target
 underList (name x) ty = none
-underList (position n) ty = some (ofType ty)
-underList (fromEnd n) ty = some (ofType ty)
-underList count ty = some ofCount
-underList all ty = some (ofType ty)
+underList (index i) ty = some (indexed i ty)
 
 -- one component identifier at a target
 unfoldable pub under : Id → Target → Option Target

@@ -12,7 +12,7 @@ use Rattle.table.specs.Paper.{tableLimits, licence}
 use Rattle.value.specs.Decode.{storedValue}
 use Rattle.value.specs.Value.{Value}
 use Rattle.value.specs.Paper.{valueLimits, licenceRecord}
-use Rattle.reference.specs.Reference.{Id, name, position, fromEnd, count, all, readReference}
+use Rattle.reference.specs.Reference.{Index, position, fromEnd, count, all, Id, name, index, readReference}
 use Rattle.reference.specs.Allowed.{Target, ofType, ofCount, allowed}
 use Rattle.reference.specs.Named.{Held, named}
 use Rattle.reference.specs.Numbers.{component, threes}
@@ -23,13 +23,13 @@ read : String → Option (List Id)
 read s = readReference (bytes s)
 
 good : map read ("parts.*.copies" ∷ "parts.-1" ∷ "parts.0" ∷ "a-b9" ∷ "12" ∷ "content" ∷ [])
-    ≡ some (name (bytes "parts") ∷ all ∷ name (bytes "copies") ∷ []) ∷ some (name (bytes "parts") ∷ fromEnd 1 ∷ []) ∷ some (name (bytes "parts") ∷ count ∷ [])
-    ∷ some (name (bytes "a-b9") ∷ []) ∷ some (position 12 ∷ []) ∷ some (name (bytes "content") ∷ []) ∷ []
+    ≡ some (name (bytes "parts") ∷ index all ∷ name (bytes "copies") ∷ []) ∷ some (name (bytes "parts") ∷ index (fromEnd 1) ∷ []) ∷ some (name (bytes "parts") ∷ index count ∷ [])
+    ∷ some (name (bytes "a-b9") ∷ []) ∷ some (index (position 12) ∷ []) ∷ some (name (bytes "content") ∷ []) ∷ []
 unfolding referenceComputes read
 good = refl
 
 -- a position of any size; nothing; a dot too many; leading zeros; minus zero; a capital; hyphens; a space; a selection; two stars
-large : read "18446744073709551617" ≡ some (position 18446744073709551617 ∷ [])
+large : read "18446744073709551617" ≡ some (index (position 18446744073709551617) ∷ [])
 unfolding referenceComputes read
 large = refl
 

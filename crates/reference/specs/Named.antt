@@ -8,7 +8,7 @@ use Rattle.octets.specs.Pick.{pick}
 use Rattle.octets.specs.Octets.{same}
 use Rattle.table.specs.Types.{Presence, mandatory, optional, default, Member}
 use Rattle.value.specs.Value.{Spot, Value, leaf, fields, chosen, elements, Fields, endFields, present, absent, Values, endValues, next}
-use Rattle.reference.specs.Reference.{Id, name, position, fromEnd, count, all}
+use Rattle.reference.specs.Reference.{Index, position, fromEnd, count, all, Id, name, index}
 
 -- a held value: a stored one; the default of a member that is absent from the SEQUENCE at a place; the count of the list at a place
 pub data Held : Type 0 where
@@ -48,24 +48,21 @@ elementFromEnd n xs = pick (leb n (size xs)) (elementAt (size xs + 1 - n) xs) []
 -- what one identifier names in a SEQUENCE, a CHOICE, a list
 abbrev pub inFields : Bool → Id → ℕ → Fields → List Held
 inFields defaults (name x) place fs = memberNamed defaults place x fs
-inFields defaults (position n) place fs = []
-inFields defaults (fromEnd n) place fs = []
-inFields defaults count place fs = []
-inFields defaults all place fs = []
+inFields defaults (index i) place fs = []
 
 abbrev pub inChosen : Id → Member → Value → List Held
 inChosen (name x) m y = pick (same (m .name) x) (value y ∷ []) []
-inChosen (position n) m y = []
-inChosen (fromEnd n) m y = []
-inChosen count m y = []
-inChosen all m y = []
+inChosen (index i) m y = []
+
+abbrev pub indexedBy : Index → ℕ → Values → List Held
+indexedBy (position n) place xs = elementAt n xs
+indexedBy (fromEnd n) place xs = elementFromEnd n xs
+indexedBy count place xs = counted place (size xs) ∷ []
+indexedBy all place xs = each xs
 
 abbrev pub inElements : Id → ℕ → Values → List Held
 inElements (name x) place xs = []
-inElements (position n) place xs = elementAt n xs
-inElements (fromEnd n) place xs = elementFromEnd n xs
-inElements count place xs = counted place (size xs) ∷ []
-inElements all place xs = each xs
+inElements (index i) place xs = indexedBy i place xs
 
 -- what one identifier names in one held value
 unfoldable pub step : Bool → Id → Held → List Held

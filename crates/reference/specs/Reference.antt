@@ -5,17 +5,20 @@ use mathlib.Core.Option.{Option, none, some}
 use mathlib.Core.List.{List, [], _∷_}
 use lib.ListN.{drop}
 use lib.Dec.{ltb, leb, eqb}
-use Rattle.octets.specs.Pick.{pick, both, either, no}
+use Rattle.octets.specs.Pick.{pick, both, either, no, consed, _>>=_}
 use Rattle.octets.specs.Octets.{octet, same, bytes}
 use Rattle.octets.specs.Text.{isLower, isAlnum, isNumber, decimal, pieces}
 
 -- "Identifiers on SEQUENCE and CHOICE; on SEQUENCE OF and SET OF a position from 1, `-`position from the end, `0` for the count, `*` for all."
+pub data Index : Type 0 where
+  position : ℕ → Index
+  fromEnd : ℕ → Index
+  count : Index
+  all : Index
+
 pub data Id : Type 0 where
   name : List ℕ → Id
-  position : ℕ → Id
-  fromEnd : ℕ → Id
-  count : Id
-  all : Id
+  index : Index → Id
 
 -- ASN.1 identifiers: a lowercase letter, then letters, digits and single hyphens, no hyphen last; after octet a
 unfoldable pub identifierFrom : ℕ → List ℕ → Bool
@@ -33,21 +36,18 @@ isPosition p = both (isNumber p) (no (same p (bytes "0")))
 -- one component identifier
 unfoldable pub idOf : List ℕ → Option Id
 idOf p =
-    pick (same p (bytes "*")) (some all)
-    (pick (same p (bytes "0")) (some count)
-    (pick (isPosition p) (some (position (decimal p)))
-    (pick (both (eqb (octet p 0) 45) (isPosition (drop 1 p))) (some (fromEnd (decimal (drop 1 p))))
+    pick (same p (bytes "*")) (some (index all))
+    (pick (same p (bytes "0")) (some (index count))
+    (pick (isPosition p) (some (index (position (decimal p))))
+    (pick (both (eqb (octet p 0) 45) (isPosition (drop 1 p))) (some (index (fromEnd (decimal (drop 1 p)))))
     (pick (isIdentifier p) (some (name p))
     none))))
 
-abbrev pub consed : Option Id → Option (List Id) → Option (List Id)
-consed none is = none
-consed (some i) none = none
-consed (some i) (some is) = some (i ∷ is)
-
 unfoldable pub idsOf : List (List ℕ) → Option (List Id)
 idsOf [] = some []
-idsOf (p ∷ ps) = let r = idsOf ps in consed (idOf p) r
+idsOf (p ∷ ps) = do
+  i ← idOf p
+  consed i (idsOf ps)
 
 -- the component identifiers of a reference; none where it is malformed
 unfoldable pub readReference : List ℕ → Option (List Id)

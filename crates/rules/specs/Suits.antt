@@ -34,19 +34,11 @@ unfoldable pub allStrings : Members → Bool
 allStrings noMore = true
 allStrings (more m ty ms) = let r = allStrings ms in both (both (isUntagged (m .tagging)) (isStringType ty)) r
 
-abbrev pub suitsChoice : Syntax → Members → Bool
-suitsChoice booleans ms = false
-suitsChoice integers ms = false
-suitsChoice objectIdentifiers ms = false
-suitsChoice octetStrings ms = false
-suitsChoice bitStrings ms = false
-suitsChoice (strings fold) ms = allStrings ms
-suitsChoice times ms = false
-
+-- a CHOICE of strings takes the rules that UTF8String takes
 unfoldable pub suitsTarget : Syntax → Target → Bool
 suitsTarget s (ofType (basic k)) = suitsKind s k
 suitsTarget s (ofType (sequence ms)) = false
-suitsTarget s (ofType (choice ms)) = suitsChoice s ms
+suitsTarget s (ofType (choice ms)) = both (suitsKind s kind.utf8String) (allStrings ms)
 suitsTarget s (ofType (listOf k ty)) = false
 suitsTarget s ofCount = suitsKind s kind.integer
 

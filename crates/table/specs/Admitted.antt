@@ -15,16 +15,17 @@ use Rattle.table.specs.Body.{rowFormed}
 use Rattle.table.specs.Types.{typeFrom}
 use Rattle.table.specs.Begins.{tagsApart}
 
+-- a test of every row, by its number
+abbrev pub everyRow : (ℕ → Bool) → List ℕ → Bool
+everyRow f s = all f (length s)
+
 -- "1 to 128 whole rows"
 unfoldable pub wholeRows : Limits → List ℕ → Bool
 wholeRows l s = within 1 (l .rows) (length s)
 
 -- the bodies are as the type table has them
-unfoldable pub formedAt : Limits → List ℕ → List ℕ → ℕ → Bool
-formedAt l t s i = rowFormed l t (rowAt s i)
-
-unfoldable pub bodiesFormed : Limits → List ℕ → List ℕ → Bool
-bodiesFormed l t s = all (formedAt l t s) (length s)
+unfoldable pub bodyFormed : Limits → List ℕ → List ℕ → ℕ → Bool
+bodyFormed l t s i = rowFormed l t (rowAt s i)
 
 -- "row 0 is a type"
 unfoldable pub isType : List ℕ → List ℕ → ℕ → Bool
@@ -42,9 +43,6 @@ pointsLater t s i =
     pick (isList (kindAt t (rowAt s i))) (laterType t s i (elementAt t (rowAt s i)))
     (pick (eqb (kindAt t (rowAt s i)) kind.member) (laterType t s i (typeRowAt t (rowAt s i)))
     true)
-
-unfoldable pub pointLater : List ℕ → List ℕ → Bool
-pointLater t s = all (pointsLater t s) (length s)
 
 -- "member rows stand directly after their SEQUENCE or CHOICE and nowhere else": so many members are still due before these rows
 unfoldable pub standing : List ℕ → ℕ → List ℕ → Bool
@@ -70,52 +68,37 @@ differsFrom l t s i b a = no (sameName l t (memberRow s i a) (memberRow s i b))
 unfoldable pub newName : Limits → List ℕ → List ℕ → ℕ → ℕ → Bool
 newName l t s i b = all (differsFrom l t s i b) b
 
-unfoldable pub namesDifferAt : Limits → List ℕ → List ℕ → ℕ → Bool
-namesDifferAt l t s i = all (newName l t s i) (membersAt t (rowAt s i))
-
-unfoldable pub namesDiffer : Limits → List ℕ → List ℕ → Bool
-namesDiffer l t s = all (namesDifferAt l t s) (length s)
+unfoldable pub namesDiffer : Limits → List ℕ → List ℕ → ℕ → Bool
+namesDiffer l t s i = all (newName l t s i) (membersAt t (rowAt s i))
 
 -- "alternatives are mandatory"
 unfoldable pub mandatoryAt : List ℕ → List ℕ → ℕ → ℕ → Bool
 mandatoryAt t s i j = eqb (presenceAt t (memberRow s i j)) 0
 
-unfoldable pub alternativesAt : List ℕ → List ℕ → ℕ → Bool
-alternativesAt t s i = either (no (eqb (kindAt t (rowAt s i)) kind.choice)) (all (mandatoryAt t s i) (membersAt t (rowAt s i)))
-
-unfoldable pub alternativesMandatory : List ℕ → List ℕ → Bool
-alternativesMandatory t s = all (alternativesAt t s) (length s)
+unfoldable pub alternativesMandatory : List ℕ → List ℕ → ℕ → Bool
+alternativesMandatory t s i = either (no (eqb (kindAt t (rowAt s i)) kind.choice)) (all (mandatoryAt t s i) (membersAt t (rowAt s i)))
 
 -- "no implicit tag on a CHOICE": member row i, whose type has kind k
 abbrev pub typeKind : List ℕ → List ℕ → ℕ → ℕ
 typeKind t s i = kindAt t (rowAt s (typeRowAt t (rowAt s i)))
 
-unfoldable pub taggableAt : List ℕ → List ℕ → ℕ → Bool
-taggableAt t s i =
+unfoldable pub noImplicitChoice : List ℕ → List ℕ → ℕ → Bool
+noImplicitChoice t s i =
     either (no (eqb (kindAt t (rowAt s i)) kind.member))
     (either (no (eqb (modeAt t (rowAt s i)) 2)) (no (eqb (typeKind t s i) kind.choice)))
-
-unfoldable pub noImplicitChoice : List ℕ → List ℕ → Bool
-noImplicitChoice t s = all (taggableAt t s) (length s)
 
 -- "defaults only on BOOLEAN, INTEGER, ENUMERATED, with legal DER contents of 1 to 8 octets (length 0 without presence 2)"
 unfoldable pub defaultAllowed : ℕ → List ℕ → Bool
 defaultAllowed k c = both (within kind.boolean kind.enumerated k) (legal k c)
 
-unfoldable pub defaultsAt : List ℕ → List ℕ → ℕ → Bool
-defaultsAt t s i =
+unfoldable pub defaultLegal : List ℕ → List ℕ → ℕ → Bool
+defaultLegal t s i =
     either (no (eqb (kindAt t (rowAt s i)) kind.member))
     (pick (eqb (presenceAt t (rowAt s i)) 2) (defaultAllowed (typeKind t s i) (defaultAt t (rowAt s i))) (eqb (defaultLengthAt t (rowAt s i)) 0))
 
-unfoldable pub defaultsLegal : List ℕ → List ℕ → Bool
-defaultsLegal t s = all (defaultsAt t s) (length s)
-
 -- "Alternatives' tags differ; so do those of a run of optional or default members and the mandatory one after it."
-unfoldable pub tagsDifferAt : Limits → List ℕ → List ℕ → ℕ → Bool
-tagsDifferAt l t s i = tagsApart (typeFrom (l .chain) l t s i)
-
-unfoldable pub tagsDiffer : Limits → List ℕ → List ℕ → Bool
-tagsDiffer l t s = all (tagsDifferAt l t s) (length s)
+unfoldable pub tagsDiffer : Limits → List ℕ → List ℕ → ℕ → Bool
+tagsDiffer l t s i = tagsApart (typeFrom (l .chain) l t s i)
 
 -- "A chain of rows, each naming the next as its element or as its member's type, has at most 16 type rows (member rows not counted)."
 -- Each chain from row i on has at most n type rows
@@ -129,23 +112,20 @@ chainFits (suc n) t s i =
     pick (isList (kindAt t (rowAt s i))) element
     (all (ofMember (chainFits n t s) t s i) (membersAt t (rowAt s i)))
 
-unfoldable pub chainsShort : Limits → List ℕ → List ℕ → Bool
-chainsShort l t s = all (chainFits (l .chain) t s) (length s)
-
 -- all clauses
 unfoldable pub admittedRows : Limits → List ℕ → List ℕ → Bool
 admittedRows l t s =
     both (wholeRows l s)
-    (both (bodiesFormed l t s)
+    (both (everyRow (bodyFormed l t s) s)
     (both (firstIsType t s)
-    (both (pointLater t s)
+    (both (everyRow (pointsLater t s) s)
     (both (membersStand t s)
-    (both (namesDiffer l t s)
-    (both (alternativesMandatory t s)
-    (both (noImplicitChoice t s)
-    (both (defaultsLegal t s)
-    (both (chainsShort l t s)
-    (tagsDiffer l t s))))))))))
+    (both (everyRow (namesDiffer l t s) s)
+    (both (everyRow (alternativesMandatory t s) s)
+    (both (everyRow (noImplicitChoice t s) s)
+    (both (everyRow (defaultLegal t s) s)
+    (both (everyRow (chainFits (l .chain) t s) s)
+    (everyRow (tagsDiffer l t s) s))))))))))
 
 unfoldable pub admitted : Limits → List ℕ → Bool
 admitted l t = admittedRows l t (rows (l .rows) t)

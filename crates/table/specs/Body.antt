@@ -47,8 +47,8 @@ unfoldable pub defaultFilled : List ℕ → ℕ → Bool
 defaultFilled t p = both (leb (defaultLengthAt t p) 8) (every isZero (part t (p + 31 + defaultLengthAt t p) (8 - defaultLengthAt t p)))
 
 -- a member's body
-unfoldable pub bodyFormed : Limits → List ℕ → ℕ → Bool
-bodyFormed l t p = both (nameFormed l t p) (both (tagFormed t p) (both (presenceFormed t p) (defaultFilled t p)))
+unfoldable pub memberFormed : Limits → List ℕ → ℕ → Bool
+memberFormed l t p = both (nameFormed l t p) (both (tagFormed t p) (both (presenceFormed t p) (defaultFilled t p)))
 
 unfoldable pub rowFormed : Limits → List ℕ → ℕ → Bool
-rowFormed l t p = pick (eqb (kindAt t p) kind.member) (bodyFormed l t p) (countFormed l t p)
+rowFormed l t p = pick (eqb (kindAt t p) kind.member) (memberFormed l t p) (countFormed l t p)

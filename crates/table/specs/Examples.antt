@@ -10,7 +10,7 @@ use Rattle.table.specs.Paper.{tableLimits, memberRow, licence}
 use Rattle.table.specs.Row.{rows}
 use Rattle.table.specs.Types.{typeAt}
 use Rattle.table.specs.Begins.{begins}
-use Rattle.table.specs.Admitted.{wholeRows, bodiesFormed, firstIsType, pointLater, membersStand, namesDiffer, alternativesMandatory, noImplicitChoice, defaultsLegal, chainsShort, tagsDiffer}
+use Rattle.table.specs.Admitted.{everyRow, wholeRows, bodyFormed, firstIsType, pointsLater, membersStand, namesDiffer, alternativesMandatory, noImplicitChoice, defaultLegal, chainFits, tagsDiffer}
 use Rattle.table.specs.Check.{TableReport, refused, admits, tableReport}
 use Rattle.table.specs.Computing.{tableComputes}
 
@@ -28,8 +28,8 @@ answer t = tableReport tableLimits t
 -- the clauses, each on its own
 clausesOf : List ℕ → List ℕ → List Bool
 clausesOf t s =
-    wholeRows tableLimits s ∷ bodiesFormed tableLimits t s ∷ firstIsType t s ∷ pointLater t s ∷ membersStand t s ∷ namesDiffer tableLimits t s
-    ∷ alternativesMandatory t s ∷ noImplicitChoice t s ∷ defaultsLegal t s ∷ chainsShort tableLimits t s ∷ tagsDiffer tableLimits t s ∷ []
+    wholeRows tableLimits s ∷ everyRow (bodyFormed tableLimits t s) s ∷ firstIsType t s ∷ everyRow (pointsLater t s) s ∷ membersStand t s ∷ everyRow (namesDiffer tableLimits t s) s
+    ∷ everyRow (alternativesMandatory t s) s ∷ everyRow (noImplicitChoice t s) s ∷ everyRow (defaultLegal t s) s ∷ everyRow (chainFits 16 t s) s ∷ everyRow (tagsDiffer tableLimits t s) s ∷ []
 
 clauses : List ℕ → List Bool
 clauses t = clausesOf t (rows 128 t)

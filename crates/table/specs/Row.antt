@@ -6,7 +6,7 @@ use mathlib.Core.Option.{Option, none, some}
 use mathlib.Core.List.{List, [], _∷_}
 use lib.ListN.{getD, length}
 use lib.Dec.{ltb, leb, eqb}
-use Rattle.octets.specs.Pick.{pick, both, either}
+use Rattle.octets.specs.Pick.{pick, either, consed}
 use Rattle.octets.specs.Octets.{octet, two, part}
 use Rattle.octets.specs.Text.{within}
 use Rattle.der.specs.Kind as kind
@@ -61,10 +61,6 @@ rowSize k =
     (pick (isList k) 3
     (pick (eqb k kind.member) 39
     0)))
-
-abbrev pub consed : ℕ → Option (List ℕ) → Option (List ℕ)
-consed p none = none
-consed p (some ps) = some (p ∷ ps)
 
 -- the rows from a place on: whole ones, at most n of them
 unfoldable pub rowsFrom : ℕ → List ℕ → ℕ → Option (List ℕ)

@@ -90,14 +90,14 @@ choices = refl
 -- places: a CHOICE starts at its alternative's first octet, the alternative inside its wrapper
 places : storedValue nested (hex "A3030101FF")
     ≡ some (chosen (record { place = 0; size = 5; contents = hex "0101FF" }) (plain "a" untagged mandatory)
-        (chosen (record { place = 0; size = 5; contents = hex "0101FF" }) (plain "c" (explicit 3) mandatory) (leaf 1 (record { place = 2; size = 3; contents = hex "FF" }))))
+    (chosen (record { place = 0; size = 5; contents = hex "0101FF" }) (plain "c" (explicit 3) mandatory) (leaf 1 (record { place = 2; size = 3; contents = hex "FF" }))))
 unfolding valueComputes
 places = refl
 
 -- a member inside its explicit wrapper, then an absent one
 member-places : storedValue (sequence (more (plain "a" (explicit 0) mandatory) (basic 2) (more (plain "b" untagged optional) (basic 1) noMore))) (hex "3005A003020105")
     ≡ some (fields (record { place = 0; size = 7; contents = hex "A003020105" }) (present (plain "a" (explicit 0) mandatory) (leaf 2 (record { place = 4; size = 3; contents = hex "05" }))
-        (absent (plain "b" untagged optional) endFields)))
+    (absent (plain "b" untagged optional) endFields)))
 unfolding valueComputes
 member-places = refl
 
