@@ -53,10 +53,10 @@ decimalFrom n (b ∷ bs) = decimalFrom (n * 10 + (b - 48)) bs
 abbrev pub decimal : List ℕ → ℕ
 decimal s = decimalFrom 0 s
 
--- decimal digits, at least one, without leading zeros
+-- decimal digits, at least one, without leading zeros: a 0 stands alone
 unfoldable pub isNumber : List ℕ → Bool
 isNumber [] = false
-isNumber (b ∷ bs) = both (every isDigit (b ∷ bs)) (either (eqb (length bs) 0) (ltb 48 b))
+isNumber (b ∷ bs) = pick (eqb b 48) (eqb (length bs) 0) (every isDigit (b ∷ bs))
 
 -- without its spaces at the end
 unfoldable pub trimmed : List ℕ → List ℕ

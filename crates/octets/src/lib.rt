@@ -1,1 +1,370 @@
-// Octets and text: the lowest layer. Its definitions are in specs/.
+// Octets and text: the lowest layer. Reads past the end give 0, so nothing is asked of a caller.
+ghost use mathlib.Core.Path.{_≡_};
+ghost use Prim.Native.Nat.{_-_};
+ghost use lib.ListN.{drop};
+ghost use Rattle.octets.specs.Octets as octets;
+ghost use Rattle.octets.specs.Text as text;
+ghost use Rattle.octets.specs.Utf8 as unicode;
+ghost use Rattle.octets.specs.Quoted.{closingAt, closing};
+ghost use Rattle.octets.specs.Answers.{clip, told, growOf};
+
+// A number of any size: below 2^64, or beyond.
+pub enum Size {
+    Of(u64),
+    Beyond,
+}
+
+// A place in a text, or none.
+pub enum Place {
+    At(usize),
+    Nowhere,
+}
+
+// What may come next in UTF-8: so many octets of a character, the next of them within bounds; or nothing.
+pub enum Awaiting {
+    Tails(u8, u8, u8),
+    Broken,
+}
+
+// The octet at a place, 0 past the end.
+pub fn octet(s: &[u8], i: usize) -> u8
+    ensures { λ r. ⌜ r ≡ octets.octet (now (s .entry)) i ⌝ }
+{
+    if s.len() <= i {
+        return 0;
+    }
+    s[i]
+}
+
+// An octet as a wider number.
+pub fn wide(b: u8) -> usize
+    ensures { λ r. ⌜ r ≡ b ⌝ }
+{
+    b as usize
+}
+
+pub fn wide64(b: u8) -> u64
+    ensures { λ r. ⌜ r ≡ b ⌝ }
+{
+    b as u64
+}
+
+// Up to n octets from a place on, as many as there are.
+pub fn part(s: &[u8], at: usize, n: usize) -> &[u8]
+    ensures { λ r. ⌜ now r ≡ octets.part (now (s .entry)) at n ⌝ }
+{
+    if s.len() <= at {
+        return &s[s.len()..];
+    }
+    if s.len() - at <= n {
+        return &s[at..];
+    }
+    let end = at + n;
+    &s[at..end]
+}
+
+// ---- characters
+pub fn is_digit(b: u8) -> bool
+    ensures { λ r. ⌜ r ≡ text.isDigit b ⌝ }
+{
+    if b < 48 {
+        return false;
+    }
+    b <= 57
+}
+
+pub fn is_lower(b: u8) -> bool
+    ensures { λ r. ⌜ r ≡ text.isLower b ⌝ }
+{
+    if b < 97 {
+        return false;
+    }
+    b <= 122
+}
+
+pub fn is_upper(b: u8) -> bool
+    ensures { λ r. ⌜ r ≡ text.isUpper b ⌝ }
+{
+    if b < 65 {
+        return false;
+    }
+    b <= 90
+}
+
+pub fn is_letter(b: u8) -> bool
+    ensures { λ r. ⌜ r ≡ text.isLetter b ⌝ }
+{
+    if is_lower(b) {
+        return true;
+    }
+    is_upper(b)
+}
+
+pub fn is_alnum(b: u8) -> bool
+    ensures { λ r. ⌜ r ≡ text.isAlnum b ⌝ }
+{
+    if is_letter(b) {
+        return true;
+    }
+    is_digit(b)
+}
+
+// A to Z turned into a to z.
+pub fn lower(b: u8) -> u8
+    ensures { λ r. ⌜ r ≡ text.lower b ⌝ }
+{
+    if b < 65 {
+        return b;
+    }
+    if 90 < b {
+        return b;
+    }
+    b + 32
+}
+
+// ---- words and spaces
+// Whether a word stands at a place.
+pub fn starts(s: &[u8], at: usize, w: &[u8]) -> bool
+    ensures { λ r. ⌜ r ≡ text.starts (now (w .entry)) (drop at (now (s .entry))) ⌝ }
+{
+    let mut i = 0;
+    let mut p = at;
+    while i < w.len() {
+        if s.len() <= p {
+            return false;
+        }
+        if s[p] != w[i] {
+            return false;
+        }
+        i += 1;
+        p += 1;
+    }
+    true
+}
+
+// The first place at or after this one that has no space.
+pub fn skip(s: &[u8], at: usize) -> usize
+    ensures { λ r. ⌜ r ≡ text.skip (now (s .entry)) at ⌝ }
+{
+    let mut i = at;
+    while i < s.len() {
+        if s[i] != 32 {
+            return i;
+        }
+        i += 1;
+    }
+    i
+}
+
+// ---- decimal numbers
+// Whether all octets are decimal digits.
+pub fn all_digits(s: &[u8]) -> bool
+    ensures { λ r. ⌜ r ≡ octets.every text.isDigit (now (s .entry)) ⌝ }
+{
+    let mut i = 0;
+    while i < s.len() {
+        if !is_digit(s[i]) {
+            return false;
+        }
+        i += 1;
+    }
+    true
+}
+
+// Whether a text is a decimal number without leading zeros.
+pub fn is_number(s: &[u8]) -> bool
+    ensures { λ r. ⌜ r ≡ text.isNumber (now (s .entry)) ⌝ }
+{
+    if s.len() == 0 {
+        return false;
+    }
+    if s[0] == 48 {
+        return s.len() == 1;
+    }
+    all_digits(s)
+}
+
+// The value of a decimal digit.
+pub fn digit(b: u8) -> u64
+    ensures { λ r. ⌜ r ≡ b - 48 ⌝ }
+{
+    if b < 48 {
+        return 0;
+    }
+    (b - 48) as u64
+}
+
+// A number with one digit more.
+pub fn grow(size: Size, d: u64) -> Size
+    ensures { λ r. ⌜ r ≡ growOf size d ⌝ }
+{
+    let Size::Of(n) = size else {
+        return Size::Beyond;
+    };
+    if 1844674407370955161 < n {
+        return Size::Beyond;
+    }
+    if 18446744073709551615 - n * 10 < d {
+        return Size::Beyond;
+    }
+    Size::Of(n * 10 + d)
+}
+
+// The number that decimal digits stand for.
+pub fn decimal(s: &[u8]) -> Size
+    ensures { λ r. ⌜ r ≡ clip (text.decimal (now (s .entry))) ⌝ }
+{
+    let mut i = 0;
+    let mut size = Size::Of(0);
+    while i < s.len() {
+        size = grow(size, digit(s[i]));
+        i += 1;
+    }
+    size
+}
+
+// ---- UTF-8
+fn after_first(b: u8) -> Awaiting
+    ensures { λ r. ⌜ r ≡ unicode.afterFirst b ⌝ }
+{
+    if b < 128 {
+        return Awaiting::Tails(0, 128, 191);
+    }
+    if b < 194 {
+        return Awaiting::Broken;
+    }
+    if b < 224 {
+        return Awaiting::Tails(1, 128, 191);
+    }
+    if b == 224 {
+        return Awaiting::Tails(2, 160, 191);
+    }
+    if b == 237 {
+        return Awaiting::Tails(2, 128, 159);
+    }
+    if b < 240 {
+        return Awaiting::Tails(2, 128, 191);
+    }
+    if b == 240 {
+        return Awaiting::Tails(3, 144, 191);
+    }
+    if b < 244 {
+        return Awaiting::Tails(3, 128, 191);
+    }
+    if b == 244 {
+        return Awaiting::Tails(3, 128, 143);
+    }
+    Awaiting::Broken
+}
+
+fn after(a: Awaiting, b: u8) -> Awaiting
+    ensures { λ r. ⌜ r ≡ unicode.after a b ⌝ }
+{
+    let Awaiting::Tails(n, least, most) = a else {
+        return Awaiting::Broken;
+    };
+    if n == 0 {
+        return after_first(b);
+    }
+    if b < least {
+        return Awaiting::Broken;
+    }
+    if most < b {
+        return Awaiting::Broken;
+    }
+    Awaiting::Tails(n - 1, 128, 191)
+}
+
+fn may_end(a: Awaiting) -> bool
+    ensures { λ r. ⌜ r ≡ unicode.mayEnd a ⌝ }
+{
+    let Awaiting::Tails(n, _, _) = a else {
+        return false;
+    };
+    n == 0
+}
+
+// Whether octets are valid UTF-8, in one pass.
+pub fn utf8(s: &[u8]) -> bool
+    ensures { λ r. ⌜ r ≡ unicode.utf8 (now (s .entry)) ⌝ }
+{
+    let mut i = 0;
+    let mut a = Awaiting::Tails(0, 128, 191);
+    while i < s.len() {
+        a = after(a, s[i]);
+        i += 1;
+    }
+    may_end(a)
+}
+
+// ---- quoted strings
+// The closing quote from a place on: the first quote that no quote follows.
+fn find_closing(s: &[u8], at: usize) -> Place
+    ensures { λ r. ⌜ told r ≡ closing (drop at (now (s .entry))) at ⌝ }
+{
+    let mut i = at;
+    while i < s.len() {
+        if s[i] != 34 {
+            i += 1;
+        } else {
+            if s.len() - i < 2 {
+                return Place::At(i);
+            }
+            if s[i + 1] != 34 {
+                return Place::At(i);
+            }
+            i += 2;
+        }
+    }
+    Place::Nowhere
+}
+
+// The closing quote of the quoted string that opens at a place.
+pub fn closing_at(s: &[u8], at: usize) -> Place
+    ensures { λ r. ⌜ told r ≡ closingAt (now (s .entry)) at ⌝ }
+{
+    if s.len() <= at {
+        return Place::Nowhere;
+    }
+    if s[at] != 34 {
+        return Place::Nowhere;
+    }
+    find_closing(s, at + 1)
+}
+
+// ---- two texts
+pub fn same(a: &[u8], b: &[u8]) -> bool
+    ensures { λ r. ⌜ r ≡ octets.same (now (a .entry)) (now (b .entry)) ⌝ }
+{
+    if a.len() != b.len() {
+        return false;
+    }
+    let mut i = 0;
+    while i < a.len() {
+        if a[i] != b[i] {
+            return false;
+        }
+        i += 1;
+    }
+    true
+}
+
+// Whether a is less than b, from the first octet on; a proper prefix is less.
+pub fn below(a: &[u8], b: &[u8]) -> bool
+    ensures { λ r. ⌜ r ≡ octets.below (now (a .entry)) (now (b .entry)) ⌝ }
+{
+    let mut i = 0;
+    while i < a.len() {
+        if b.len() <= i {
+            return false;
+        }
+        if a[i] < b[i] {
+            return true;
+        }
+        if b[i] < a[i] {
+            return false;
+        }
+        i += 1;
+    }
+    i < b.len()
+}
