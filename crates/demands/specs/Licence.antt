@@ -1,6 +1,6 @@
 -- One licence record: P1..P12 as one table under one statement, and the "Run only" cases as another.
 use mathlib.Core.Path.{_≡_, refl}
-use mathlib.Core.Bool.{Bool, true, false}
+use mathlib.Core.Bool.{true}
 use mathlib.Core.List.{List, [], _∷_, _++_, map}
 use Prim.Native.Nat.{ℕ}
 use Prim.Native.String.{String}
@@ -19,27 +19,29 @@ pub data Question : Type 0 where
   asks : List ℕ → ℕ → Question
   lists : String → ℕ → Question
 
--- a truth and the tests; or the number of values and the room afterwards; or a refusal
+-- the answer to a filter; or the listing's, with the room afterwards
 pub data Reply : Type 0 where
-  truth : Truth → ℕ → Reply
-  room : ℕ → List ℕ → Reply
-  refusal : ℕ → Reply
+  answered : answer.Report → Reply
+  listed : listing.Listing → Reply
 
-abbrev pub toAnswer : answer.Report → Reply
-toAnswer (answer.refused n) = refusal n
-toAnswer (answer.answers u n) = truth u n
+abbrev pub truth : Truth → ℕ → Reply
+truth u n = answered (answer.answers u n)
 
-abbrev pub toList : listing.ListReport → List ℕ → Reply
-toList (listing.refused n) memory = refusal n
-toList (listing.lists n) memory = room n memory
+abbrev pub refusal : ℕ → Reply
+refusal n = answered (answer.refused n)
 
-abbrev pub toListing : listing.Listing → Reply
-toListing l = toList (l .report) (l .memory)
+-- so many values, and what the room holds
+abbrev pub room : ℕ → List ℕ → Reply
+room n memory = listed (record { report = listing.lists n; memory = memory })
+
+-- a refusal, with the room as it was
+abbrev pub noRoom : ℕ → ℕ → Reply
+noRoom n size = listed (listing.refusedList n (replicate size 99))
 
 -- what the definitions say of the licence table and a record; a room is lent full of the number 99
 unfoldable pub replyFor : List ℕ → Question → Reply
-replyFor v (asks f budget) = toAnswer (answer.askReport limits licence v f budget)
-replyFor v (lists r n) = toListing (listing.listReport limits licence v true (bytes r) true (replicate n 99))
+replyFor v (asks f budget) = answered (answer.askReport limits licence v f budget)
+replyFor v (lists r n) = listed (listing.listReport limits licence v true (bytes r) true (replicate n 99))
 
 pub record Row : Type 0 where
   pub question : Question
@@ -97,7 +99,7 @@ abbrev pub runOnly : List Row
 runOnly =
     record { question = asks (put "parts.*.copies" "integerMatch" "3") 1; reply = refusal 5 }
     ∷ record { question = asks (put "parts.*.copies" "integerMatch" "3") 2; reply = truth TRUE 2 }
-    ∷ record { question = lists "parts.*.copies" 5; reply = refusal 6 }
+    ∷ record { question = lists "parts.*.copies" 5; reply = noRoom 6 5 }
     ∷ record { question = lists "parts.*.copies" 6; reply = room 2 (1 ∷ 8 ∷ 9 ∷ 0 ∷ 20 ∷ 3 ∷ []) }
     ∷ []
 

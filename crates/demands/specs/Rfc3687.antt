@@ -1,14 +1,13 @@
 -- The examples of RFC 3687, sections 3.1.5 and 7, that document 01's base can express.
 use mathlib.Core.Path.{_≡_, refl}
-use mathlib.Core.Bool.{Bool, true, false}
+use mathlib.Core.Bool.{true}
 use mathlib.Core.List.{List, [], _∷_, _++_, map}
 use Prim.Native.Nat.{ℕ}
 use Prim.Native.String.{String}
-use lib.ListN.{replicate}
 use Rattle.octets.specs.Octets.{bytes, hex}
 use Rattle.table.specs.Paper.{memberRow}
 use Rattle.engine.specs.Paper.{limits}
-use Rattle.engine.specs.Truth.{Truth, TRUE, FALSE, UNDEFINED}
+use Rattle.engine.specs.Truth.{TRUE, FALSE, UNDEFINED}
 use Rattle.engine.specs.Answer.{Report, answers, askReport}
 use Rattle.engine.specs.Computing.{engineComputes}
 use Rattle.demands.specs.Shown.{shownTable, shownValue, shownList}
@@ -60,66 +59,66 @@ descriptions-good : shownTable objectClassDescription ∷ map (shownValue object
 unfolding engineComputes
 descriptions-good = refl
 
-unfoldable pub ask : List ℕ → List ℕ → Report
-ask f v = askReport limits objectClassDescription v f 65535
+unfoldable pub answerOf : List ℕ → List ℕ → Report
+answerOf f v = askReport limits objectClassDescription v f 65535
 
 unfoldable pub asked : String → List Report
-asked f = map (ask (bytes f)) described
+asked f = map (answerOf (bytes f)) described
 
 -- the object class 2.5.6.18
 pub identifiers : asked "item:{ component \"identifier\", rule objectIdentifierMatch, value 2.5.6.18 }" ≡ answers TRUE 1 ∷ answers TRUE 1 ∷ answers TRUE 1 ∷ answers TRUE 1 ∷ []
-unfolding engineComputes ask asked
+unfolding engineComputes answerOf asked
 identifiers = refl
 
 -- called foobar
 pub called : asked "item:{ component \"name.*\", rule caseIgnoreMatch, value \"foobar\" }" ≡ answers TRUE 1 ∷ answers TRUE 2 ∷ answers FALSE 0 ∷ answers FALSE 0 ∷ []
-unfolding engineComputes ask asked
+unfolding engineComputes answerOf asked
 called = refl
 
 -- with exactly one name
 pub one-name : asked "item:{ component \"name.0\", rule integerMatch, value 1 }" ≡ answers TRUE 1 ∷ answers FALSE 1 ∷ answers FALSE 0 ∷ answers FALSE 1 ∷ []
-unfolding engineComputes ask asked
+unfolding engineComputes answerOf asked
 one-name = refl
 
 -- that have descriptions, and that don't
 pub with-description : asked "item:{ component \"description\", rule presentMatch, value NULL }" ≡ answers FALSE 0 ∷ answers TRUE 1 ∷ answers FALSE 0 ∷ answers FALSE 0 ∷ []
-unfolding engineComputes ask asked
+unfolding engineComputes answerOf asked
 with-description = refl
 
 pub without-description : asked "not:item:{ component \"description\", rule presentMatch, value NULL }" ≡ answers TRUE 0 ∷ answers FALSE 1 ∷ answers TRUE 0 ∷ answers TRUE 0 ∷ []
-unfolding engineComputes ask asked
+unfolding engineComputes answerOf asked
 without-description = refl
 
 -- obsolete ones; those that aren't; those where FALSE was stored, which DER never has
 pub obsolete : asked "item:{ component \"obsolete\", rule booleanMatch, value TRUE }" ≡ answers FALSE 1 ∷ answers TRUE 1 ∷ answers FALSE 1 ∷ answers FALSE 1 ∷ []
-unfolding engineComputes ask asked
+unfolding engineComputes answerOf asked
 obsolete = refl
 
 pub in-use : asked "item:{ component \"obsolete\", rule booleanMatch, value FALSE }" ≡ answers TRUE 1 ∷ answers FALSE 1 ∷ answers TRUE 1 ∷ answers TRUE 1 ∷ []
-unfolding engineComputes ask asked
+unfolding engineComputes answerOf asked
 in-use = refl
 
 pub stored-false : asked "item:{ component \"obsolete\", useDefaultValues FALSE, rule booleanMatch, value FALSE }" ≡ answers FALSE 0 ∷ answers FALSE 1 ∷ answers FALSE 0 ∷ answers FALSE 0 ∷ []
-unfolding engineComputes ask asked
+unfolding engineComputes answerOf asked
 stored-false = refl
 
 -- with a mandatory attribute, by its object identifier; by its name, and by rules that the base doesn't know, the assertion is Undefined
 pub mandatory : asked "item:{ component \"information.mandatories.*\", rule objectIdentifierMatch, value 2.5.4.3 }" ≡ answers TRUE 1 ∷ answers TRUE 1 ∷ answers TRUE 1 ∷ answers TRUE 1 ∷ []
-unfolding engineComputes ask asked
+unfolding engineComputes answerOf asked
 mandatory = refl
 
-pub undefined : map (λ f. ask (bytes f) (hex "30190603550612A012301031050603550600A30731050603550403")) ("item:{ component \"information.mandatories.*\", rule objectIdentifierMatch, value cn }"
+pub undefined : map (λ f. answerOf (bytes f) (hex "30190603550612A012301031050603550600A30731050603550403")) ("item:{ component \"information.mandatories.*\", rule objectIdentifierMatch, value cn }"
     ∷ "item:{ component \"information.kind\", rule allComponentsMatch, value auxiliary }" ∷ "item:{ component \"description\", rule caseIgnoreSubstringsMatch, value { any:\"bogus\" } }" ∷ [])
     ≡ answers UNDEFINED 0 ∷ answers UNDEFINED 0 ∷ answers UNDEFINED 0 ∷ []
-unfolding engineComputes ask
+unfolding engineComputes answerOf
 undefined = refl
 
 -- less than three names, a present but empty list included, an absent one not; and with an absent one too
 pub few-names : asked "item:{ component \"name.0\", rule integerOrderingMatch, value 3 }" ≡ answers TRUE 1 ∷ answers TRUE 1 ∷ answers FALSE 0 ∷ answers TRUE 1 ∷ []
-unfolding engineComputes ask asked
+unfolding engineComputes answerOf asked
 few-names = refl
 
 pub few-or-none : asked "or:{ not:item:{ component \"name\", rule presentMatch, value NULL }, item:{ component \"name.0\", rule integerOrderingMatch, value 3 } }"
     ≡ answers TRUE 2 ∷ answers TRUE 2 ∷ answers TRUE 0 ∷ answers TRUE 2 ∷ []
-unfolding engineComputes ask asked
+unfolding engineComputes answerOf asked
 few-or-none = refl

@@ -29,26 +29,25 @@ unfoldable pub legalNull : List ℕ → Bool
 legalNull c = eqb (length c) 0
 
 -- ---- OBJECT IDENTIFIER: subidentifiers, base 128; each octet but a subidentifier's last has its top bit set
--- the subidentifiers from here on, after octets of one that stand for n (inside), or at the start of one; shortest, so none starts with 80
+-- the subidentifiers from here on, after octets of one that stand for n (inside), or at the start of one; up to 4294967295; shortest, so that
+-- none starts with 80
 unfoldable pub subsFrom : Bool → ℕ → List ℕ → Option (List ℕ)
 subsFrom inside n [] = pick inside none (some [])
 subsFrom inside n (b ∷ bs) =
     let longer = subsFrom true (n * 128 + b % 128) bs in
     let next = subsFrom false 0 bs in
     pick (both (no inside) (eqb b 128)) none
+    (pick (ltb 4294967295 (n * 128 + b % 128)) none
     (pick (leb 128 b) longer
-    (consed (n * 128 + b) next))
+    (consed (n * 128 + b % 128) next)))
 
 unfoldable pub subidentifiers : List ℕ → Option (List ℕ)
 subidentifiers c = subsFrom false 0 c
 
--- up to 4294967295
-abbrev pub smallArc : ℕ → Bool
-smallArc n = leb n 4294967295
-
+-- 1..32 of them
 abbrev pub legalSubs : Option (List ℕ) → Bool
 legalSubs none = false
-legalSubs (some l) = both (within 1 32 (length l)) (every smallArc l)
+legalSubs (some l) = within 1 32 (length l)
 
 unfoldable pub legalOid : List ℕ → Bool
 legalOid c = legalSubs (subidentifiers c)

@@ -3,7 +3,7 @@ use Prim.Native.Nat.{ℕ}
 use mathlib.Core.Bool.{Bool, true, false}
 use mathlib.Core.List.{List, [], _∷_, map}
 use lib.Dec.{ltb, leb, eqb}
-use Rattle.octets.specs.Pick.{pick, both, either}
+use Rattle.octets.specs.Pick.{both, either}
 use Rattle.octets.specs.Text.{isNumber, decimalFrom, pieces}
 
 unfoldable pub everyNumber : List (List ℕ) → Bool

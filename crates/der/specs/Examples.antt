@@ -1,20 +1,20 @@
 -- Computed examples: boundary cases.
 use mathlib.Core.Path.{_≡_, refl}
 use mathlib.Core.Bool.{Bool, true, false}
-use mathlib.Core.List.{List, [], _∷_, _++_, map}
+use mathlib.Core.List.{[], _∷_, _++_, map}
 use Prim.Native.Nat.{ℕ}
 use Prim.Native.String.{String}
 use lib.ListN.{length, replicate}
 use Rattle.octets.specs.Octets.{bytes, hex}
 use Rattle.der.specs.Kind as kind
 use Rattle.der.specs.Tag.{class, constructed, number, tagOf, ownOctet}
-use Rattle.der.specs.Header.{headerAt, bodyAt}
+use Rattle.der.specs.Header.{headerAt, insideAt}
 use Rattle.der.specs.declared.Header.{Header}
 use Rattle.der.specs.declared.Header.the-variants.{Found, Misfit}
-use Rattle.der.specs.declared.Body.{Body}
+use Rattle.der.specs.declared.Inside.{Inside}
 use Rattle.der.specs.Contents.{legal}
 use Rattle.der.specs.Time.{timeOf, sameTime, earlier}
-use Rattle.der.specs.Meaning.{Whole, plus, integerOf, lessWhole, arcsOf, bitsOf}
+use Rattle.der.specs.Meaning.{plus, integerOf, arcsOf, bitsOf}
 use Rattle.der.specs.Dotted.{isDotted, dottedArcs}
 use Rattle.der.specs.Computing.{derComputes}
 
@@ -44,7 +44,7 @@ unfolding derComputes headerOf
 headers = refl
 
 -- a header inside an end that it passes, and one with another tag
-bodies : bodyAt 2 (hex "020101") 0 3 ∷ bodyAt 2 (hex "020101") 0 2 ∷ bodyAt 10 (hex "020101") 0 3 ∷ [] ≡ Body.Of 2 1 ∷ Body.Refused ∷ Body.Refused ∷ []
+bodies : insideAt 2 (hex "020101") 0 3 ∷ insideAt 2 (hex "020101") 0 2 ∷ insideAt 10 (hex "020101") 0 3 ∷ [] ≡ Inside.Of 2 1 ∷ Inside.Misfit ∷ Inside.Misfit ∷ []
 unfolding derComputes
 bodies = refl
 

@@ -1,7 +1,6 @@
 -- Lengths and headers. "tag 31 is not used. Lengths are definite and shortest: one octet below 128, else 81 or 82 (hex) with one or two octets."
-use Prim.Native.Nat.{ℕ, _+_, _-_, _*_}
-use mathlib.Core.Bool.{Bool, true, false}
-use mathlib.Core.Option.{Option, none, some}
+use Prim.Native.Nat.{ℕ, _+_, _-_}
+use mathlib.Core.Option.{Option, none}
 use mathlib.Core.List.{List}
 use lib.Dec.{ltb, leb, eqb}
 use Rattle.octets.specs.Pick.{pick}
@@ -9,13 +8,13 @@ use Rattle.octets.specs.Octets.{octet, two}
 use Rattle.der.specs.Tag.{number}
 use Rattle.der.specs.declared.Length.{Length}
 use Rattle.der.specs.declared.Header.{Header}
-use Rattle.der.specs.declared.Body.{Body}
+use Rattle.der.specs.declared.Inside.{Inside}
 
 -- a length above one octet: n, whose octets end at next, has to be at least `least`
 unfoldable pub longLength : ℕ → ℕ → ℕ → ℕ → Length
 longLength n least next end = pick (ltb end next) Length.Unusable (pick (ltb n least) Length.Unusable (Length.Of n next))
 
--- the length at a place, whose octets lie before end
+-- the length at a place, whose octets lie before end; "Where a length octet isn't usable the check ends there."
 unfoldable pub lengthAt : List ℕ → ℕ → ℕ → Length
 lengthAt s at end =
     pick (leb end at) Length.Unusable
@@ -37,20 +36,20 @@ headerAt s at end =
     (sized (octet s at) end (lengthAt s (at + 1) end)))
 
 -- a header that is to have the tag octet o
-abbrev pub tagged : ℕ → Header → Body
-tagged o Header.Misfit = Body.Refused
-tagged o (Header.Found u start len) = pick (eqb u o) (Body.Of start len) Body.Refused
+abbrev pub tagged : ℕ → Header → Inside
+tagged o Header.Misfit = Inside.Misfit
+tagged o (Header.Found u start len) = pick (eqb u o) (Inside.Of start len) Inside.Misfit
 
 -- the contents at a place behind the tag octet o, before end
-unfoldable pub bodyAt : ℕ → List ℕ → ℕ → ℕ → Body
-bodyAt o s at end = tagged o (headerAt s at end)
+unfoldable pub insideAt : ℕ → List ℕ → ℕ → ℕ → Inside
+insideAt o s at end = tagged o (headerAt s at end)
 
 -- any header's contents
-abbrev pub anyTag : Header → Body
-anyTag Header.Misfit = Body.Refused
-anyTag (Header.Found u start len) = Body.Of start len
+abbrev pub anyTag : Header → Inside
+anyTag Header.Misfit = Inside.Misfit
+anyTag (Header.Found u start len) = Inside.Of start len
 
 -- what f makes of contents, where there are some
-abbrev pub opened : {A : Type 0} → Body → (ℕ → ℕ → Option A) → Option A
-opened Body.Refused f = none
-opened (Body.Of start len) f = f start len
+abbrev pub opened : {A : Type 0} → Inside → (ℕ → ℕ → Option A) → Option A
+opened Inside.Misfit f = none
+opened (Inside.Of start len) f = f start len

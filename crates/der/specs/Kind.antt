@@ -1,8 +1,8 @@
 -- The kinds of a type, by document 01's numbers (Type table).
 use Prim.Native.Nat.{ℕ}
-use mathlib.Core.Bool.{Bool, true, false}
-use lib.Dec.{ltb, leb, eqb}
-use Rattle.octets.specs.Pick.{pick, either}
+use mathlib.Core.Bool.{Bool}
+use lib.Dec.{eqb}
+use Rattle.octets.specs.Pick.{either}
 use Rattle.octets.specs.Text.{within}
 
 abbrev pub boolean : ℕ
@@ -57,6 +57,6 @@ member = 16
 unfoldable pub isString : ℕ → Bool
 isString k = within utf8String ia5String k
 
--- kinds whose values hold other values
+-- kinds whose tag octet has the constructed bit
 unfoldable pub isConstructed : ℕ → Bool
 isConstructed k = either (eqb k sequence) (either (eqb k sequenceOf) (eqb k setOf))

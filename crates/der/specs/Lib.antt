@@ -5,5 +5,7 @@ pub mod Contents
 pub mod Time
 pub mod Meaning
 pub mod Dotted
+pub mod Order
+pub mod Answers
 pub mod Computing
 pub mod Examples

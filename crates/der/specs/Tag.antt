@@ -1,7 +1,6 @@
 -- Tags. "A tag octet has two top bits class, the next constructed, five the tag number."
-use Prim.Native.Nat.{ℕ, _+_, _*_, _/_, _%_}
-use mathlib.Core.Bool.{Bool, true, false}
-use lib.Dec.{ltb, leb, eqb}
+use Prim.Native.Nat.{ℕ, _+_, _/_, _%_}
+use lib.Dec.{eqb}
 use Rattle.octets.specs.Pick.{pick}
 use Rattle.der.specs.Kind.{boolean, integer, enumerated, null, objectIdentifier, octetString, bitString, utf8String, printableString, ia5String, generalizedTime, setOf, isConstructed}
 
@@ -24,7 +23,7 @@ tagOf o =
     pick (eqb (class o) 0) (number o)
     (pick (eqb (class o) 2) (context (number o)) 64)
 
--- the universal tag of a kind that is no CHOICE (X.680)
+-- the universal tag of a kind (X.680); 16 for SEQUENCE and SEQUENCE OF. A CHOICE has none of its own, and none is asked of it
 unfoldable pub universal : ℕ → ℕ
 universal k =
     pick (eqb k boolean) 1

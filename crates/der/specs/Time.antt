@@ -1,12 +1,13 @@
 -- GeneralizedTime: `YYYYMMDDHHMMSS`, perhaps `.` and 1..9 digits not ending in 0, then `Z`; a real Gregorian date, second 00..60.
-use Prim.Native.Nat.{ℕ, _+_, _-_, _*_, _%_, _^_}
-use mathlib.Core.Bool.{Bool, true, false}
+use Prim.Native.Nat.{ℕ, zero, suc, _+_, _-_, _*_, _%_}
+use mathlib.Core.Bool.{Bool}
 use mathlib.Core.List.{List, [], _∷_}
-use lib.ListN.{length, drop, take}
+use lib.ListN.{length, take}
 use lib.Dec.{ltb, leb, eqb}
 use Rattle.octets.specs.Pick.{pick, both, either, no}
 use Rattle.octets.specs.Octets.{octet, part, every}
 use Rattle.octets.specs.Text.{within, isDigit, decimal}
+use Rattle.der.specs.declared.Time.{Time}
 
 -- the number that n digits from a place on stand for
 abbrev pub digitsAt : List ℕ → ℕ → ℕ → ℕ
@@ -49,13 +50,17 @@ legalTime c =
     (both (realDate (digitsAt c 0 4) (digitsAt c 4 2) (digitsAt c 6 2))
     (realTime (digitsAt c 8 2) (digitsAt c 10 2) (digitsAt c 12 2)))))
 
--- what a time says: the 14 digits as one number, which orders dates and times, and the fraction in billionths; no fraction is zero
-pub record Time : Type 0 where
-  pub stamp : ℕ
-  pub fraction : ℕ
+-- a number with k digits more, those of a text and then zeros
+unfoldable pub scaled : ℕ → ℕ → List ℕ → ℕ
+scaled zero n f = n
+scaled (suc k) n [] = scaled k (n * 10) []
+scaled (suc k) n (b ∷ f) = scaled k (n * 10 + (b - 48)) f
 
+-- a fraction in billionths; no fraction is zero
 unfoldable pub billionths : List ℕ → ℕ
-billionths f = decimal f * 10 ^ (9 - length f)
+billionths f = scaled 9 0 f
+
+-- what a time says (`Time`): the 14 digits as one number, which orders dates and times, and the fraction
 
 unfoldable pub timeOf : List ℕ → Time
 timeOf c = record { stamp = digitsAt c 0 14; fraction = billionths (fractionDigits c) }

@@ -1,4 +1,15 @@
-// DER values: tag octet, length, header, and the contents of the basic kinds. The definitions are in specs/.
+// DER values: tag octet, length, header, and the contents of the basic kinds. Reads past the end give 0, so nothing is asked of a caller.
+ghost use mathlib.Core.Path.{_≡_};
+ghost use Prim.Native.Nat.{_≤_, _<_, _+_, _-_};
+ghost use lib.ListN.{length, drop, getD};
+ghost use Rattle.octets.specs.Octets.{octet, two, part};
+ghost use Rattle.der.specs.Tag as tag;
+ghost use Rattle.der.specs.Header as header;
+ghost use Rattle.der.specs.Contents as contents;
+ghost use Rattle.der.specs.Time as time;
+ghost use Rattle.der.specs.Meaning as meaning;
+ghost use Rattle.der.specs.Order.{notAbove};
+ghost use Rattle.der.specs.Answers.{toldInteger, toldSub, Forward};
 
 // A length: its value and the place after it.
 pub enum Length {
@@ -12,8 +23,225 @@ pub enum Header {
     Misfit,
 }
 
-// The contents behind a header with the tag asked for: where they start and how long they are.
-pub enum Body {
+// What lies behind a header with the tag asked for: where the contents start and how long they are.
+pub enum Inside {
     Of(usize, usize),
-    Refused,
+    Misfit,
+}
+
+// A subidentifier and the place after it; the end of the contents; or octets that are none.
+pub enum Sub {
+    Value(u32, usize),
+    End,
+    Broken,
+}
+
+// An integer of up to eight octets: its sign and size.
+pub struct Integer {
+    pub minus: bool,
+    pub size: u64,
+}
+
+// A time: its 14 digits as one number, and its fraction in billionths.
+pub struct Time {
+    pub stamp: u64,
+    pub fraction: u64,
+}
+
+// ---- tags
+// The tag octet's parts: two top bits, the next, five.
+pub fn class(o: u8) -> u8
+    ensures { λ r. ⌜ r ≡ tag.class o ⌝ }
+{
+    o >> 6
+}
+
+pub fn constructed(o: u8) -> u8
+    ensures { λ r. ⌜ r ≡ tag.constructed o ⌝ }
+{
+    (o >> 5) & 1
+}
+
+pub fn number(o: u8) -> u8
+    ensures { λ r. ⌜ r ≡ tag.number o ⌝ }
+{
+    o & 31
+}
+
+fn context_of(o: u8) -> u8
+    ensures { λ r. ⌜ r ≡ tag.context (tag.number o) ⌝ }
+{
+    32 + number(o)
+}
+
+// A tag by class and number, as one number.
+pub fn tag_of(o: u8) -> u8
+    ensures { λ r. ⌜ r ≡ tag.tagOf o ⌝ }
+{
+    if class(o) == 0 {
+        return number(o);
+    }
+    if class(o) == 2 {
+        return context_of(o);
+    }
+    64
+}
+
+// The universal tag of a kind that is no CHOICE.
+pub fn universal(kind: u8) -> u8
+    ensures { λ r. ⌜ r ≡ tag.universal kind ⌝ }
+{
+    if kind == 1 {
+        return 1;
+    }
+    if kind == 2 {
+        return 2;
+    }
+    if kind == 3 {
+        return 10;
+    }
+    if kind == 4 {
+        return 5;
+    }
+    if kind == 5 {
+        return 6;
+    }
+    if kind == 6 {
+        return 4;
+    }
+    if kind == 7 {
+        return 3;
+    }
+    if kind == 8 {
+        return 12;
+    }
+    if kind == 9 {
+        return 19;
+    }
+    if kind == 10 {
+        return 22;
+    }
+    if kind == 11 {
+        return 24;
+    }
+    if kind == 15 {
+        return 17;
+    }
+    16
+}
+
+// The constructed bit of a kind's tag octet.
+pub fn form(kind: u8) -> u8
+    ensures { λ r. ⌜ r ≡ tag.form kind ⌝ }
+{
+    if kind == 12 {
+        return 32;
+    }
+    if kind == 14 {
+        return 32;
+    }
+    if kind == 15 {
+        return 32;
+    }
+    0
+}
+
+// ---- headers
+fn long_length(n: usize, least: usize, next: usize, end: usize) -> Length
+    ensures { λ r. ⌜ r ≡ header.longLength n least next end ⌝ }
+{
+    if end < next {
+        return Length::Unusable;
+    }
+    if n < least {
+        return Length::Unusable;
+    }
+    Length::Of(n, next)
+}
+
+// The length at a place, whose octets lie before end.
+pub fn read_length(s: &[u8], at: usize, end: usize) -> Length
+    ensures { λ r. ⌜ r ≡ header.lengthAt (now (s .entry)) at end ⌝ }
+{
+    if end <= at {
+        return Length::Unusable;
+    }
+    let first = octets::octet(s, at);
+    if first < 128 {
+        return Length::Of(octets::wide(first), at + 1);
+    }
+    if first == 129 {
+        return read_one(s, at, end);
+    }
+    if first == 130 {
+        return read_two(s, at, end);
+    }
+    Length::Unusable
+}
+
+// A length of one octet after 81.
+fn read_one(s: &[u8], at: usize, end: usize) -> Length
+    requires { ⌜ at < end ⌝ }
+    ensures { λ r. ⌜ r ≡ header.longLength (octet (now (s .entry)) (at + 1)) 128 (at + 2) end ⌝ }
+{
+    if end - at < 2 {
+        return Length::Unusable;
+    }
+    let n = octets::wide(octets::octet(s, at + 1));
+    long_length(n, 128, at + 2, end)
+}
+
+// A length of two octets after 82.
+fn read_two(s: &[u8], at: usize, end: usize) -> Length
+    requires { ⌜ at < end ⌝ }
+    ensures { λ r. ⌜ r ≡ header.longLength (two (now (s .entry)) (at + 1)) 256 (at + 3) end ⌝ }
+{
+    if end - at < 3 {
+        return Length::Unusable;
+    }
+    let n = octets::wide_two(octets::octet(s, at + 1), octets::octet(s, at + 2));
+    long_length(n, 256, at + 3, end)
+}
+
+// The header at a place of a value that lies before end. Where a length octet isn't usable, reading ends there.
+pub fn read_header(s: &[u8], at: usize, end: usize) -> Header
+    ensures { λ r. ⌜ r ≡ header.headerAt (now (s .entry)) at end ⌝ }
+{
+    if end <= at {
+        return Header::Misfit;
+    }
+    let first = octets::octet(s, at);
+    if number(first) == 31 {
+        return Header::Misfit;
+    }
+    let Length::Of(n, next) = read_length(s, at + 1, end) else {
+        return Header::Misfit;
+    };
+    if end - next < n {
+        return Header::Misfit;
+    }
+    Header::Found(first, next, n)
+}
+
+// The contents at a place behind a tag octet, before end.
+pub fn open(tag: usize, s: &[u8], at: usize, end: usize) -> Inside
+    ensures { λ r. ⌜ r ≡ header.insideAt tag (now (s .entry)) at end ⌝ }
+{
+    let Header::Found(first, start, n) = read_header(s, at, end) else {
+        return Inside::Misfit;
+    };
+    if octets::wide(first) != tag {
+        return Inside::Misfit;
+    }
+    Inside::Of(start, n)
+}
+
+// The same behind any tag octet.
+pub fn open_any(s: &[u8], at: usize, end: usize) -> Inside
+    ensures { λ r. ⌜ r ≡ header.anyTag (header.headerAt (now (s .entry)) at end) ⌝ }
+{
+    let Header::Found(_, start, n) = read_header(s, at, end) else {
+        return Inside::Misfit;
+    };
+    Inside::Of(start, n)
 }

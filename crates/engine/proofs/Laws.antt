@@ -1,12 +1,12 @@
--- Where the reading from left to right settles, its truth is the one that RFC 3687 section 4 gives by looking at every filter of a list.
+-- Where the reading from left to right settles, its truth is the one that RFC 3687 section 4 gives by looking at everyTruth filter of a list.
 use mathlib.Core.Path.{_≡_, refl, sym, ap, _∙_, subst}
 use mathlib.Core.Bool.{Bool, true, false, false≢true}
 use mathlib.Core.List.{List, [], _∷_}
-use Prim.Native.Nat.{ℕ, _+_}
-use Rattle.octets.specs.Pick.{pick, both, either}
+use Prim.Native.Nat.{ℕ}
+use Rattle.octets.specs.Pick.{pick}
 use Rattle.filter.specs.Filter.{Item, Join, and, or, Filter, Filters, item, list, inverse, endFilters, next}
-use Rattle.engine.specs.Truth.{Truth, TRUE, FALSE, UNDEFINED, isTrue, isFalse, every, any, conjunction, disjunction, joined, opposite, truth, truths}
-use Rattle.engine.specs.Reading.{Outcome, settled, faulted, ofNone, withRest, added, andThen, inverted, reading, readingIn}
+use Rattle.engine.specs.Truth.{Truth, TRUE, FALSE, UNDEFINED, isTrue, isFalse, everyTruth, anyTruth, conjunction, disjunction, joined, opposite, truth, truths}
+use Rattle.engine.specs.Reading.{Outcome, settled, faulted, ofNone, withRest, andThen, inverted, reading, readingIn}
 
 -- the truth of an outcome; of a fault none is asked
 abbrev pub truthOf : Outcome → Truth
@@ -30,15 +30,15 @@ undefined-or false true h = refl
 undefined-or false false h = refl
 
 -- where each is TRUE none is FALSE, and where each is FALSE none is TRUE
-no-false : (us : List Truth) → every isTrue us ≡ true → any isFalse us ≡ false
-unfolding every any
+no-false : (us : List Truth) → everyTruth isTrue us ≡ true → anyTruth isFalse us ≡ false
+unfolding everyTruth anyTruth
 no-false [] h = refl
 no-false (TRUE ∷ us) h = no-false us h
 no-false (FALSE ∷ us) h = sym h
 no-false (UNDEFINED ∷ us) h = absurd (false≢true h)
 
-no-true : (us : List Truth) → every isFalse us ≡ true → any isTrue us ≡ false
-unfolding every any
+no-true : (us : List Truth) → everyTruth isFalse us ≡ true → anyTruth isTrue us ≡ false
+unfolding everyTruth anyTruth
 no-true [] h = refl
 no-true (TRUE ∷ us) h = sym h
 no-true (FALSE ∷ us) h = no-true us h
@@ -46,19 +46,19 @@ no-true (UNDEFINED ∷ us) h = absurd (false≢true h)
 
 -- ---- one filter more at the head of a list
 head-and : (t : Truth) (n : ℕ) (rest : Outcome) (us : List Truth) → Settles rest (conjunction us) → Settles (andThen and (settled t n) rest) (conjunction (t ∷ us))
-unfolding conjunction every any
+unfolding conjunction everyTruth anyTruth
 head-and TRUE n (settled w m) us h = h
 head-and TRUE n (faulted m) us h = tt
 head-and FALSE n rest us h = refl
-head-and UNDEFINED n (settled w m) us h = ap (withRest and UNDEFINED) h ∙ undefined-and (every isTrue us) (any isFalse us) (no-false us)
+head-and UNDEFINED n (settled w m) us h = ap (withRest and UNDEFINED) h ∙ undefined-and (everyTruth isTrue us) (anyTruth isFalse us) (no-false us)
 head-and UNDEFINED n (faulted m) us h = tt
 
 head-or : (t : Truth) (n : ℕ) (rest : Outcome) (us : List Truth) → Settles rest (disjunction us) → Settles (andThen or (settled t n) rest) (disjunction (t ∷ us))
-unfolding disjunction every any
+unfolding disjunction everyTruth anyTruth
 head-or TRUE n rest us h = refl
 head-or FALSE n (settled w m) us h = h
 head-or FALSE n (faulted m) us h = tt
-head-or UNDEFINED n (settled w m) us h = ap (withRest or UNDEFINED) h ∙ undefined-or (every isFalse us) (any isTrue us) (no-true us)
+head-or UNDEFINED n (settled w m) us h = ap (withRest or UNDEFINED) h ∙ undefined-or (everyTruth isFalse us) (anyTruth isTrue us) (no-true us)
 head-or UNDEFINED n (faulted m) us h = tt
 
 head : (j : Join) (o : Outcome) (u : Truth) (rest : Outcome) (us : List Truth) → Settles o u → Settles rest (joined j us) → Settles (andThen j o rest) (joined j (u ∷ us))
@@ -68,7 +68,7 @@ head and (faulted n) u rest us e h = tt
 head or (faulted n) u rest us e h = tt
 
 empty : (j : Join) → Settles (settled (ofNone j) 0) (joined j [])
-unfolding conjunction disjunction every any
+unfolding conjunction disjunction everyTruth anyTruth
 empty and = refl
 empty or = refl
 

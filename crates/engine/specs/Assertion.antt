@@ -1,13 +1,13 @@
 -- Rules: "An assertion is Undefined exactly if its reference is malformed or not allowed by the type, its rule is unknown or not for that type, or
 -- its value text doesn't conform. Else TRUE if some named value is accepted, FALSE if none."
 use Prim.Native.Nat.{ℕ, _+_}
-use mathlib.Core.Bool.{Bool, true, false}
+use mathlib.Core.Bool.{Bool}
 use mathlib.Core.Option.{Option, none, some}
 use mathlib.Core.List.{List, []}
 use Rattle.octets.specs.Pick.{pick, both, _>>=_}
 use Rattle.table.specs.Types.{Ty}
 use Rattle.reference.specs.Reference.{Id, readReference}
-use Rattle.reference.specs.Allowed.{Target, allowed}
+use Rattle.reference.specs.Allowed.{allowed}
 use Rattle.reference.specs.Numbers.{Component}
 use Rattle.rules.specs.Rule.{Rule, ruleOf}
 use Rattle.rules.specs.Suits.{suits}
@@ -15,7 +15,7 @@ use Rattle.rules.specs.Asserted.{conforms}
 use Rattle.rules.specs.Accepts.{accepts}
 use Rattle.filter.specs.Filter.{Item}
 use Rattle.engine.specs.Trail.{Trail, done, fault, reach, trail}
-use Rattle.engine.specs.Truth.{Truth, TRUE, FALSE, UNDEFINED}
+use Rattle.engine.specs.Truth.{TRUE, FALSE, UNDEFINED}
 use Rattle.engine.specs.Reading.{Outcome, settled, faulted}
 
 -- the identifiers of a reference; a missing one has none
@@ -46,7 +46,7 @@ testing accepted n (reach c a) =
 -- "an Undefined assertion makes no test"
 abbrev pub outcomeOf : Ty → List ℕ → Item → Option Asked → Outcome
 outcomeOf ty v i none = settled UNDEFINED 0
-outcomeOf ty v i (some a) = testing (accepts (a .rule) (i .value)) 0 (trail (a .ids) v (i .defaults) ty)
+outcomeOf ty v i (some a) = testing (accepts (a .rule) (i .value)) 0 (trail (i .defaults) (a .ids) ty v)
 
 unfoldable pub outcome : Ty → List ℕ → Item → Outcome
 outcome ty v i = outcomeOf ty v i (asked ty i)

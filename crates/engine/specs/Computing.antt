@@ -3,7 +3,7 @@ use Prim.Native.Nat.{ℕ}
 use Rattle.filter.specs.Computing.{filterComputes}
 use Rattle.engine.specs.Opened.{ownHeader, openAt}
 use Rattle.engine.specs.Trail.{then, eachFrom, countFrom, positionFrom, findMember, findAlternative, along, trail, faulty, reached}
-use Rattle.engine.specs.Truth.{every as everyTruth, any as anyTruth, conjunction, disjunction, truth}
+use Rattle.engine.specs.Truth.{everyTruth, anyTruth, conjunction, disjunction, truth}
 use Rattle.engine.specs.Reading.{reading}
 use Rattle.engine.specs.Assertion.{asked, testing, outcome}
 use Rattle.engine.specs.Answer.{budgeted, questionFits, evaluated, askReport}

@@ -1,8 +1,8 @@
 -- Computed examples.
 use mathlib.Core.Path.{_≡_, refl}
 use mathlib.Core.Bool.{Bool, true, false}
-use mathlib.Core.Option.{Option, none, some}
-use mathlib.Core.List.{List, [], _∷_, _++_, map}
+use mathlib.Core.Option.{none}
+use mathlib.Core.List.{List, [], _∷_, map}
 use Prim.Native.Nat.{ℕ}
 use Prim.Native.String.{String}
 use lib.ListN.{set, replicate}
@@ -12,10 +12,10 @@ use Rattle.octets.specs.Octets.{bytes, hex}
 use Rattle.table.specs.Types.{typeAt}
 use Rattle.table.specs.Paper.{tableLimits, licence}
 use Rattle.value.specs.Paper.{licenceRecord}
-use Rattle.filter.specs.Filter.{Item, Join, and, or, Filter, Filters, item, list, inverse, endFilters, next}
-use Rattle.reference.specs.Reference.{Index, position, fromEnd, count, all, Id, name, index}
+use Rattle.filter.specs.Filter.{Item, Join, and, or, Filter, item, list, inverse, endFilters, next}
+use Rattle.reference.specs.Reference.{position, all, Id, name, index}
 use Rattle.reference.specs.Numbers.{threes}
-use Rattle.engine.specs.Truth.{Truth, TRUE, FALSE, UNDEFINED, conjunction, disjunction, truth}
+use Rattle.engine.specs.Truth.{TRUE, FALSE, UNDEFINED, conjunction, disjunction}
 use Rattle.engine.specs.Reading.{Outcome, settled, faulted, reading}
 use Rattle.engine.specs.Trail.{Trail, trail, faulty, reached}
 use Rattle.engine.specs.Answer as answer
@@ -112,7 +112,7 @@ listing-refusals = refl
 
 -- ---- a header that doesn't fit: the second part's length is one more, then its tag another
 walk : List Id → List ℕ → Trail
-walk is v = trail is v true (typeAt tableLimits licence 0)
+walk is v = trail true is (typeAt tableLimits licence 0) v
 
 abbrev copies : List Id
 copies = name (bytes "parts") ∷ index all ∷ name (bytes "copies") ∷ []

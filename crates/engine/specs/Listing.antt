@@ -1,12 +1,12 @@
 -- The listing: "three numbers for each named value", or a refusal; and the lent memory afterwards. Order: 1, 2, 3, 4, 7, 6.
 use Prim.Native.Nat.{ℕ, _*_}
-use mathlib.Core.Bool.{Bool, true, false}
+use mathlib.Core.Bool.{Bool}
 use mathlib.Core.Option.{Option, none, some}
 use mathlib.Core.List.{List, [], _++_}
 use lib.ListN.{length, drop}
 use lib.Dec.{ltb, leb}
 use Rattle.octets.specs.Pick.{pick, both, either, no, isSome}
-use Rattle.table.specs.Types.{Ty, typeAt}
+use Rattle.table.specs.Types.{typeAt}
 use Rattle.table.specs.Admitted.{admitted}
 use Rattle.table.specs.Check.{tableFits}
 use Rattle.value.specs.Check.{valueFits, isStored}
@@ -16,9 +16,16 @@ use Rattle.reference.specs.Numbers.{Component, threes}
 use Rattle.engine.specs.Limits.{Limits}
 use Rattle.engine.specs.Trail.{Trail, trail, faulty, reached}
 
-pub data ListReport : Type 0 where
-  refused : ℕ → ListReport
-  lists : ℕ → ListReport
+-- a refusal number, 0 for none; "the count in its answer is the number of named values", and 0 with a refusal
+pub record ListReport : Type 0 where
+  pub refusal : ℕ
+  pub count : ℕ
+
+abbrev pub refused : ℕ → ListReport
+refused n = record { refusal = n; count = 0 }
+
+abbrev pub lists : ℕ → ListReport
+lists n = record { refusal = 0; count = n }
 
 -- an answer, and the lent memory afterwards
 pub record Listing : Type 0 where
@@ -45,6 +52,7 @@ walked a room = pick (faulty a) (refusedList 7 room) (listed (reached a) room)
 unfoldable pub listingFits : Limits → List ℕ → List ℕ → Bool → List ℕ → Bool
 listingFits l t v given r = both (tableFits (l .table) t) (both (valueFits (l .value) v) (either (no given) (leb (length r) (l .reference))))
 
+-- "The listing may be given no reference; an empty one is refused 3."
 abbrev pub givenIds : Bool → List ℕ → Option (List Id)
 givenIds given r = pick given (readReference r) (some [])
 
@@ -53,7 +61,7 @@ abbrev pub withIds : Limits → List ℕ → List ℕ → Bool → List ℕ → 
 withIds l t v defaults room none = refusedList 3 room
 withIds l t v defaults room (some is) =
     pick (isSome (allowed is (typeAt (l .table) t 0)))
-    (pick (isStored (l .table) t v) (walked (trail is v defaults (typeAt (l .table) t 0)) room) (refusedList 4 room))
+    (pick (isStored (l .table) t v) (walked (trail defaults is (typeAt (l .table) t 0) v) room) (refusedList 4 room))
     (refusedList 3 room)
 
 unfoldable pub listReport : Limits → List ℕ → List ℕ → Bool → List ℕ → Bool → List ℕ → Listing

@@ -1,7 +1,7 @@
 -- Tests and budget: the reading from left to right. "`and` [stops] at its first FALSE, `or` at its first TRUE, left to right; Undefined stops
 -- nothing".
 use Prim.Native.Nat.{ℕ, _+_}
-use mathlib.Core.Bool.{Bool, true, false}
+use mathlib.Core.Bool.{Bool}
 use Rattle.octets.specs.Pick.{pick}
 use Rattle.filter.specs.Filter.{Item, Join, and, or, Filter, Filters, item, list, inverse, endFilters, next}
 use Rattle.engine.specs.Truth.{Truth, TRUE, FALSE, UNDEFINED, isTrue, isFalse, opposite}
@@ -27,7 +27,7 @@ withRest j TRUE u = u
 withRest j FALSE u = u
 withRest j UNDEFINED u = pick (stops j u) u UNDEFINED
 
--- so many tests earlier
+-- the rest's outcome, after a filter of truth t that made n tests and did not stop the list
 abbrev pub added : Join → Truth → ℕ → Outcome → Outcome
 added j t n (settled u m) = settled (withRest j t u) (n + m)
 added j t n (faulted m) = faulted (n + m)

@@ -8,12 +8,12 @@ use lib.ListN.{length}
 use lib.Dec.{ltb, leb, eqb}
 use Rattle.octets.specs.Pick.{pick, either, bind}
 use Rattle.octets.specs.Octets.{same}
-use Rattle.table.specs.Types.{Tagging, untagged, Presence, mandatory, optional, default, Member, Ty, basic, sequence, choice, listOf, Members, noMore, more}
+use Rattle.table.specs.Types.{untagged, Presence, mandatory, optional, default, Member, Ty, basic, sequence, choice, listOf, Members, noMore, more}
 use Rattle.table.specs.Begins.{isMandatory}
 use Rattle.value.specs.Decode.{startsHere}
 use Rattle.reference.specs.Reference.{Index, position, fromEnd, count, all, Id, name, index}
 use Rattle.reference.specs.Numbers.{Component, stored, defaulted, tallied}
-use Rattle.engine.specs.Opened.{Opened, spotOf, after, openAt}
+use Rattle.engine.specs.Opened.{Opened, openedSpot, after, openAt}
 
 -- the components in the order in which the walk reaches them; it ends well, or in a fault
 pub data Trail : Type 0 where
@@ -57,9 +57,11 @@ positionFrom o f (suc k) stop n i =
     pick (ltb i stop) elements done
 
 -- ---- members of a SEQUENCE, alternatives of a CHOICE
+-- the one with a name: its type and where it stands; a member that is absent; none of that name, or an alternative not chosen; or a header that
+-- doesn't fit
 pub data Found : Type 0 where
   found : Ty → Opened → Found
-  missing : Member → Found
+  lacking : Member → Found
   nothing : Found
   broken : Found
 
@@ -75,10 +77,10 @@ unfoldable pub findMember : List ℕ → Members → List ℕ → ℕ → ℕ �
 findMember x noMore v stop i = nothing
 findMember x (more m ty ms) v stop i =
     let there = orBroken (memberThen (same (m .name) x) ty (λ j. findMember x ms v stop j)) (openAt ty (m .tagging) v i stop) in
-    let without = pick (same (m .name) x) (missing m) (findMember x ms v stop i) in
+    let without = pick (same (m .name) x) (lacking m) (findMember x ms v stop i) in
     pick (either (isMandatory (m .presence)) (startsHere m ty v stop i)) there without
 
--- the alternative that can begin with the tag here, if it has the name
+-- the alternative that can begin with the tag here, if it has the name; a tag that none can begin with doesn't fit
 unfoldable pub findAlternative : List ℕ → Members → List ℕ → ℕ → ℕ → Found
 findAlternative x noMore v stop at = broken
 findAlternative x (more m ty ms) v stop at =
@@ -92,14 +94,14 @@ abbrev pub ending : List Id → Component → Trail
 ending [] c = reach c done
 ending (i ∷ is) c = done
 
-abbrev pub missingTrail : Bool → List Id → ℕ → Member → Presence → Trail
-missingTrail defaults is place m mandatory = done
-missingTrail defaults is place m optional = done
-missingTrail defaults is place m (default c) = pick defaults (ending is (defaulted place m)) done
+abbrev pub lackingTrail : Bool → List Id → ℕ → Member → Presence → Trail
+lackingTrail defaults is place m mandatory = done
+lackingTrail defaults is place m optional = done
+lackingTrail defaults is place m (default c) = pick defaults (ending is (defaulted place m)) done
 
 abbrev pub onFound : Bool → List Id → ℕ → (Ty → Opened → Trail) → Found → Trail
 onFound defaults is place f (found ty o) = f ty o
-onFound defaults is place f (missing m) = missingTrail defaults is place m (m .presence)
+onFound defaults is place f (lacking m) = lackingTrail defaults is place m (m .presence)
 onFound defaults is place f nothing = done
 onFound defaults is place f broken = fault
 
@@ -107,34 +109,34 @@ onFound defaults is place f broken = fault
 abbrev pub fromLast : ℕ → (ℕ → Trail) → ℕ → Trail
 fromLast n f size = pick (leb n size) (f (size + 1 - n)) done
 
-abbrev pub inMembers : Id → (List ℕ → Found) → Bool → List Id → ℕ → (Ty → Opened → Trail) → Trail
-inMembers (name x) find defaults is place f = onFound defaults is place f (find x)
-inMembers (index i) find defaults is place f = done
+abbrev pub inMembers : Bool → Id → List Id → (List ℕ → Found) → ℕ → (Ty → Opened → Trail) → Trail
+inMembers defaults (name x) is find place f = onFound defaults is place f (find x)
+inMembers defaults (index i) is find place f = done
 
-abbrev pub indexedBy : Index → (ℕ → ℕ → Option Opened) → List Id → Opened → (Opened → Trail) → Trail
-indexedBy (position n) o is l f = positionFrom o f (l .size) (after l) n (l .start)
-indexedBy (fromEnd n) o is l f = orFault (fromLast n (λ p. positionFrom o f (l .size) (after l) p (l .start))) (countFrom o (l .size) (after l) 0 (l .start))
-indexedBy count o is l f = orFault (λ n. ending is (tallied (l .place) n)) (countFrom o (l .size) (after l) 0 (l .start))
-indexedBy all o is l f = eachFrom o f (l .size) (after l) (l .start)
+abbrev pub alongIndex : Index → List Id → (ℕ → ℕ → Option Opened) → Opened → (Opened → Trail) → Trail
+alongIndex (position n) is o l f = positionFrom o f (l .span) (after l) n (l .start)
+alongIndex (fromEnd n) is o l f = orFault (fromLast n (λ p. positionFrom o f (l .span) (after l) p (l .start))) (countFrom o (l .span) (after l) 0 (l .start))
+alongIndex count is o l f = orFault (λ n. ending is (tallied (l .place) n)) (countFrom o (l .span) (after l) 0 (l .start))
+alongIndex all is o l f = eachFrom o f (l .span) (after l) (l .start)
 
-abbrev pub inList : Id → (ℕ → ℕ → Option Opened) → List Id → Opened → (Opened → Trail) → Trail
-inList (name x) o is l f = done
-inList (index i) o is l f = indexedBy i o is l f
+abbrev pub inList : Id → List Id → (ℕ → ℕ → Option Opened) → Opened → (Opened → Trail) → Trail
+inList (name x) is o l f = done
+inList (index i) is o l f = alongIndex i is o l f
 
-abbrev pub inValue : Id → Ty → List ℕ → Bool → List Id → Opened → (Ty → Opened → Trail) → Trail
-inValue i (basic k) v defaults is o f = done
-inValue i (sequence ms) v defaults is o f = inMembers i (λ x. findMember x ms v (after o) (o .start)) defaults is (o .place) f
-inValue i (choice ms) v defaults is o f = inMembers i (λ x. findAlternative x ms v (after o) (o .place)) defaults is (o .place) f
-inValue i (listOf k ty) v defaults is o f = inList i (openAt ty untagged v) is o (f ty)
+abbrev pub inValue : Bool → Id → List Id → Ty → List ℕ → Opened → (Ty → Opened → Trail) → Trail
+inValue defaults i is (basic k) v o f = done
+inValue defaults i is (sequence ms) v o f = inMembers defaults i is (λ x. findMember x ms v (after o) (o .start)) (o .place) f
+inValue defaults i is (choice ms) v o f = inMembers defaults i is (λ x. findAlternative x ms v (after o) (o .place)) (o .place) f
+inValue defaults i is (listOf k ty) v o f = inList i is (openAt ty untagged v) o (f ty)
 
 -- ---- along the identifiers, from an opened value
-unfoldable pub along : List Id → List ℕ → Bool → Ty → Opened → Trail
-along [] v defaults ty o = reach (stored (spotOf v o)) done
-along (i ∷ is) v defaults ty o = inValue i ty v defaults is o (λ u p. along is v defaults u p)
+unfoldable pub along : Bool → List Id → Ty → List ℕ → Opened → Trail
+along defaults [] ty v o = reach (stored (openedSpot v o)) done
+along defaults (i ∷ is) ty v o = inValue defaults i is ty v o (λ u p. along defaults is u v p)
 
 -- from the value's first octet
-unfoldable pub trail : List Id → List ℕ → Bool → Ty → Trail
-trail is v defaults ty = orFault (along is v defaults ty) (openAt ty untagged v 0 (length v))
+unfoldable pub trail : Bool → List Id → Ty → List ℕ → Trail
+trail defaults is ty v = orFault (along defaults is ty v) (openAt ty untagged v 0 (length v))
 
 -- the walk has a fault
 unfoldable pub faulty : Trail → Bool

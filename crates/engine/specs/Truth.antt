@@ -19,23 +19,23 @@ isFalse TRUE = false
 isFalse FALSE = true
 isFalse UNDEFINED = false
 
-unfoldable pub every : (Truth → Bool) → List Truth → Bool
-every f [] = true
-every f (t ∷ ts) = both (f t) (every f ts)
+unfoldable pub everyTruth : (Truth → Bool) → List Truth → Bool
+everyTruth f [] = true
+everyTruth f (t ∷ ts) = both (f t) (everyTruth f ts)
 
-unfoldable pub any : (Truth → Bool) → List Truth → Bool
-any f [] = false
-any f (t ∷ ts) = either (f t) (any f ts)
+unfoldable pub anyTruth : (Truth → Bool) → List Truth → Bool
+anyTruth f [] = false
+anyTruth f (t ∷ ts) = either (f t) (anyTruth f ts)
 
 -- "The "and" of a sequence of component filters evaluates to TRUE if the sequence is empty or if each component filter evaluates to TRUE,
 -- evaluates to FALSE if at least one component filter is FALSE, and evaluates to Undefined otherwise."
 unfoldable pub conjunction : List Truth → Truth
-conjunction ts = pick (every isTrue ts) TRUE (pick (any isFalse ts) FALSE UNDEFINED)
+conjunction ts = pick (everyTruth isTrue ts) TRUE (pick (anyTruth isFalse ts) FALSE UNDEFINED)
 
 -- "The "or" .. evaluates to FALSE if the sequence is empty or if each component filter evaluates to FALSE, evaluates to TRUE if at least one
 -- component filter is TRUE, and evaluates to Undefined otherwise."
 unfoldable pub disjunction : List Truth → Truth
-disjunction ts = pick (every isFalse ts) FALSE (pick (any isTrue ts) TRUE UNDEFINED)
+disjunction ts = pick (everyTruth isFalse ts) FALSE (pick (anyTruth isTrue ts) TRUE UNDEFINED)
 
 abbrev pub joined : Join → List Truth → Truth
 joined and ts = conjunction ts

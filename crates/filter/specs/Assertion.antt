@@ -16,41 +16,41 @@ use Rattle.filter.specs.Spaces.{labelAt, markAt, comma, openBrace}
 use Rattle.filter.specs.ValueText.{ValueText, valueTextAt}
 
 -- a part of an assertion, and the place after it
-pub record Part (A : Type 0) : Type 0 where
+pub record Read (A : Type 0) : Type 0 where
   pub is : A
   pub after : ℕ
 
-abbrev pub partTo : {A : Type 0} → A → ℕ → Option (Part A)
-partTo a after = some (record { is = a; after = after })
+abbrev pub readTo : {A : Type 0} → A → ℕ → Option (Read A)
+readTo a after = some (record { is = a; after = after })
 
 -- a part that a comma and the next part follow
-abbrev pub followed : {A : Type 0} → List ℕ → ℕ → A → Option (Part A)
+abbrev pub followed : {A : Type 0} → List ℕ → ℕ → A → Option (Read A)
 followed s at a = do
   p ← markAt comma s at
-  partTo a p
+  readTo a p
 
 -- a part that may be missing: f reads it behind its label
-abbrev pub ifLabelled : {A : Type 0} → A → ℕ → (ℕ → Option (Part A)) → Option ℕ → Option (Part A)
-ifLabelled missing at f none = partTo missing at
+abbrev pub ifLabelled : {A : Type 0} → A → ℕ → (ℕ → Option (Read A)) → Option ℕ → Option (Read A)
+ifLabelled missing at f none = readTo missing at
 ifLabelled missing at f (some p) = f p
 
 -- ---- `component`
-abbrev pub quotedPart : List ℕ → ℕ → Option (Part (Option (List ℕ)))
+abbrev pub quotedPart : List ℕ → ℕ → Option (Read (Option (List ℕ)))
 quotedPart s at = do
   close ← closingAt s at
   followed s (close + 1) (some (characters s at close))
 
-unfoldable pub componentAt : List ℕ → ℕ → Option (Part (Option (List ℕ)))
+unfoldable pub componentAt : List ℕ → ℕ → Option (Read (Option (List ℕ)))
 componentAt s at = ifLabelled none at (quotedPart s) (labelAt (bytes "component") s at)
 
 -- ---- `useDefaultValues`
-abbrev pub truthPart : List ℕ → ℕ → Option (Part Bool)
+abbrev pub truthPart : List ℕ → ℕ → Option (Read Bool)
 truthPart s at =
     pick (starts (bytes "TRUE") (drop at s)) (followed s (at + 4) true)
     (pick (starts (bytes "FALSE") (drop at s)) (followed s (at + 5) false)
     none)
 
-unfoldable pub defaultsAt : List ℕ → ℕ → Option (Part Bool)
+unfoldable pub defaultsAt : List ℕ → ℕ → Option (Read Bool)
 defaultsAt s at = ifLabelled true at (truthPart s) (labelAt (bytes "useDefaultValues") s at)
 
 -- ---- `rule`: "a dotted OID (as under Rules) or a name (a letter, then letters, digits, hyphens ..)", up to the comma
@@ -69,7 +69,7 @@ unfoldable pub commaFrom : List ℕ → ℕ → Option ℕ
 commaFrom [] at = none
 commaFrom (b ∷ s) at = let r = commaFrom s (at + 1) in pick (eqb b comma) (some at) r
 
-unfoldable pub ruleAt : List ℕ → ℕ → Option (Part (List ℕ))
+unfoldable pub ruleAt : List ℕ → ℕ → Option (Read (List ℕ))
 ruleAt s at = do
   p ← labelAt (bytes "rule") s at
   end ← commaFrom (drop p s) p
@@ -82,11 +82,11 @@ valueAt s at = do
   valueTextAt s p
 
 -- ---- a braced assertion: the four parts in order
-unfoldable pub assertionAt : List ℕ → ℕ → Option (Part Item)
+unfoldable pub assertionAt : List ℕ → ℕ → Option (Read Item)
 assertionAt s at = do
   p ← markAt openBrace s at
   c ← componentAt s p
   d ← defaultsAt s (c .after)
   r ← ruleAt s (d .after)
   v ← valueAt s (r .after)
-  partTo (record { component = c .is; defaults = d .is; rule = r .is; value = v .text }) (v .brace + 1)
+  readTo (record { component = c .is; defaults = d .is; rule = r .is; value = v .text }) (v .brace + 1)

@@ -7,7 +7,7 @@ use Prim.Native.Nat.{ℕ, zero, suc}
 use Prim.Native.String.{String}
 use Rattle.octets.specs.Pick.{isSome}
 use Rattle.octets.specs.Octets.{bytes, hex}
-use Rattle.filter.specs.Filter.{Item, and, or, Filter, item, list, inverse, endFilters, next, depth, items}
+use Rattle.filter.specs.Filter.{and, or, Filter, item, list, inverse, endFilters, next}
 use Rattle.filter.specs.Parse.{parse}
 use Rattle.filter.specs.Paper.{filterLimits}
 use Rattle.filter.specs.Computing.{filterComputes}

@@ -1,18 +1,18 @@
 -- Filter text: "GSER, case sensitive, valid UTF-8". The filter that a text is.
 use Prim.Native.Nat.{ℕ, zero, suc, _+_}
-use mathlib.Core.Bool.{Bool, true, false}
+use mathlib.Core.Bool.{Bool}
 use mathlib.Core.Option.{Option, none, some}
 use mathlib.Core.List.{List}
 use lib.ListN.{length, drop}
 use lib.Dec.{leb, eqb}
 use Rattle.octets.specs.Pick.{pick, both, bind}
 use Rattle.octets.specs.Octets.{octet, bytes}
-use Rattle.octets.specs.Text.{starts, skip}
+use Rattle.octets.specs.Text.{within as inRange, starts, skip}
 use Rattle.octets.specs.Utf8.{utf8}
 use Rattle.filter.specs.Limits.{Limits}
-use Rattle.filter.specs.Filter.{Item, Join, and, or, Filter, Filters, item, list, inverse, endFilters, next, depth, items}
+use Rattle.filter.specs.Filter.{Join, and, or, Filter, Filters, item, list, inverse, endFilters, next, depth, items}
 use Rattle.filter.specs.Spaces.{markAt, comma, openBrace, closeBrace}
-use Rattle.filter.specs.Assertion.{Part, partTo, assertionAt}
+use Rattle.filter.specs.Assertion.{Read, readTo, assertionAt}
 
 -- what a filter begins with: an assertion at a place, an empty list that ends at a place, a list whose first filter is at a place, a filter
 -- under `not:`, or nothing that a filter begins with
@@ -51,44 +51,48 @@ tailAt s at = orClosed s (skip s at) (markAt comma s at)
 
 -- ---- a filter, and the filters of a list from one of them on, with the place after them
 -- f of what has been read
-abbrev pub made : {A B : Type 0} → (A → B) → Option (Part A) → Option (Part B)
+abbrev pub made : {A B : Type 0} → (A → B) → Option (Read A) → Option (Read B)
 made f none = none
-made f (some p) = partTo (f (p .is)) (p .after)
+made f (some p) = readTo (f (p .is)) (p .after)
 
-abbrev pub byHead : List ℕ → (ℕ → Option (Part Filters)) → (ℕ → Option (Part Filter)) → Head → Option (Part Filter)
+abbrev pub byHead : List ℕ → (ℕ → Option (Read Filters)) → (ℕ → Option (Read Filter)) → Head → Option (Read Filter)
 byHead s lists filters (assertion p) = made item (assertionAt s p)
-byHead s lists filters (emptyList j p) = partTo (list j endFilters) p
+byHead s lists filters (emptyList j p) = readTo (list j endFilters) p
 byHead s lists filters (openList j p) = made (list j) (lists p)
 byHead s lists filters (negation p) = made inverse (filters p)
 byHead s lists filters noHead = none
 
-abbrev pub byTail : (ℕ → Option (Part Filters)) → Filter → Tail → Option (Part Filters)
+abbrev pub byTail : (ℕ → Option (Read Filters)) → Filter → Tail → Option (Read Filters)
 byTail lists f (another p) = made (next f) (lists p)
-byTail lists f (closed p) = partTo (next f endFilters) p
+byTail lists f (closed p) = readTo (next f endFilters) p
 byTail lists f noTail = none
 
-abbrev pub afterFirst : List ℕ → (ℕ → Option (Part Filters)) → Part Filter → Option (Part Filters)
+abbrev pub afterFirst : List ℕ → (ℕ → Option (Read Filters)) → Read Filter → Option (Read Filters)
 afterFirst s lists p = byTail lists (p .is) (tailAt s (p .after))
 
 -- n bounds the calls: more than the length of the text is enough
 unfoldable mutual
-  pub filterFrom : ℕ → List ℕ → ℕ → Option (Part Filter)
+  pub filterFrom : ℕ → List ℕ → ℕ → Option (Read Filter)
   filterFrom zero s at = none
   filterFrom (suc n) s at = byHead s (λ p. filtersFrom n s p) (λ p. filterFrom n s p) (headAt s at)
 
-  pub filtersFrom : ℕ → List ℕ → ℕ → Option (Part Filters)
+  pub filtersFrom : ℕ → List ℕ → ℕ → Option (Read Filters)
   filtersFrom zero s at = none
   filtersFrom (suc n) s at = bind (filterFrom n s at) (afterFirst s (λ p. filtersFrom n s p))
 
-unfoldable pub filterAt : List ℕ → ℕ → Option (Part Filter)
+unfoldable pub filterAt : List ℕ → ℕ → Option (Read Filter)
 filterAt s at = filterFrom (length s + 1) s at
 
 -- ---- the whole text; "Depth at most 16 .., at most 64 items"
-abbrev pub ifWhole : List ℕ → Part Filter → Option Filter
+abbrev pub ifWhole : List ℕ → Read Filter → Option Filter
 ifWhole s p = pick (eqb (p .after) (length s)) (some (p .is)) none
 
 abbrev pub withinLimits : Limits → Filter → Option Filter
 withinLimits l f = pick (both (leb (depth f) (l .depth)) (leb (items f) (l .items))) (some f) none
+
+-- refusal 1: the text's size
+unfoldable pub filterFits : Limits → List ℕ → Bool
+filterFits l s = inRange 1 (l .bytes) (length s)
 
 -- the filter of the whole text, whatever its depth and items
 unfoldable pub whole : List ℕ → Option Filter

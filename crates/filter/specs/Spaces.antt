@@ -1,6 +1,5 @@
 -- "Spaces stand only where RFC 3641 allows them": after a label (at least one), after an opening brace, after a comma, before a closing brace.
 use Prim.Native.Nat.{ℕ, _+_}
-use mathlib.Core.Bool.{Bool, true, false}
 use mathlib.Core.Option.{Option, none, some}
 use mathlib.Core.List.{List}
 use lib.ListN.{length, drop}

@@ -1,11 +1,11 @@
 -- "The value text runs to the first closing brace that is neither in double quotes nor paired with an opening one inside; spaces at its ends are
 -- dropped; it may not be empty."
 use Prim.Native.Nat.{ℕ, _+_, _-_}
-use mathlib.Core.Bool.{Bool, true, false}
+use mathlib.Core.Bool.{Bool, false}
 use mathlib.Core.Option.{Option, none, some}
 use mathlib.Core.List.{List, [], _∷_}
 use lib.ListN.{length, drop}
-use lib.Dec.{leb, eqb}
+use lib.Dec.{eqb}
 use Rattle.octets.specs.Pick.{pick, no, _>>=_}
 use Rattle.octets.specs.Octets.{part}
 use Rattle.octets.specs.Text.{trimmed}

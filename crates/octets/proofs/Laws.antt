@@ -1,13 +1,12 @@
 -- Laws of the definitions, for this crate's proofs and for the layers above.
-use mathlib.Core.Path.{_≡_, refl, sym, ap, _∙_}
-use mathlib.Core.Bool.{Bool, true, false, not}
+use mathlib.Core.Path.{_≡_, refl, sym}
+use mathlib.Core.Bool.{Bool, true, false}
 use mathlib.Core.List.{List, [], _∷_}
-use Prim.Native.Nat.{ℕ, zero, suc, _≤_, _<_, _+_, _-_, _*_}
+use Prim.Native.Nat.{ℕ, zero, suc, _≤_, _<_, _+_, _-_}
 use native.Mathlib.Omega.{arith}
 use native.Mathlib.Numerals.{add-one}
-use borrow.Author.Tests.{not-true, not-false}
-use lib.ListN.{length, getD, take, drop, drop-of-length-le, List·getD-eq-default, length-drop}
-use lib.Seq.{drop-cons, take-nil, take-all, drop-length}
+use lib.ListN.{length, drop, drop-of-length-le, List·getD-eq-default, length-drop}
+use lib.Seq.{drop-cons, take-nil, take-all}
 use Rattle.octets.specs.Pick.{pick}
 use Rattle.octets.specs.Octets.{octet, part}
 

@@ -1,19 +1,18 @@
 -- One lemma for each return and each turn of a loop; its premises are the facts as the code has them.
 use mathlib.Core.Path.{_≡_, refl, sym, ap, ap₂, _∙_}
-use mathlib.Core.Bool.{Bool, true, false, not, false≢true}
+use mathlib.Core.Bool.{Bool, true, false, not}
 use mathlib.Core.Option.{Option, none, some}
 use mathlib.Core.List.{List, [], _∷_}
-use Prim.Native.Nat.{ℕ, zero, suc, _≤_, _<_, _+_, _-_, _*_}
+use Prim.Native.Nat.{ℕ, suc, _≤_, _<_, _+_, _-_, _*_}
 use native.Mathlib.Omega.{arith}
 use native.Mathlib.Nat.{add-zero}
-use native.Mathlib.Numerals.{add-one}
-use borrow.Author.Tests.{not-true, not-false, eq-eqb, ne-eqb, lt-ltb, le-ltb, lt-leb, le-leb, ltb-true, ltb-false, leb-false}
-use lib.Dec.{ltb, leb, eqb, eqb·suc-suc}
+use borrow.Author.Tests.{not-true, not-false, eq-eqb, ne-eqb, lt-ltb, le-ltb, lt-leb, le-leb, ltb-true, ltb-false}
+use lib.Dec.{ltb, eqb, eqb·suc-suc}
 use lib.ListN.{length, take, drop}
 use lib.Seq.{take-nil}
 use Rattle.octets.specs.Pick.{pick}
 use Rattle.octets.specs.Octets.{octet, part, every, same, below}
-use Rattle.octets.specs.Text.{isDigit, isNumber, starts, lead, skip, decimalFrom, decimal, within}
+use Rattle.octets.specs.Text.{isDigit, isNumber, starts, lead, skip, decimalFrom, decimal}
 use Rattle.octets.specs.Utf8.{afterFirst, after, utf8From, utf8, mayEnd, awaits}
 use Rattle.octets.specs.Quoted.{closing, closingAt}
 use Rattle.octets.specs.Answers.{clip, growOf, told}

@@ -1,6 +1,5 @@
 -- What the code's answers say.
 use Prim.Native.Nat.{ℕ, _+_, _*_}
-use mathlib.Core.Bool.{Bool}
 use mathlib.Core.Option.{Option, none, some}
 use lib.Dec.{ltb}
 use Rattle.octets.specs.Pick.{pick}

@@ -1,11 +1,10 @@
 -- Computed examples.
 use mathlib.Core.Path.{_≡_, refl}
-use mathlib.Core.Bool.{Bool, true, false}
-use mathlib.Core.Option.{Option, none, some}
-use mathlib.Core.List.{List, [], _∷_, map}
-use Prim.Native.Nat.{ℕ}
-use Rattle.octets.specs.Octets.{bytes, hex, same, below}
-use Rattle.octets.specs.Text.{isNumber, trimmed, decimal, skip, pieces, lower, isAlnum, starts}
+use mathlib.Core.Bool.{true, false}
+use mathlib.Core.Option.{none, some}
+use mathlib.Core.List.{[], _∷_, map}
+use Rattle.octets.specs.Octets.{bytes, hex, below}
+use Rattle.octets.specs.Text.{isNumber, trimmed, decimal, skip, pieces, lower, starts}
 use Rattle.octets.specs.Utf8.{utf8}
 use Rattle.octets.specs.Quoted.{unquoted}
 use Rattle.octets.specs.Computing.{octetsCompute}

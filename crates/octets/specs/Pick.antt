@@ -1,4 +1,4 @@
--- Choices by a test, and tests of all numbers below one.
+-- Choices by a test, and tests of all numbers below a given one.
 use Prim.Native.Nat.{ℕ, zero, suc}
 use mathlib.Core.Bool.{Bool, true, false}
 use mathlib.Core.Option.{Option, none, some}

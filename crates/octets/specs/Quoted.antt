@@ -1,14 +1,13 @@
 -- Quoted strings: between double quotes, "" for a quote.
-use Prim.Native.Nat.{ℕ, zero, suc, _+_, _-_}
-use mathlib.Core.Bool.{Bool, true, false}
+use Prim.Native.Nat.{ℕ, _+_, _-_}
 use mathlib.Core.Option.{Option, none, some}
 use mathlib.Core.List.{List, [], _∷_}
 use lib.ListN.{length, drop}
-use lib.Dec.{ltb, leb, eqb}
+use lib.Dec.{eqb}
 use Rattle.octets.specs.Pick.{pick, both, bind}
 use Rattle.octets.specs.Octets.{octet, part}
 
--- the place of the closing quote in a text that stands at a place: the first quote that no quote follows
+-- the place of the closing quote in a text that stands at a place: the first quote that is not one of a doubled pair
 unfoldable pub closing : List ℕ → ℕ → Option ℕ
 closing [] at = none
 closing (b ∷ []) at = pick (eqb b 34) (some at) none

@@ -1,11 +1,11 @@
 -- Text: characters by their kind, words, spaces, decimal numbers.
-use Prim.Native.Nat.{ℕ, zero, suc, _+_, _-_, _*_}
+use Prim.Native.Nat.{ℕ, suc, _+_, _-_, _*_}
 use mathlib.Core.Bool.{Bool, true, false}
 use mathlib.Core.List.{List, [], _∷_}
 use lib.ListN.{length, drop}
-use lib.Dec.{ltb, leb, eqb}
+use lib.Dec.{leb, eqb}
 use Rattle.octets.specs.Pick.{pick, both, either}
-use Rattle.octets.specs.Octets.{octet, every}
+use Rattle.octets.specs.Octets.{every}
 
 -- from a to b, both included
 abbrev pub within : ℕ → ℕ → ℕ → Bool

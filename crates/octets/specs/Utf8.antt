@@ -1,9 +1,9 @@
 -- Valid UTF-8 (RFC 3629 section 4).
-use Prim.Native.Nat.{ℕ, zero, suc, _+_, _-_, _*_}
-use mathlib.Core.Bool.{Bool, true, false}
+use Prim.Native.Nat.{ℕ, _-_}
+use mathlib.Core.Bool.{Bool, false}
 use mathlib.Core.List.{List, [], _∷_}
-use lib.Dec.{ltb, leb, eqb}
-use Rattle.octets.specs.Pick.{pick, both}
+use lib.Dec.{ltb, eqb}
+use Rattle.octets.specs.Pick.{pick}
 use Rattle.octets.specs.Text.{within}
 use Rattle.octets.specs.declared.Awaiting.{Awaiting}
 use Rattle.octets.specs.declared.Awaiting.the-variants.{Tails, Broken}

@@ -1,6 +1,6 @@
 // Octets and text: the lowest layer. Reads past the end give 0, so nothing is asked of a caller.
 ghost use mathlib.Core.Path.{_≡_};
-ghost use Prim.Native.Nat.{_-_};
+ghost use Prim.Native.Nat.{_+_, _-_, _*_};
 ghost use lib.ListN.{drop};
 ghost use Rattle.octets.specs.Octets as octets;
 ghost use Rattle.octets.specs.Text as text;
@@ -47,6 +47,13 @@ pub fn wide64(b: u8) -> u64
     ensures { λ r. ⌜ r ≡ b ⌝ }
 {
     b as u64
+}
+
+// Two octets as one number, big-endian.
+pub fn wide_two(a: u8, b: u8) -> usize
+    ensures { λ r. ⌜ r ≡ a * 256 + b ⌝ }
+{
+    a as usize * 256 + b as usize
 }
 
 // Up to n octets from a place on, as many as there are.
@@ -298,7 +305,7 @@ pub fn utf8(s: &[u8]) -> bool
 }
 
 // ---- quoted strings
-// The closing quote from a place on: the first quote that no quote follows.
+// The closing quote from a place on: the first quote that is not one of a doubled pair.
 fn find_closing(s: &[u8], at: usize) -> Place
     ensures { λ r. ⌜ told r ≡ closing (drop at (now (s .entry))) at ⌝ }
 {

@@ -1,11 +1,10 @@
 -- Whether a type allows a reference, and what it then leads to: a type, or the count of a list, which is an INTEGER.
 use Prim.Native.Nat.{ℕ}
-use mathlib.Core.Bool.{Bool, true, false}
 use mathlib.Core.Option.{Option, none, some}
 use mathlib.Core.List.{List, [], _∷_}
 use Rattle.octets.specs.Pick.{pick, bind}
 use Rattle.octets.specs.Octets.{same}
-use Rattle.table.specs.Types.{Member, Ty, basic, sequence, choice, listOf, Members, noMore, more}
+use Rattle.table.specs.Types.{Ty, basic, sequence, choice, listOf, Members, noMore, more}
 use Rattle.reference.specs.Reference.{Index, position, fromEnd, count, all, Id, name, index}
 
 pub data Target : Type 0 where

@@ -2,19 +2,19 @@
 use mathlib.Core.Path.{_≡_, refl}
 use mathlib.Core.Bool.{Bool, true, false}
 use mathlib.Core.Option.{Option, none, some}
-use mathlib.Core.List.{List, [], _∷_, _++_, map}
+use mathlib.Core.List.{List, [], _∷_, map}
 use Prim.Native.Nat.{ℕ}
 use Prim.Native.String.{String}
-use Rattle.octets.specs.Pick.{bind, isSome}
+use Rattle.octets.specs.Pick.{bind}
 use Rattle.octets.specs.Octets.{bytes, hex}
 use Rattle.table.specs.Types.{Ty, typeAt, basic}
 use Rattle.table.specs.Paper.{tableLimits, licence}
 use Rattle.value.specs.Decode.{storedValue}
 use Rattle.value.specs.Value.{Value}
-use Rattle.value.specs.Paper.{valueLimits, licenceRecord}
-use Rattle.reference.specs.Reference.{Index, position, fromEnd, count, all, Id, name, index, readReference}
+use Rattle.value.specs.Paper.{licenceRecord}
+use Rattle.reference.specs.Reference.{position, fromEnd, count, all, Id, name, index, readReference}
 use Rattle.reference.specs.Allowed.{Target, ofType, ofCount, allowed}
-use Rattle.reference.specs.Named.{Held, named}
+use Rattle.reference.specs.Named.{named}
 use Rattle.reference.specs.Numbers.{component, threes}
 use Rattle.reference.specs.Computing.{referenceComputes}
 

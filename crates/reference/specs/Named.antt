@@ -1,13 +1,13 @@
 -- What a reference names in a decoded value. "A reference is read from the left: at first the whole value is held; each component identifier
 -- in it then replaces each held value by those it names there, none, one or more. The reference names what is held at its end."
-use Prim.Native.Nat.{ℕ, zero, suc, _+_, _-_}
-use mathlib.Core.Bool.{Bool, true, false}
+use Prim.Native.Nat.{ℕ, suc, _+_, _-_}
+use mathlib.Core.Bool.{Bool}
 use mathlib.Core.List.{List, [], _∷_, _++_}
-use lib.Dec.{ltb, leb, eqb}
+use lib.Dec.{leb, eqb}
 use Rattle.octets.specs.Pick.{pick}
 use Rattle.octets.specs.Octets.{same}
 use Rattle.table.specs.Types.{Presence, mandatory, optional, default, Member}
-use Rattle.value.specs.Value.{Spot, Value, leaf, fields, chosen, elements, Fields, endFields, present, absent, Values, endValues, next}
+use Rattle.value.specs.Value.{Value, leaf, fields, chosen, elements, Fields, endFields, present, absent, Values, endValues, next}
 use Rattle.reference.specs.Reference.{Index, position, fromEnd, count, all, Id, name, index}
 
 -- a held value: a stored one; the default of a member that is absent from the SEQUENCE at a place; the count of the list at a place
@@ -27,16 +27,17 @@ memberNamed defaults place x endFields = []
 memberNamed defaults place x (present m y fs) = let r = memberNamed defaults place x fs in pick (same (m .name) x) (value y ∷ []) r
 memberNamed defaults place x (absent m fs) = let r = memberNamed defaults place x fs in pick (same (m .name) x) (absentNames defaults place m (m .presence)) r
 
--- the elements of a list
+-- how many elements a list has
 unfoldable pub size : Values → ℕ
 size endValues = 0
 size (next x xs) = suc (size xs)
 
+-- all of them
 unfoldable pub each : Values → List Held
 each endValues = []
 each (next x xs) = value x ∷ each xs
 
--- the element at a position from 1; "one beyond the end names nothing"
+-- the element at a position from 1; "one beyond the end names nothing"; "SET OF positions are in stored order"
 unfoldable pub elementAt : ℕ → Values → List Held
 elementAt n endValues = []
 elementAt n (next x xs) = let r = elementAt (n - 1) xs in pick (eqb n 1) (value x ∷ []) r

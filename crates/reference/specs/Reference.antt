@@ -1,10 +1,10 @@
 -- Component references (RFC 3687 section 3.1): component identifiers, divided by dots.
 use Prim.Native.Nat.{ℕ}
-use mathlib.Core.Bool.{Bool, true, false}
+use mathlib.Core.Bool.{Bool, false}
 use mathlib.Core.Option.{Option, none, some}
 use mathlib.Core.List.{List, [], _∷_}
 use lib.ListN.{drop}
-use lib.Dec.{ltb, leb, eqb}
+use lib.Dec.{eqb}
 use Rattle.octets.specs.Pick.{pick, both, either, no, consed, _>>=_}
 use Rattle.octets.specs.Octets.{octet, same, bytes}
 use Rattle.octets.specs.Text.{isLower, isAlnum, isNumber, decimal, pieces}
@@ -33,7 +33,8 @@ isIdentifier (b ∷ s) = both (isLower b) (identifierFrom b s)
 unfoldable pub isPosition : List ℕ → Bool
 isPosition p = both (isNumber p) (no (same p (bytes "0")))
 
--- one component identifier
+-- one component identifier. "`content` and `(..)` are allowed on no base type; a member may bear the name `content`": it is read as a name,
+-- and `(..)` as nothing
 unfoldable pub idOf : List ℕ → Option Id
 idOf p =
     pick (same p (bytes "*")) (some (index all))

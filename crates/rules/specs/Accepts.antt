@@ -2,20 +2,18 @@
 -- rule here for an equal one, strings as prepared below." t is a value text that conforms, c the contents of a component.
 use Prim.Native.Nat.{ℕ}
 use mathlib.Core.Bool.{Bool, true, false}
-use mathlib.Core.List.{List, [], _∷_}
-use Rattle.octets.specs.Pick.{pick, no}
+use mathlib.Core.List.{List}
+use Rattle.octets.specs.Pick.{pick}
 use Rattle.octets.specs.Octets.{same, below, bytes}
 use Rattle.der.specs.Time.{timeOf, sameTime, earlier}
-use Rattle.der.specs.Meaning.{Whole, plus, sameWhole, lessWhole, integerOf, booleanOf, arcsOf, bitsOf}
+use Rattle.der.specs.Meaning.{plus, sameWhole, lessWhole, integerOf, booleanOf, arcsOf, bitsOf}
 use Rattle.der.specs.Dotted.{dottedArcs}
-use Rattle.table.specs.Types.{Member}
-use Rattle.value.specs.Value.{Spot}
 use Rattle.reference.specs.Numbers.{Component, stored, defaulted, tallied, contentsOf}
 use Rattle.rules.specs.Rule.{Syntax, booleans, integers, objectIdentifiers, octetStrings, bitStrings, strings, times, Rule, present, equal, less}
 use Rattle.rules.specs.Prepared.{prepared}
 use Rattle.rules.specs.Asserted.{assertedInteger, assertedOctets, assertedBits, assertedText}
 
--- an equal one
+-- an equal one; bits "equal in number and bit by bit"
 unfoldable pub isEqual : Syntax → List ℕ → List ℕ → Bool
 isEqual booleans t c = pick (booleanOf c) (same t (bytes "TRUE")) (same t (bytes "FALSE"))
 isEqual integers t c = sameWhole (integerOf c) (assertedInteger t)

@@ -1,10 +1,10 @@
 -- Rules: the syntaxes of asserted values, when a value text conforms and what it then says.
-use Prim.Native.Nat.{ℕ, _-_, _*_, _+_, _/_, _%_}
+use Prim.Native.Nat.{ℕ, _-_, _/_, _%_}
 use mathlib.Core.Bool.{Bool, true, false}
 use mathlib.Core.Option.{Option, none, some}
 use mathlib.Core.List.{List, [], _∷_, _++_}
-use lib.ListN.{length, drop, take}
-use lib.Dec.{ltb, leb, eqb}
+use lib.ListN.{length, drop}
+use lib.Dec.{leb, eqb}
 use Rattle.octets.specs.Pick.{pick, both, either, no}
 use Rattle.octets.specs.Octets.{octet, part, same, every, bytes, nibble, paired}
 use Rattle.octets.specs.Text.{within, isDigit, isNumber, decimal}
@@ -96,7 +96,7 @@ assertedText t = textOr (unquoted t)
 unfoldable pub isTime : List ℕ → Bool
 isTime t = both (isText t) (legalTime (assertedText t))
 
--- ---- a value text conforms to a syntax, and to what a rule asserts
+-- ---- a value text conforms to a syntax (OIDs: "a name there doesn't conform"), and to what a rule asserts
 unfoldable pub conformsTo : Syntax → List ℕ → Bool
 conformsTo booleans t = isTruth t
 conformsTo integers t = isInteger t
@@ -106,6 +106,7 @@ conformsTo bitStrings t = isBits t
 conformsTo (strings fold) t = isText t
 conformsTo times t = isTime t
 
+-- presentMatch: "value `NULL`"
 unfoldable pub conforms : Rule → List ℕ → Bool
 conforms present t = same t (bytes "NULL")
 conforms (equal s) t = conformsTo s t

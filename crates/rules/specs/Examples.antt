@@ -7,7 +7,7 @@ use Prim.Native.Nat.{ℕ}
 use Prim.Native.String.{String}
 use Rattle.octets.specs.Pick.{pick, both, bind}
 use Rattle.octets.specs.Octets.{bytes, hex}
-use Rattle.table.specs.Types.{Tagging, untagged, explicit, implicit, mandatory, Member, Ty, basic, sequence, choice, listOf, Members, noMore, more}
+use Rattle.table.specs.Types.{Tagging, untagged, explicit, mandatory, Ty, basic, sequence, choice, noMore, more}
 use Rattle.reference.specs.Allowed.{Target, ofType, ofCount}
 use Rattle.reference.specs.Numbers.{Component, stored, tallied}
 use Rattle.rules.specs.Rule.{Rule, ruleOf}

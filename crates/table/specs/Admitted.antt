@@ -3,7 +3,7 @@ use Prim.Native.Nat.{ℕ, zero, suc, _+_, _-_}
 use mathlib.Core.Bool.{Bool, true, false}
 use mathlib.Core.List.{List, [], _∷_}
 use lib.ListN.{length}
-use lib.Dec.{ltb, leb, eqb}
+use lib.Dec.{ltb, eqb}
 use Rattle.octets.specs.Pick.{pick, both, either, no, all}
 use Rattle.octets.specs.Octets.{part, same}
 use Rattle.octets.specs.Text.{within}
@@ -56,14 +56,14 @@ unfoldable pub membersStand : List ℕ → List ℕ → Bool
 membersStand t s = standing t 0 s
 
 -- "names in one type differ": members a and b of row i
-abbrev pub memberRow : List ℕ → ℕ → ℕ → ℕ
-memberRow s i j = rowAt s (i + 1 + j)
+abbrev pub memberPlace : List ℕ → ℕ → ℕ → ℕ
+memberPlace s i j = rowAt s (i + 1 + j)
 
 unfoldable pub sameName : Limits → List ℕ → ℕ → ℕ → Bool
 sameName l t p q = same (part t (p + 1) (l .name)) (part t (q + 1) (l .name))
 
 unfoldable pub differsFrom : Limits → List ℕ → List ℕ → ℕ → ℕ → ℕ → Bool
-differsFrom l t s i b a = no (sameName l t (memberRow s i a) (memberRow s i b))
+differsFrom l t s i b a = no (sameName l t (memberPlace s i a) (memberPlace s i b))
 
 unfoldable pub newName : Limits → List ℕ → List ℕ → ℕ → ℕ → Bool
 newName l t s i b = all (differsFrom l t s i b) b
@@ -73,12 +73,12 @@ namesDiffer l t s i = all (newName l t s i) (membersAt t (rowAt s i))
 
 -- "alternatives are mandatory"
 unfoldable pub mandatoryAt : List ℕ → List ℕ → ℕ → ℕ → Bool
-mandatoryAt t s i j = eqb (presenceAt t (memberRow s i j)) 0
+mandatoryAt t s i j = eqb (presenceAt t (memberPlace s i j)) 0
 
 unfoldable pub alternativesMandatory : List ℕ → List ℕ → ℕ → Bool
 alternativesMandatory t s i = either (no (eqb (kindAt t (rowAt s i)) kind.choice)) (all (mandatoryAt t s i) (membersAt t (rowAt s i)))
 
--- "no implicit tag on a CHOICE": member row i, whose type has kind k
+-- "no implicit tag on a CHOICE": `typeKind` is the kind of member row i's type
 abbrev pub typeKind : List ℕ → List ℕ → ℕ → ℕ
 typeKind t s i = kindAt t (rowAt s (typeRowAt t (rowAt s i)))
 
@@ -103,7 +103,7 @@ tagsDiffer l t s i = tagsApart (typeFrom (l .chain) l t s i)
 -- "A chain of rows, each naming the next as its element or as its member's type, has at most 16 type rows (member rows not counted)."
 -- Each chain from row i on has at most n type rows
 unfoldable pub ofMember : (ℕ → Bool) → List ℕ → List ℕ → ℕ → ℕ → Bool
-ofMember f t s i j = f (typeRowAt t (memberRow s i j))
+ofMember f t s i j = f (typeRowAt t (memberPlace s i j))
 
 unfoldable pub chainFits : ℕ → List ℕ → List ℕ → ℕ → Bool
 chainFits zero t s i = false

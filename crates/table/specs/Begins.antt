@@ -2,7 +2,7 @@
 use Prim.Native.Nat.{ℕ}
 use mathlib.Core.Bool.{Bool, true, false}
 use lib.Dec.{eqb}
-use Rattle.octets.specs.Pick.{pick, both, either, no, all}
+use Rattle.octets.specs.Pick.{both, either, no, all}
 use Rattle.der.specs.Kind as kind
 use Rattle.der.specs.Tag.{context, universal}
 use Rattle.table.specs.Types.{Tagging, untagged, explicit, implicit, Presence, mandatory, optional, default, Member, Ty, basic, sequence, choice, listOf, Members, noMore, more}
@@ -36,7 +36,7 @@ isMandatory (default c) = false
 unfoldable pub apartAt : Member → Ty → Member → Ty → ℕ → Bool
 apartAt m ty n u g = no (both (memberBegins m ty g) (memberBegins n u g))
 
--- two members have no tag in common
+-- two members have no tag in common; tags are the numbers below 64 (`tagOf`)
 unfoldable pub apart : Member → Ty → Member → Ty → Bool
 apart m ty n u = all (apartAt m ty n u) 64
 

@@ -1,16 +1,16 @@
 -- Type table: what the bodies of rows are like, apart from other rows.
-use Prim.Native.Nat.{ℕ, zero, suc, _+_, _-_, _*_}
-use mathlib.Core.Bool.{Bool, true, false}
+use Prim.Native.Nat.{ℕ, _+_, _-_}
+use mathlib.Core.Bool.{Bool, true}
 use mathlib.Core.List.{List}
-use lib.Dec.{ltb, leb, eqb}
+use lib.Dec.{leb, eqb}
 use Rattle.octets.specs.Pick.{pick, both, either, no, all}
 use Rattle.octets.specs.Octets.{part, every}
 use Rattle.octets.specs.Text.{within, isLower, isAlnum}
 use Rattle.der.specs.Kind as kind
 use Rattle.table.specs.Limits.{Limits}
-use Rattle.table.specs.Row.{kindAt, countAt, letterAt, modeAt, numberAt, presenceAt, defaultLengthAt}
+use Rattle.table.specs.Row.{kindAt, countAt, nameOctetAt, modeAt, numberAt, presenceAt, defaultLengthAt}
 
--- members, 0..16; alternatives, 1..16
+-- members from 0, alternatives from 1, up to the limit
 unfoldable pub countFormed : Limits → List ℕ → ℕ → Bool
 countFormed l t p =
     pick (eqb (kindAt t p) kind.sequence) (leb (countAt t p) (l .members))
@@ -26,10 +26,10 @@ follows a b =
     (either (eqb b 0) (either (eqb b 45) (isAlnum b))))
 
 unfoldable pub followed : List ℕ → ℕ → ℕ → Bool
-followed t p j = follows (letterAt t p j) (letterAt t p (j + 1))
+followed t p j = follows (nameOctetAt t p j) (nameOctetAt t p (j + 1))
 
 unfoldable pub nameFormed : Limits → List ℕ → ℕ → Bool
-nameFormed l t p = both (isLower (letterAt t p 0)) (both (no (eqb (letterAt t p (l .name - 1)) 45)) (all (followed t p) (l .name - 1)))
+nameFormed l t p = both (isLower (nameOctetAt t p 0)) (both (no (eqb (nameOctetAt t p (l .name - 1)) 45)) (all (followed t p) (l .name - 1)))
 
 -- tag mode 0 none, 1 explicit, 2 implicit; context tag number 0..30, and 0 in mode 0
 unfoldable pub tagFormed : List ℕ → ℕ → Bool

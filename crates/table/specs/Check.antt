@@ -1,6 +1,6 @@
 -- The table check, standing alone: refusals 1 and 2, else the number of rows.
 use Prim.Native.Nat.{ℕ}
-use mathlib.Core.Bool.{Bool, true, false}
+use mathlib.Core.Bool.{Bool}
 use mathlib.Core.List.{List}
 use lib.ListN.{length}
 use Rattle.octets.specs.Pick.{pick}
@@ -9,11 +9,18 @@ use Rattle.table.specs.Limits.{Limits}
 use Rattle.table.specs.Row.{rows}
 use Rattle.table.specs.Admitted.{admitted}
 
-pub data TableReport : Type 0 where
-  refused : ℕ → TableReport
-  admits : ℕ → TableReport
+-- a refusal number, 0 for none, and the number of rows, 0 with a refusal
+pub record TableReport : Type 0 where
+  pub refusal : ℕ
+  pub rows : ℕ
 
--- 1..4,992 bytes
+abbrev pub refused : ℕ → TableReport
+refused n = record { refusal = n; rows = 0 }
+
+abbrev pub admits : ℕ → TableReport
+admits n = record { refusal = 0; rows = n }
+
+-- refusal 1: the table's size
 unfoldable pub tableFits : Limits → List ℕ → Bool
 tableFits l t = within 1 (l .bytes) (length t)
 

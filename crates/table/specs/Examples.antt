@@ -5,7 +5,6 @@ use mathlib.Core.List.{List, [], _∷_, _++_, map}
 use Prim.Native.Nat.{ℕ, zero, suc}
 use Prim.Native.String.{String}
 use lib.ListN.{length, set, replicate}
-use Rattle.octets.specs.Octets.{bytes}
 use Rattle.table.specs.Paper.{tableLimits, memberRow, licence}
 use Rattle.table.specs.Row.{rows}
 use Rattle.table.specs.Types.{typeAt}

@@ -1,11 +1,11 @@
 -- Type table: rows. "Rows stand one after another and are numbered from 0. A row is one byte of kind, then a body whose length the kind fixes."
 -- A row is known by the place of its first octet; the rows of a table are the list of these places.
-use Prim.Native.Nat.{ℕ, zero, suc, _+_, _-_, _*_}
-use mathlib.Core.Bool.{Bool, true, false}
+use Prim.Native.Nat.{ℕ, zero, suc, _+_, _-_}
+use mathlib.Core.Bool.{Bool}
 use mathlib.Core.Option.{Option, none, some}
-use mathlib.Core.List.{List, [], _∷_}
+use mathlib.Core.List.{List, []}
 use lib.ListN.{getD, length}
-use lib.Dec.{ltb, leb, eqb}
+use lib.Dec.{ltb, eqb}
 use Rattle.octets.specs.Pick.{pick, either, consed}
 use Rattle.octets.specs.Octets.{octet, two, part}
 use Rattle.octets.specs.Text.{within}
@@ -19,13 +19,13 @@ kindAt t p = octet t p
 abbrev pub countAt : List ℕ → ℕ → ℕ
 countAt t p = octet t (p + 1)
 
--- of a SEQUENCE OF or SET OF: its element's row
+-- of a SEQUENCE OF or SET OF: its element's row. "Numbers are big-endian."
 abbrev pub elementAt : List ℕ → ℕ → ℕ
 elementAt t p = two t (p + 1)
 
 -- of a member: a name's octet, type row, tag mode, context tag number, presence, default length, default contents
-abbrev pub letterAt : List ℕ → ℕ → ℕ → ℕ
-letterAt t p j = octet t (p + 1 + j)
+abbrev pub nameOctetAt : List ℕ → ℕ → ℕ → ℕ
+nameOctetAt t p j = octet t (p + 1 + j)
 
 abbrev pub typeRowAt : List ℕ → ℕ → ℕ
 typeRowAt t p = two t (p + 25)
@@ -81,7 +81,7 @@ orNone (some ps) = ps
 unfoldable pub rows : ℕ → List ℕ → List ℕ
 rows most t = orNone (rowsFrom most t 0)
 
--- the place of row i
+-- the place of row i; of a row past the end, place 0
 abbrev pub rowAt : List ℕ → ℕ → ℕ
 rowAt s i = getD s i 0
 

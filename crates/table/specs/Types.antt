@@ -1,8 +1,7 @@
 -- The type that a row describes.
 use Prim.Native.Nat.{ℕ, zero, suc, _+_}
-use mathlib.Core.Bool.{Bool, true, false}
 use mathlib.Core.List.{List, [], _∷_}
-use lib.Dec.{ltb, leb, eqb}
+use lib.Dec.{eqb}
 use Rattle.octets.specs.Pick.{pick}
 use Rattle.octets.specs.Octets.{part}
 use Rattle.der.specs.Kind as kind
@@ -75,7 +74,7 @@ typed k e ms =
     (pick (isList k) (listOf k e)
     (basic k)))
 
--- the type of row i of the rows s, at most n rows deep
+-- the type of row i of the rows s, at most n rows deep; `basic 0`, which no value has, is not reached in an admitted table
 unfoldable pub typeFrom : ℕ → Limits → List ℕ → List ℕ → ℕ → Ty
 typeFrom zero l t s i = basic 0
 typeFrom (suc n) l t s i =

@@ -1,6 +1,6 @@
 -- The value check, standing alone: refusals 1, 2 and 4.
 use Prim.Native.Nat.{ℕ}
-use mathlib.Core.Bool.{Bool, true, false}
+use mathlib.Core.Bool.{Bool}
 use mathlib.Core.List.{List}
 use lib.ListN.{length}
 use Rattle.octets.specs.Pick.{pick, both, isSome}
@@ -12,11 +12,17 @@ use Rattle.table.specs.Check.{tableFits}
 use Rattle.value.specs.Limits.{Limits}
 use Rattle.value.specs.Decode.{storedValue}
 
-pub data ValueReport : Type 0 where
-  refused : ℕ → ValueReport
-  good : ValueReport
+-- a refusal number, 0 for none
+pub record ValueReport : Type 0 where
+  pub refusal : ℕ
 
--- 2..4,096 octets
+abbrev pub refused : ℕ → ValueReport
+refused n = record { refusal = n }
+
+abbrev pub good : ValueReport
+good = record { refusal = 0 }
+
+-- refusal 1: the value's size
 unfoldable pub valueFits : Limits → List ℕ → Bool
 valueFits l v = within (l .least) (l .most) (length v)
 

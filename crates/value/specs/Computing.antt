@@ -2,11 +2,11 @@
 use Prim.Native.Nat.{ℕ}
 use Rattle.table.specs.Computing.{tableComputes}
 use Rattle.value.specs.Value.{spotAt, encoding}
-use Rattle.value.specs.Order.{notAbove, rising}
+use Rattle.value.specs.Order.{rising}
 use Rattle.value.specs.Decode.{inWrapper, startsHere, many, unwrapped, decode, storedValue}
 use Rattle.value.specs.Check.{valueFits, isStored, valueReport}
 use Rattle.value.specs.Part.{partReport}
 
 unfoldable pub valueComputes : ℕ
-unfolding tableComputes spotAt encoding notAbove rising inWrapper startsHere many unwrapped decode storedValue valueFits isStored valueReport partReport
+unfolding tableComputes spotAt encoding rising inWrapper startsHere many unwrapped decode storedValue valueFits isStored valueReport partReport
 valueComputes = 0

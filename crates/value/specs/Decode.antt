@@ -1,19 +1,19 @@
 -- Stored value: the value of a type that stands at a place, before an end; and the place after it.
-use Prim.Native.Nat.{ℕ, zero, suc, _+_, _-_}
-use mathlib.Core.Bool.{Bool, true, false}
+use Prim.Native.Nat.{ℕ, zero, suc, _+_}
+use mathlib.Core.Bool.{Bool, false}
 use mathlib.Core.Option.{Option, none, some}
 use mathlib.Core.List.{List}
 use lib.ListN.{length}
-use lib.Dec.{ltb, leb, eqb}
+use lib.Dec.{ltb, eqb}
 use Rattle.octets.specs.Pick.{pick, both, either, bind, _>>=_}
 use Rattle.octets.specs.Octets.{octet, part, same}
 use Rattle.der.specs.Kind as kind
 use Rattle.der.specs.Tag.{tagOf, ownOctet, implicitOctet, wrapperOctet}
-use Rattle.der.specs.Header.{headerAt, bodyAt, anyTag, opened}
+use Rattle.der.specs.Header.{headerAt, insideAt, anyTag, opened}
 use Rattle.der.specs.Contents.{legal}
 use Rattle.table.specs.Types.{Tagging, untagged, explicit, implicit, Presence, mandatory, optional, default, Member, Ty, basic, sequence, choice, listOf, Members, noMore, more}
 use Rattle.table.specs.Begins.{memberBegins, isMandatory}
-use Rattle.value.specs.Value.{Spot, spotAt, spotOf, Value, leaf, fields, chosen, elements, Fields, endFields, present, absent, Values, endValues, next}
+use Rattle.value.specs.Value.{spotAt, spotOf, Value, leaf, fields, chosen, elements, Fields, endFields, present, absent, Values, endValues, next}
 use Rattle.value.specs.Order.{rising}
 
 pub record Decoded : Type 0 where
@@ -44,7 +44,7 @@ inside after f start n = bind (f start (start + n)) (ifFilling after (start + n)
 unfoldable pub inWrapper : {A : Type 0} → (A → ℕ) → Tagging → (ℕ → ℕ → Option A) → List ℕ → ℕ → ℕ → Option A
 inWrapper after untagged f v at end = f at end
 inWrapper after (implicit n) f v at end = f at end
-inWrapper after (explicit n) f v at end = opened (bodyAt (wrapperOctet n) v at end) (inside after f)
+inWrapper after (explicit n) f v at end = opened (insideAt (wrapperOctet n) v at end) (inside after f)
 
 -- a member is present where the next tag is one it can begin with
 unfoldable pub startsHere : Member → Ty → List ℕ → ℕ → ℕ → Bool
@@ -93,7 +93,7 @@ presentThen m rest member = do
   fs ← rest (d .after)
   some (present m (d .value) fs)
 
--- one that isn't, which a mandatory one has to be
+-- a member that isn't there; a mandatory one has to be
 abbrev pub absentThen : Member → Option Fields → Option Fields
 absentThen m rest = pick (isMandatory (m .presence)) none (bind rest (λ fs. some (absent m fs)))
 
@@ -110,14 +110,14 @@ many f (suc k) stop i =
     let more = nextThen (λ j. many f k stop j) (f i stop) in
     pick (ltb i stop) more (some endValues)
 
--- ---- a value as its type says, one level deeper in each step
+-- ---- "Otherwise a nested value is checked as its row says, one level deeper."
 unfoldable mutual
   -- inside an explicit wrapper, where there is one
   pub unwrapped : Ty → Tagging → List ℕ → ℕ → ℕ → Option Decoded
-  unwrapped (basic k) g v at end = opened (bodyAt (tagOctet g k) v at end) (leafOf k v at)
-  unwrapped (sequence ms) g v at end = opened (bodyAt (tagOctet g kind.sequence) v at end) (fieldsOf v at (λ stop i. fieldsFrom ms v stop i))
+  unwrapped (basic k) g v at end = opened (insideAt (tagOctet g k) v at end) (leafOf k v at)
+  unwrapped (sequence ms) g v at end = opened (insideAt (tagOctet g kind.sequence) v at end) (fieldsOf v at (λ stop i. fieldsFrom ms v stop i))
   unwrapped (choice ms) g v at end = alternativeFrom ms v at end
-  unwrapped (listOf k ty) g v at end = opened (bodyAt (tagOctet g k) v at end) (elementsOf k v at (many (λ i stop. unwrapped ty untagged v i stop)))
+  unwrapped (listOf k ty) g v at end = opened (insideAt (tagOctet g k) v at end) (elementsOf k v at (many (λ i stop. unwrapped ty untagged v i stop)))
 
   pub fieldsFrom : Members → List ℕ → ℕ → ℕ → Option Fields
   fieldsFrom noMore v stop i = pick (eqb i stop) (some endFields) none
@@ -138,7 +138,7 @@ unfoldable mutual
 unfoldable pub decode : Ty → Tagging → List ℕ → ℕ → ℕ → Option Decoded
 decode ty g v at end = inWrapper afterOf g (unwrapped ty g v) v at end
 
--- "DER, whole buffer, type of row 0"
+-- "DER, whole buffer": a buffer that is one value of a type, and nothing more
 unfoldable pub storedValue : Ty → List ℕ → Option Value
 storedValue ty v = do
   d ← decode ty untagged v 0 (length v)

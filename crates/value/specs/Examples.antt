@@ -1,20 +1,20 @@
 -- Computed examples.
 use mathlib.Core.Path.{_≡_, refl}
 use mathlib.Core.Bool.{Bool, true, false}
-use mathlib.Core.Option.{Option, none, some}
+use mathlib.Core.Option.{some}
 use mathlib.Core.List.{List, [], _∷_, _++_, map}
 use Prim.Native.Nat.{ℕ}
 use Prim.Native.String.{String}
-use lib.ListN.{length, replicate}
+use lib.ListN.{replicate}
 use Rattle.octets.specs.Pick.{isSome}
 use Rattle.octets.specs.Octets.{bytes, hex}
-use Rattle.table.specs.Paper.{tableLimits, memberRow, licence}
-use Rattle.table.specs.Types.{Tagging, untagged, explicit, implicit, Presence, mandatory, optional, default, Member, Ty, basic, sequence, choice, listOf, Members, noMore, more}
+use Rattle.table.specs.Paper.{tableLimits, licence}
+use Rattle.table.specs.Types.{Tagging, untagged, explicit, implicit, Presence, mandatory, optional, default, Member, Ty, basic, sequence, choice, listOf, noMore, more}
 use Rattle.value.specs.Paper.{valueLimits, licenceRecord}
-use Rattle.value.specs.Value.{Spot, Value, leaf, fields, chosen, elements, Fields, endFields, present, absent, Values, endValues, next}
+use Rattle.value.specs.Value.{leaf, fields, chosen, endFields, present, absent}
 use Rattle.value.specs.Decode.{storedValue}
 use Rattle.value.specs.Check.{ValueReport, refused, good, valueReport}
-use Rattle.value.specs.Part.{PartReport, refusedPart, partReport}
+use Rattle.value.specs.Part.{refusedPart, partReport}
 use Rattle.value.specs.Computing.{valueComputes}
 
 abbrev report : List ℕ → ValueReport

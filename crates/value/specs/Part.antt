@@ -1,6 +1,5 @@
 -- The fifth entry: the octets of a stored value, from place and length.
 use Prim.Native.Nat.{ℕ, _+_}
-use mathlib.Core.Bool.{Bool, true, false}
 use mathlib.Core.List.{List, []}
 use lib.ListN.{length}
 use lib.Dec.{leb}
@@ -9,7 +8,7 @@ use Rattle.octets.specs.Octets.{part}
 use Rattle.value.specs.Limits.{Limits}
 use Rattle.value.specs.Check.{valueFits}
 
--- a refusal number, 0 for none, and a part, which is empty with a refusal
+-- a refusal number, 0 for none, and the part
 pub record PartReport : Type 0 where
   pub refusal : ℕ
   pub octets : List ℕ
@@ -17,6 +16,7 @@ pub record PartReport : Type 0 where
 abbrev pub refusedPart : ℕ → PartReport
 refusedPart n = record { refusal = n; octets = [] }
 
+-- "refused 1 for the value's size, then 4 if place plus length passes that size, each with an empty part"
 unfoldable pub partReport : Limits → List ℕ → ℕ → ℕ → PartReport
 partReport l v place size =
     pick (valueFits l v)

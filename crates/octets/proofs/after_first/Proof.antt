@@ -1,6 +1,5 @@
 use Rattle.octets.proofs.Tests.{tests}
 use Rattle.octets.specs.Utf8.{afterFirst}
-use borrow.Author.Needs.{needs}
 use Rattle.octets.proofs.after_first.Statement.{statement}
 use Rattle.octets.proofs.after_first.Tie as tie
 

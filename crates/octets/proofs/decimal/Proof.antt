@@ -1,6 +1,5 @@
-use mathlib.Core.Path.{_≡_, refl}
 use Prim.Native.Nat.{_-_}
-use lib.ListN.{length, drop}
+use lib.ListN.{length}
 use Rattle.octets.proofs.Steps.{Decimal, decimal-start, decimal-more, decimal-done}
 use borrow.Author.Needs.{needs}
 use Rattle.octets.proofs.decimal.Statement.{statement}

@@ -1,6 +1,5 @@
 use Rattle.octets.proofs.Tests.{tests}
 use Rattle.octets.specs.Text.{isDigit}
-use borrow.Author.Needs.{needs}
 use Rattle.octets.proofs.is_digit.Statement.{statement}
 use Rattle.octets.proofs.is_digit.Tie as tie
 

@@ -1,6 +1,5 @@
 use Rattle.octets.proofs.Tests.{tests}
 use Rattle.octets.specs.Text.{isLower}
-use borrow.Author.Needs.{needs}
 use Rattle.octets.proofs.is_lower.Statement.{statement}
 use Rattle.octets.proofs.is_lower.Tie as tie
 

@@ -1,6 +1,5 @@
 use Rattle.octets.proofs.Tests.{tests}
 use Rattle.octets.specs.Text.{isUpper}
-use borrow.Author.Needs.{needs}
 use Rattle.octets.proofs.is_upper.Statement.{statement}
 use Rattle.octets.proofs.is_upper.Tie as tie
 

@@ -1,7 +1,7 @@
 use Rattle.octets.specs.Text.{skip}
 use mathlib.Core.Path.{_≡_, refl}
 use Prim.Native.Nat.{_-_}
-use lib.ListN.{length, drop}
+use lib.ListN.{length}
 use Rattle.octets.proofs.Steps.{skip-stops, skip-on, skip-ends}
 use borrow.Author.Needs.{needs}
 use Rattle.octets.proofs.skip.Statement.{statement}

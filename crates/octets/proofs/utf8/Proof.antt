@@ -1,6 +1,6 @@
 use Rattle.octets.proofs.Steps.{utf8-start, utf8-more, utf8-done}
 use Rattle.octets.specs.Utf8.{utf8From, utf8}
-use mathlib.Core.Path.{_≡_, refl}
+use mathlib.Core.Path.{_≡_}
 use Prim.Native.Nat.{_-_}
 use lib.ListN.{length, drop}
 use borrow.Author.Needs.{needs}

@@ -1,0 +1,136 @@
+-- One lemma for each return and each turn of a loop; its premises are the facts as the code has them.
+use mathlib.Core.Path.{_≡_, refl, sym, ap, ap₂, _∙_}
+use mathlib.Core.List.{List}
+use Prim.Native.Nat.{ℕ, _≤_, _<_, _+_, _-_, _*_, _/_, _^_}
+use native.Mathlib.Omega.{arith}
+use borrow.Author.Tests.{eq-eqb, ne-eqb, lt-ltb, le-ltb, lt-leb, le-leb}
+use lib.Bits.{bitAnd, and-mask}
+use Rattle.octets.specs.Octets.{octet, two}
+use Rattle.der.specs.Tag.{class, constructed, number, tagOf, context}
+use Rattle.der.specs.Header.{longLength, lengthAt, sized, headerAt, tagged, insideAt, anyTag}
+use Rattle.der.specs.declared.Length.{Length}
+use Rattle.der.specs.declared.Header.{Header}
+use Rattle.der.specs.declared.Inside.{Inside}
+use Rattle.der.proofs.Laws.{number-small, length-within}
+
+-- ---- tags
+pub class-is : (o : ℕ) → o / 2 ^ 6 ≡ class o
+unfolding class
+class-is o = refl
+
+pub constructed-is : (o : ℕ) → bitAnd (o / 2 ^ 5) 1 ≡ constructed o
+unfolding constructed
+constructed-is o = and-mask (o / 2 ^ 5) 1
+
+pub number-is : (o : ℕ) → bitAnd o 31 ≡ number o
+unfolding number
+number-is o = and-mask o 5
+
+module _ (o k : ℕ) (read : k ≡ class o) where
+  pub tag-universal : (n : ℕ) → k ≡ 0 → n ≡ number o → n ≡ tagOf o
+  unfolding tagOf
+  tag-universal n h e = rw (eq-eqb (class o) 0 (sym read ∙ h)) e
+
+  module _ (h : k ≡ 0 → ⊥) where
+    pub tag-context : (k' n : ℕ) → k' ≡ class o → k' ≡ 2 → n ≡ context (number o) → n ≡ tagOf o
+    unfolding tagOf
+    tag-context k' n read' g e = rw (ne-eqb (class o) 0 (λ z. h (read ∙ z)), eq-eqb (class o) 2 (sym read' ∙ g)) e
+
+    pub tag-other : (k' : ℕ) → k' ≡ class o → (k' ≡ 2 → ⊥) → 64 ≡ tagOf o
+    unfolding tagOf
+    tag-other k' read' g = rw (ne-eqb (class o) 0 (λ z. h (read ∙ z)), ne-eqb (class o) 2 (λ z. g (read' ∙ z)))
+
+pub context-is : (o n : ℕ) → n ≡ number o → 32 + n ≡ context (number o)
+context-is o n e = ap (λ (x : ℕ). 32 + x) e
+
+pub tag-fits : (o n : ℕ) → n ≡ number o → 32 + n < 256
+tag-fits o n e = omega (arith, number-small o)
+
+-- ---- lengths
+pub one-past : (s : List ℕ) (n at end : ℕ) → at < end → end - at < 2 → Length.Unusable ≡ longLength n 128 (at + 2) end
+unfolding longLength
+one-past s n at end h g = let e : end < at + 2 = omega arith in rw (lt-ltb _ _ e)
+
+pub two-past : (s : List ℕ) (n at end : ℕ) → at < end → end - at < 3 → Length.Unusable ≡ longLength n 256 (at + 3) end
+unfolding longLength
+two-past s n at end h g = let e : end < at + 3 = omega arith in rw (lt-ltb _ _ e)
+
+pub one-is : (s : List ℕ) (at end o n : ℕ) (r : Length) → o ≡ octet s (at + 1) → n ≡ o → r ≡ longLength n 128 (at + 2) end → r ≡ longLength (octet s (at + 1)) 128 (at + 2) end
+one-is s at end o n r e f g = rw (sym e, sym f) g
+
+pub two-is : (s : List ℕ) (at end a b n : ℕ) (r : Length) → a ≡ octet s (at + 1) → b ≡ octet s (at + 2) → n ≡ a * 256 + b → r ≡ longLength n 256 (at + 3) end
+    → r ≡ longLength (two s (at + 1)) 256 (at + 3) end
+two-is s at end a b n r e f g h =
+    let next : at + 1 + 1 ≡ at + 2 = omega arith in
+    h ∙ ap (λ (x : ℕ). longLength x 256 (at + 3) end) (g ∙ ap₂ (λ (x y : ℕ). x * 256 + y) e (f ∙ ap (octet s) (sym next)))
+
+module _ (s : List ℕ) (at end o : ℕ) (h : at < end) (read : o ≡ octet s at) where
+  pub length-short : (n : ℕ) → o < 128 → n ≡ o → Length.Of n (at + 1) ≡ lengthAt s at end
+  unfolding lengthAt
+  length-short n l e = rw (lt-leb end at h, ← read, lt-ltb o 128 l, e)
+
+  module _ (l : 128 ≤ o) where
+    pub length-one : (r : Length) → o ≡ 129 → r ≡ longLength (octet s (at + 1)) 128 (at + 2) end → r ≡ lengthAt s at end
+    unfolding lengthAt
+    length-one r e g = rw (lt-leb end at h, ← read, le-ltb o 128 l, eq-eqb o 129 e) g
+
+    module _ (n : o ≡ 129 → ⊥) where
+      pub length-two : (r : Length) → o ≡ 130 → r ≡ longLength (two s (at + 1)) 256 (at + 3) end → r ≡ lengthAt s at end
+      unfolding lengthAt
+      length-two r e g = rw (lt-leb end at h, ← read, le-ltb o 128 l, ne-eqb o 129 n, eq-eqb o 130 e) g
+
+      pub length-no : (o ≡ 130 → ⊥) → Length.Unusable ≡ lengthAt s at end
+      unfolding lengthAt
+      length-no e = rw (lt-leb end at h, ← read, le-ltb o 128 l, ne-eqb o 129 n, ne-eqb o 130 e)
+
+pub length-none : (s : List ℕ) (at end : ℕ) → end ≤ at → Length.Unusable ≡ lengthAt s at end
+unfolding lengthAt
+length-none s at end h = rw (le-leb end at h)
+
+-- ---- headers
+pub header-none : (s : List ℕ) (at end : ℕ) → end ≤ at → Header.Misfit ≡ headerAt s at end
+unfolding headerAt
+header-none s at end h = rw (le-leb end at h)
+
+module _ (s : List ℕ) (at end o k : ℕ) (h : at < end) (read : o ≡ octet s at) (told : k ≡ number o) where
+  pub header-31 : k ≡ 31 → Header.Misfit ≡ headerAt s at end
+  unfolding headerAt
+  header-31 e = rw (lt-leb end at h, ← read, eq-eqb _ _ (sym told ∙ e))
+
+  module _ (n : k ≡ 31 → ⊥) (l : Length) (found : l ≡ lengthAt s (at + 1) end) where
+    sized-is : headerAt s at end ≡ sized o end l
+    unfolding headerAt
+    sized-is = rw (lt-leb end at h, ← read, ne-eqb _ _ (λ z. n (told ∙ z)), ← found)
+
+    pub header-unusable : l ≡ Length.Unusable → Header.Misfit ≡ headerAt s at end
+    header-unusable e = sym (sized-is ∙ ap (sized o end) e)
+
+    module _ (m next : ℕ) (e : l ≡ Length.Of m next) where
+      pub header-long : end - next < m → Header.Misfit ≡ headerAt s at end
+      header-long g = sym (sized-is ∙ ap (sized o end) e ∙ rw (lt-ltb _ _ g))
+
+      pub header-is : m ≤ end - next → Header.Found o next m ≡ headerAt s at end
+      header-is g = sym (sized-is ∙ ap (sized o end) e ∙ rw (le-ltb _ _ g))
+
+pub length-ends : (s : List ℕ) (at end m next : ℕ) (l : Length) → l ≡ lengthAt s (at + 1) end → l ≡ Length.Of m next → next ≤ end
+length-ends s at end m next l found e = length-within s (at + 1) end m next (sym found ∙ e) .1
+
+module _ (s : List ℕ) (at end : ℕ) (h : Header) (read : h ≡ headerAt s at end) where
+  pub body-misfit : (g : ℕ) → h ≡ Header.Misfit → Inside.Misfit ≡ insideAt g s at end
+  unfolding insideAt
+  body-misfit g e = sym (ap (tagged g) (sym read ∙ e))
+
+  pub any-misfit : h ≡ Header.Misfit → Inside.Misfit ≡ anyTag (headerAt s at end)
+  any-misfit e = sym (ap anyTag (sym read ∙ e))
+
+  module _ (o start n : ℕ) (e : h ≡ Header.Found o start n) where
+    pub body-other : (g w : ℕ) → w ≡ o → (w ≡ g → ⊥) → Inside.Misfit ≡ insideAt g s at end
+    unfolding insideAt
+    body-other g w q f = sym (ap (tagged g) (sym read ∙ e) ∙ rw (ne-eqb o g (λ z. f (q ∙ z))))
+
+    pub body-is : (g w : ℕ) → w ≡ o → w ≡ g → Inside.Of start n ≡ insideAt g s at end
+    unfolding insideAt
+    body-is g w q f = sym (ap (tagged g) (sym read ∙ e) ∙ rw (eq-eqb o g (sym q ∙ f)))
+
+    pub any-is : Inside.Of start n ≡ anyTag (headerAt s at end)
+    any-is = sym (ap anyTag (sym read ∙ e))

@@ -1,0 +1,23 @@
+use Rattle.der.proofs.Tests.{tests}
+use Rattle.der.specs.Tag.{universal}
+use Rattle.der.proofs.universal.Statement.{statement}
+use Rattle.der.proofs.universal.Tie as tie
+
+pub universal-spec : {M : Type 1} → statement M
+unfolding universal
+universal-spec =
+    tie.close
+    (tie.spec
+    (λ c. search tests)  -- returns
+    (λ c. search tests)  -- returns-2
+    (λ c. search tests)  -- returns-3
+    (λ c. search tests)  -- returns-4
+    (λ c. search tests)  -- returns-5
+    (λ c. search tests)  -- returns-6
+    (λ c. search tests)  -- returns-7
+    (λ c. search tests)  -- returns-8
+    (λ c. search tests)  -- returns-9
+    (λ c. search tests)  -- returns-10
+    (λ c. search tests)  -- returns-11
+    (λ c. search tests)  -- returns-12
+    (λ c. search tests))  -- returns-13

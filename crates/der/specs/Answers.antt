@@ -1,0 +1,26 @@
+-- What the code's answers say.
+use Prim.Native.Nat.{ℕ, _≤_, _<_}
+use mathlib.Core.Option.{Option, none, some}
+use mathlib.Core.List.{List, []}
+use lib.ListN.{length, drop}
+use Rattle.octets.specs.Pick.{consed}
+use Rattle.der.specs.Contents.{subidentifiers}
+use Rattle.der.specs.Meaning.{Whole}
+use Rattle.der.specs.declared.Sub.{Sub}
+use Rattle.der.specs.declared.Integer.{Integer}
+
+-- an integer
+abbrev pub toldInteger : Integer → Whole
+toldInteger i = record { minus = i .minus; size = i .size }
+
+-- the subidentifiers from a place on, by the first of them and the place after it
+abbrev pub toldSub : List ℕ → Sub → Option (List ℕ)
+toldSub c Sub.Broken = none
+toldSub c Sub.End = some []
+toldSub c (Sub.Value n next) = consed n (subidentifiers (drop next c))
+
+-- that place lies further on, within the contents
+abbrev pub Forward : List ℕ → ℕ → Sub → Type 0
+Forward c at Sub.Broken = Unit
+Forward c at Sub.End = Unit
+Forward c at (Sub.Value n next) = (at < next) × (next ≤ length c)
