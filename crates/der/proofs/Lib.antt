@@ -1,3 +1,5 @@
 pub mod Tests
 pub mod Laws
 pub mod Steps
+pub mod ContentsSteps
+pub mod SubSteps

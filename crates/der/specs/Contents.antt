@@ -54,18 +54,20 @@ legalOid c = legalSubs (subidentifiers c)
 
 -- BIT STRING: unused count 0..7, unused bits zero, 0 if no bits
 unfoldable pub legalBits : List ℕ → Bool
-legalBits [] = false
-legalBits (u ∷ o) = both (leb u 7) (pick (eqb (length o) 0) (eqb u 0) (eqb (octet o (length o - 1) % 2 ^ u) 0))
+legalBits c =
+    both (leb 1 (length c))
+    (both (leb (octet c 0) 7)
+    (pick (eqb (length c) 1) (eqb (octet c 0) 0) (eqb (octet c (length c - 1) % 2 ^ octet c 0) 0)))
 
 -- PrintableString by X.680: letters, digits, space and ' ( ) + , - . / : = ?
+unfoldable pub isSign : ℕ → Bool
+isSign b = either (eqb b 58) (either (eqb b 61) (eqb b 63))
+
+unfoldable pub isMark : ℕ → Bool
+isMark b = either (eqb b 32) (either (within 39 41 b) (either (within 43 47 b) (isSign b)))
+
 unfoldable pub isPrintable : ℕ → Bool
-isPrintable b =
-    either (isAlnum b)
-    (either (eqb b 32)
-    (either (within 39 41 b)
-    (either (within 43 47 b)
-    (either (eqb b 58)
-    (either (eqb b 61) (eqb b 63))))))
+isPrintable b = either (isAlnum b) (isMark b)
 
 unfoldable pub legalPrintable : List ℕ → Bool
 legalPrintable c = every isPrintable c

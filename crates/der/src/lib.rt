@@ -1,6 +1,7 @@
 // DER values: tag octet, length, header, and the contents of the basic kinds. Reads past the end give 0, so nothing is asked of a caller.
 ghost use mathlib.Core.Path.{_≡_};
-ghost use Prim.Native.Nat.{_≤_, _<_, _+_, _-_};
+ghost use Prim.Native.Nat.{_≤_, _<_, _+_, _-_, _%_, _^_};
+ghost use lib.Dec.{eqb};
 ghost use lib.ListN.{length, drop, getD};
 ghost use Rattle.octets.specs.Octets.{octet, two, part};
 ghost use Rattle.der.specs.Tag as tag;
@@ -244,4 +245,188 @@ pub fn open_any(s: &[u8], at: usize, end: usize) -> Inside
         return Inside::Misfit;
     };
     Inside::Of(start, n)
+}
+
+// ---- contents of the basic kinds
+pub fn legal_boolean(c: &[u8]) -> bool
+    ensures { λ r. ⌜ r ≡ contents.legalBoolean (now (c .entry)) ⌝ }
+{
+    if c.len() != 1 {
+        return false;
+    }
+    if c[0] == 0 {
+        return true;
+    }
+    c[0] == 255
+}
+
+fn shortest(a: u8, b: u8) -> bool
+    ensures { λ r. ⌜ r ≡ contents.shortest a b ⌝ }
+{
+    if a == 0 {
+        return 128 <= b;
+    }
+    if a == 255 {
+        return b < 128;
+    }
+    true
+}
+
+pub fn legal_integer(c: &[u8]) -> bool
+    ensures { λ r. ⌜ r ≡ contents.legalInteger (now (c .entry)) ⌝ }
+{
+    if c.len() < 1 {
+        return false;
+    }
+    if 8 < c.len() {
+        return false;
+    }
+    if c.len() == 1 {
+        return true;
+    }
+    shortest(c[0], c[1])
+}
+
+pub fn legal_null(c: &[u8]) -> bool
+    ensures { λ r. ⌜ r ≡ contents.legalNull (now (c .entry)) ⌝ }
+{
+    c.len() == 0
+}
+
+// The subidentifier at a place: seven bits an octet, the top bit set on all but the last.
+pub fn read_sub(c: &[u8], at: usize) -> Sub
+    ensures told { λ r. ⌜ toldSub (now (c .entry)) r ≡ contents.subidentifiers (drop at (now (c .entry))) ⌝ }
+    ensures forward { λ r. ⌜ Forward (now (c .entry)) at r ⌝ }
+{
+    if c.len() <= at {
+        return Sub::End;
+    }
+    if c[at] == 128 {
+        return Sub::Broken;
+    }
+    let mut i = at;
+    let mut v: u32 = 0;
+    while i < c.len() {
+        let o = c[i];
+        if 33554431 < v {
+            return Sub::Broken;
+        }
+        v = (v << 7) | ((o & 127) as u32);
+        i += 1;
+        if o < 128 {
+            return Sub::Value(v, i);
+        }
+    }
+    Sub::Broken
+}
+
+pub fn legal_oid(c: &[u8]) -> bool
+    ensures { λ r. ⌜ r ≡ contents.legalOid (now (c .entry)) ⌝ }
+{
+    let mut i = 0;
+    let mut n: usize = 0;
+    while i < c.len() {
+        let s = read_sub(c, i);
+        match s {
+            Sub::Value(_, next) => {
+                if n == 32 {
+                    return false;
+                }
+                i = next;
+                n += 1;
+            }
+            Sub::End => {
+                return 1 <= n;
+            }
+            Sub::Broken => {
+                return false;
+            }
+        }
+    }
+    1 <= n
+}
+
+fn unused_clear(u: u8, last: u8) -> bool
+    requires { ⌜ u ≤ 7 ⌝ }
+    ensures { λ r. ⌜ r ≡ eqb (last % 2 ^ u) 0 ⌝ }
+{
+    last % (1u8 << u) == 0
+}
+
+pub fn legal_bits(c: &[u8]) -> bool
+    ensures { λ r. ⌜ r ≡ contents.legalBits (now (c .entry)) ⌝ }
+{
+    if c.len() < 1 {
+        return false;
+    }
+    if 7 < c[0] {
+        return false;
+    }
+    if c.len() == 1 {
+        return c[0] == 0;
+    }
+    let last = c.len() - 1;
+    unused_clear(c[0], c[last])
+}
+
+fn is_sign(b: u8) -> bool
+    ensures { λ r. ⌜ r ≡ contents.isSign b ⌝ }
+{
+    if b == 58 {
+        return true;
+    }
+    if b == 61 {
+        return true;
+    }
+    b == 63
+}
+
+fn is_mark(b: u8) -> bool
+    ensures { λ r. ⌜ r ≡ contents.isMark b ⌝ }
+{
+    if b == 32 {
+        return true;
+    }
+    if octets::within(39, 41, b) {
+        return true;
+    }
+    if octets::within(43, 47, b) {
+        return true;
+    }
+    is_sign(b)
+}
+
+fn is_printable(b: u8) -> bool
+    ensures { λ r. ⌜ r ≡ contents.isPrintable b ⌝ }
+{
+    if octets::is_alnum(b) {
+        return true;
+    }
+    is_mark(b)
+}
+
+pub fn legal_printable(c: &[u8]) -> bool
+    ensures { λ r. ⌜ r ≡ contents.legalPrintable (now (c .entry)) ⌝ }
+{
+    let mut i = 0;
+    while i < c.len() {
+        if !is_printable(c[i]) {
+            return false;
+        }
+        i += 1;
+    }
+    true
+}
+
+pub fn legal_ia5(c: &[u8]) -> bool
+    ensures { λ r. ⌜ r ≡ contents.legalIa5 (now (c .entry)) ⌝ }
+{
+    let mut i = 0;
+    while i < c.len() {
+        if 127 < c[i] {
+            return false;
+        }
+        i += 1;
+    }
+    true
 }

@@ -1,14 +1,15 @@
 -- Laws of the definitions, for this crate's proofs and for the layers above.
-use mathlib.Core.Path.{_≡_, refl, sym}
-use mathlib.Core.Bool.{Bool, true, false}
+use mathlib.Core.Path.{_≡_, refl, sym, ap, _∙_}
+use mathlib.Core.Bool.{Bool, true, false, not}
 use mathlib.Core.List.{List, [], _∷_}
 use Prim.Native.Nat.{ℕ, zero, suc, _≤_, _<_, _+_, _-_}
 use native.Mathlib.Omega.{arith}
 use native.Mathlib.Numerals.{add-one}
+use borrow.Author.Tests.{not-true, not-false}
 use lib.ListN.{length, drop, drop-of-length-le, List·getD-eq-default, length-drop}
 use lib.Seq.{drop-cons, take-nil, take-all}
 use Rattle.octets.specs.Pick.{pick}
-use Rattle.octets.specs.Octets.{octet, part}
+use Rattle.octets.specs.Octets.{octet, part, every}
 
 -- ---- tests
 -- what holds of both sides of a choice, each under its test, holds of the choice
@@ -49,3 +50,41 @@ part-past s at n h = rw (drop-of-length-le s h) (take-nil n)
 
 pub part-rest : (s : List ℕ) (at n : ℕ) → length s - at ≤ n → part s at n ≡ drop at s
 part-rest s at n h = take-all n (drop at s) (rw length-drop h)
+
+-- ---- a test of every octet, in a loop: it has held up to i
+module _ (f : ℕ → Bool) (s : List ℕ) (i : ℕ) (inv : every f (drop i s) ≡ every f s) where
+  pub every-done : length s ≤ i → true ≡ every f s
+  unfolding every
+  every-done h = rw (rest-none s i h) at inv
+
+  module _ (h : i < length s) where
+    here : pick (f (octet s i)) (every f (drop (i + 1) s)) false ≡ every f s
+    unfolding every
+    here = sym (ap (every f) (rest-cons s i h)) ∙ inv
+
+    pub every-fails : f (octet s i) ≡ false → false ≡ every f s
+    every-fails e = rw e at here
+
+    pub every-holds : f (octet s i) ≡ true → every f (drop (i + 1) s) ≡ every f s
+    every-holds e = rw e at here
+
+    -- u is what the code found
+    module _ (u : Bool) (told : u ≡ f (octet s i)) where
+      pub every-bad : not u ≡ true → false ≡ every f s
+      every-bad e = every-fails (sym told ∙ not-true u e)
+
+      pub every-more : not u ≡ false → every f (drop (i + 1) s) ≡ every f s
+      every-more e = every-holds (sym told ∙ not-false u e)
+
+-- ---- two tests, one after the other: r and u are what the code found of p and q
+pub either-first : (r p q : Bool) → r ≡ p → r ≡ true → true ≡ pick p true q
+either-first r p q e h = rw (sym e ∙ h)
+
+pub either-second : (r p q u : Bool) → r ≡ p → r ≡ false → u ≡ q → u ≡ pick p true q
+either-second r p q u e h f = rw (sym e ∙ h) f
+
+pub both-first : (r p q : Bool) → r ≡ p → r ≡ false → false ≡ pick p q false
+both-first r p q e h = rw (sym e ∙ h)
+
+pub both-second : (r p q u : Bool) → r ≡ p → r ≡ true → u ≡ q → u ≡ pick p q false
+both-second r p q u e h f = rw (sym e ∙ h) f

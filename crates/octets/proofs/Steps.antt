@@ -21,13 +21,6 @@ use Rattle.octets.specs.declared.Place.{Place}
 use Rattle.octets.specs.declared.Awaiting.{Awaiting}
 use Rattle.octets.proofs.Laws.{octet-past, rest-cons, rest-none, part-past, part-rest}
 
--- ---- two tests, one after the other: r and u are what the code found of p and q
-pub either-first : (r p q : Bool) → r ≡ p → r ≡ true → true ≡ pick p true q
-either-first r p q e h = rw (sym e ∙ h)
-
-pub either-second : (r p q u : Bool) → r ≡ p → r ≡ false → u ≡ q → u ≡ pick p true q
-either-second r p q u e h f = rw (sym e ∙ h) f
-
 -- ---- part
 pub part-none : (s : List ℕ) (at n k : ℕ) → length s ≤ at → take k (drop (length s) s) ≡ part s at n
 part-none s at n k h = rw (rest-none s (length s) (omega arith), part-past s at n h) (take-nil k)
@@ -69,21 +62,6 @@ module _ (s w : List ℕ) (at i p : ℕ) (inv : starts w (drop at s) ≡ starts 
   pub starts-whole : length w ≤ i → true ≡ starts w (drop at s)
   unfolding starts
   starts-whole h = sym (inv ∙ rw (rest-none w i h))
-
--- ---- every digit
-module _ (s : List ℕ) (i : ℕ) (inv : every isDigit (drop i s) ≡ every isDigit s) where
-  pub digits-done : length s ≤ i → true ≡ every isDigit s
-  unfolding every
-  digits-done h = rw (rest-none s i h) at inv
-
-  module _ (h : i < length s) (u : Bool) (told-digit : u ≡ isDigit (octet s i)) where
-    pub digits-bad : not u ≡ true → false ≡ every isDigit s
-    unfolding every
-    digits-bad f = sym (ap (λ (x : Bool). pick x (every isDigit (drop (i + 1) s)) false) (sym told-digit ∙ not-true u f)) ∙ sym (ap (every isDigit) (rest-cons s i h)) ∙ inv
-
-    pub digits-more : not u ≡ false → every isDigit (drop (i + 1) s) ≡ every isDigit s
-    unfolding every
-    digits-more f = sym (ap (λ (x : Bool). pick x (every isDigit (drop (i + 1) s)) false) (sym told-digit ∙ not-false u f)) ∙ sym (ap (every isDigit) (rest-cons s i h)) ∙ inv
 
 -- ---- numbers
 pub number-none : (s : List ℕ) → length s ≡ 0 → false ≡ isNumber s

@@ -71,6 +71,16 @@ pub fn part(s: &[u8], at: usize, n: usize) -> &[u8]
 }
 
 // ---- characters
+// Whether an octet lies from one to another, both included.
+pub fn within(least: u8, most: u8, b: u8) -> bool
+    ensures { λ r. ⌜ r ≡ text.within least most b ⌝ }
+{
+    if b < least {
+        return false;
+    }
+    b <= most
+}
+
 pub fn is_digit(b: u8) -> bool
     ensures { λ r. ⌜ r ≡ text.isDigit b ⌝ }
 {

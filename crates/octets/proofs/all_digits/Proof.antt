@@ -3,7 +3,7 @@ use Rattle.octets.specs.Text.{isDigit}
 use mathlib.Core.Path.{_≡_, refl}
 use Prim.Native.Nat.{_-_}
 use lib.ListN.{length, drop}
-use Rattle.octets.proofs.Steps.{digits-done, digits-bad, digits-more}
+use Rattle.octets.proofs.Laws.{every-done, every-bad, every-more}
 use borrow.Author.Needs.{needs}
 use Rattle.octets.proofs.all_digits.Statement.{statement}
 use Rattle.octets.proofs.all_digits.Tie as tie
@@ -23,8 +23,8 @@ all-digits-spec =
     (λ c. refl)  -- loop-holds
     (λ c. search needs)  -- shared-slice-read-is-digit
     (λ c κs. search needs)  -- is-digit-requires
-    (λ c. search digits-bad)  -- returns
+    (λ c. search every-bad)  -- returns
     (λ c. search needs)  -- add-i
     (λ c. search needs)  -- loop-less
-    (λ c. search digits-more)  -- loop-again
-    (λ c. search digits-done))  -- returns-2
+    (λ c. search every-more)  -- loop-again
+    (λ c. search every-done))  -- returns-2

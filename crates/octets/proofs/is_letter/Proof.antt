@@ -1,4 +1,4 @@
-use Rattle.octets.proofs.Steps.{either-first, either-second}
+use Rattle.octets.proofs.Laws.{either-first, either-second}
 use Rattle.octets.specs.Text.{isLetter}
 use borrow.Author.Needs.{needs}
 use Rattle.octets.proofs.is_letter.Statement.{statement}

@@ -1,0 +1,127 @@
+-- Contents of the basic kinds: one lemma for each return and each turn of a loop.
+use mathlib.Core.Path.{_≡_, refl, sym, ap, _∙_}
+use mathlib.Core.Bool.{Bool, true, false, not}
+use mathlib.Core.List.{List, [], _∷_}
+use Prim.Native.Nat.{ℕ, zero, suc, _≤_, _<_, _+_, _-_, _*_, _%_, _^_}
+use native.Mathlib.Omega.{arith}
+use native.Mathlib.Nat.{one-mul}
+use borrow.Author.Tests.{not-true, not-false, eq-eqb, ne-eqb, lt-ltb, le-ltb, lt-leb, le-leb}
+use lib.Dec.{ltb, leb, eqb}
+use lib.ListN.{length, drop}
+use lib.Pow.{shl-exact, pow-pos}
+use Rattle.octets.specs.Pick.{pick}
+use Rattle.octets.specs.Octets.{octet, same, every}
+use Rattle.octets.specs.Text.{within}
+use Rattle.octets.proofs.Laws.{every-fails, every-holds}
+use Rattle.der.specs.Contents.{legalBoolean, shortest, legalInteger, legalBits, isSign, isMark, isIa5}
+
+-- ---- BOOLEAN
+one-octet : (c : List ℕ) (b : ℕ) → length c ≡ 1 → same c (b ∷ []) ≡ eqb (octet c 0) b
+unfolding same
+one-octet [] b h = absurd (omega arith)
+one-octet (a ∷ []) b h = go (eqb a b)
+  where
+    go : (t : Bool) → pick t true false ≡ t
+    go true = refl
+    go false = refl
+one-octet (a ∷ d ∷ c) b h = absurd (omega arith)
+
+other-length : (c : List ℕ) (b : ℕ) → (length c ≡ 1 → ⊥) → same c (b ∷ []) ≡ false
+unfolding same
+other-length [] b h = refl
+other-length (a ∷ []) b h = absurd (h refl)
+other-length (a ∷ d ∷ c) b h = go (eqb a b)
+  where
+    go : (t : Bool) → pick t false false ≡ false
+    go true = refl
+    go false = refl
+
+pub boolean-length : (c : List ℕ) → (length c ≡ 1 → ⊥) → false ≡ legalBoolean c
+unfolding legalBoolean
+boolean-length c h = rw (other-length c 0 h, other-length c 255 h)
+
+pub boolean-false : (c : List ℕ) → length c ≡ 1 → octet c 0 ≡ 0 → true ≡ legalBoolean c
+unfolding legalBoolean
+boolean-false c h e = rw (one-octet c 0 h, eq-eqb _ _ e)
+
+pub boolean-other : (c : List ℕ) → length c ≡ 1 → (octet c 0 ≡ 0 → ⊥) → eqb (octet c 0) 255 ≡ legalBoolean c
+unfolding legalBoolean
+boolean-other c h e = rw (one-octet c 0 h, ne-eqb _ _ e, one-octet c 255 h)
+
+-- ---- INTEGER
+pub integer-empty : (c : List ℕ) → length c < 1 → false ≡ legalInteger c
+unfolding legalInteger
+integer-empty c h = rw (lt-leb 1 (length c) h)
+
+module _ (c : List ℕ) (h : 1 ≤ length c) where
+  pub integer-long : 8 < length c → false ≡ legalInteger c
+  unfolding legalInteger
+  integer-long g = rw (le-leb 1 (length c) h, lt-leb (length c) 8 g)
+
+  module _ (g : length c ≤ 8) where
+    pub integer-one : length c ≡ 1 → true ≡ legalInteger c
+    unfolding legalInteger
+    integer-one e = rw (le-leb 1 (length c) h, le-leb (length c) 8 g, eq-eqb _ _ e)
+
+    pub integer-more : (r : Bool) → (length c ≡ 1 → ⊥) → r ≡ shortest (octet c 0) (octet c 1) → r ≡ legalInteger c
+    unfolding legalInteger
+    integer-more r n e = rw (le-leb 1 (length c) h, le-leb (length c) 8 g, ne-eqb _ _ n) e
+
+-- ---- BIT STRING
+-- 1 << u
+shifted : (u : ℕ) → u ≤ 7 → 1 * 2 ^ u % 2 ^ 8 ≡ 2 ^ u
+shifted u h =
+    let one : 1 < 2 ^ 1 = omega arith in
+    let fits : 1 + u ≤ 8 = omega arith in
+    shl-exact 1 u 8 one fits ∙ one-mul (2 ^ u)
+
+pub clear-is : (u last : ℕ) → u ≤ 7 → eqb (last % (1 * 2 ^ u % 2 ^ 8)) 0 ≡ eqb (last % 2 ^ u) 0
+clear-is u last h = ap (λ (x : ℕ). eqb (last % x) 0) (shifted u h)
+
+pub clear-divisor : (u : ℕ) → u ≤ 7 → 0 < 1 * 2 ^ u % 2 ^ 8
+clear-divisor u h = rw (shifted u h) (pow-pos u)
+
+pub bits-none : (c : List ℕ) → length c < 1 → false ≡ legalBits c
+unfolding legalBits
+bits-none c h = rw (lt-leb 1 (length c) h)
+
+module _ (c : List ℕ) (h : 1 ≤ length c) where
+  pub bits-eight : 7 < octet c 0 → false ≡ legalBits c
+  unfolding legalBits
+  bits-eight g = rw (le-leb 1 (length c) h, lt-leb (octet c 0) 7 g)
+
+  module _ (g : octet c 0 ≤ 7) where
+    pub bits-empty : length c ≡ 1 → eqb (octet c 0) 0 ≡ legalBits c
+    unfolding legalBits
+    bits-empty e = rw (le-leb 1 (length c) h, le-leb (octet c 0) 7 g, eq-eqb _ _ e)
+
+    pub bits-last : (r : Bool) → (length c ≡ 1 → ⊥) → r ≡ eqb (octet c (length c - 1) % 2 ^ octet c 0) 0 → r ≡ legalBits c
+    unfolding legalBits
+    bits-last r n e = rw (le-leb 1 (length c) h, le-leb (octet c 0) 7 g, ne-eqb _ _ n) e
+
+-- ---- PrintableString
+pub mark-space : (b : ℕ) → b ≡ 32 → true ≡ isMark b
+unfolding isMark
+mark-space b e = rw (eq-eqb b 32 e)
+
+module _ (b : ℕ) (n : b ≡ 32 → ⊥) (r : Bool) (told : r ≡ within 39 41 b) where
+  pub mark-quotes : r ≡ true → true ≡ isMark b
+  unfolding isMark
+  mark-quotes h = rw (ne-eqb b 32 n, sym told ∙ h)
+
+  module _ (h : r ≡ false) (u : Bool) (told' : u ≡ within 43 47 b) where
+    pub mark-stops : u ≡ true → true ≡ isMark b
+    unfolding isMark
+    mark-stops g = rw (ne-eqb b 32 n, sym told ∙ h, sym told' ∙ g)
+
+    pub mark-sign : (w : Bool) → u ≡ false → w ≡ isSign b → w ≡ isMark b
+    unfolding isMark
+    mark-sign w g e = rw (ne-eqb b 32 n, sym told ∙ h, sym told' ∙ g) e
+
+-- ---- IA5String
+module _ (c : List ℕ) (i : ℕ) (inv : every isIa5 (drop i c) ≡ every isIa5 c) (h : i < length c) where
+  pub ia5-bad : 127 < octet c i → false ≡ every isIa5 c
+  ia5-bad g = every-fails isIa5 c i inv h (lt-leb _ _ g)
+
+  pub ia5-more : octet c i ≤ 127 → every isIa5 (drop (i + 1) c) ≡ every isIa5 c
+  ia5-more g = every-holds isIa5 c i inv h (le-leb _ _ g)
