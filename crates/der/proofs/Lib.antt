@@ -3,3 +3,4 @@ pub mod Laws
 pub mod Steps
 pub mod ContentsSteps
 pub mod SubSteps
+pub mod TimeSteps

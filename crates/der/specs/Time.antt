@@ -17,10 +17,11 @@ digitsAt c at n = decimal (part c at n)
 unfoldable pub isLeap : ℕ → Bool
 isLeap year = both (eqb (year % 4) 0) (either (no (eqb (year % 100) 0)) (eqb (year % 400) 0))
 
+unfoldable pub hasThirty : ℕ → Bool
+hasThirty month = either (eqb month 4) (either (eqb month 6) (either (eqb month 9) (eqb month 11)))
+
 unfoldable pub daysIn : ℕ → ℕ → ℕ
-daysIn year month =
-    pick (eqb month 2) (pick (isLeap year) 29 28)
-    (pick (either (eqb month 4) (either (eqb month 6) (either (eqb month 9) (eqb month 11)))) 30 31)
+daysIn year month = pick (eqb month 2) (pick (isLeap year) 29 28) (pick (hasThirty month) 30 31)
 
 unfoldable pub realDate : ℕ → ℕ → ℕ → Bool
 realDate year month day = both (within 1 12 month) (within 1 (daysIn year month) day)
@@ -42,13 +43,14 @@ tailFormed c =
     both (eqb (octet c (length c - 1)) 90)
     (either (eqb (length c) 15) (both (eqb (octet c 14) 46) (fractionFormed (fractionDigits c))))
 
+-- the date and time of the 14 digits
+unfoldable pub realMoment : List ℕ → Bool
+realMoment c =
+    both (realDate (digitsAt c 0 4) (digitsAt c 4 2) (digitsAt c 6 2))
+    (realTime (digitsAt c 8 2) (digitsAt c 10 2) (digitsAt c 12 2))
+
 unfoldable pub legalTime : List ℕ → Bool
-legalTime c =
-    both (leb 15 (length c))
-    (both (every isDigit (take 14 c))
-    (both (tailFormed c)
-    (both (realDate (digitsAt c 0 4) (digitsAt c 4 2) (digitsAt c 6 2))
-    (realTime (digitsAt c 8 2) (digitsAt c 10 2) (digitsAt c 12 2)))))
+legalTime c = both (leb 15 (length c)) (both (every isDigit (take 14 c)) (both (tailFormed c) (realMoment c)))
 
 -- a number with k digits more, those of a text and then zeros
 unfoldable pub scaled : ℕ → ℕ → List ℕ → ℕ

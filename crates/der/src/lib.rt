@@ -430,3 +430,202 @@ pub fn legal_ia5(c: &[u8]) -> bool
     }
     true
 }
+
+// ---- times
+// The number that n digits from a place on stand for.
+fn digits_at(c: &[u8], at: usize, n: usize) -> u64
+    requires { ⌜ n ≤ 14 ⌝ }
+    ensures { λ r. ⌜ r ≡ time.digitsAt (now (c .entry)) at n ⌝ }
+{
+    let p = octets::part(c, at, n);
+    let mut i = 0;
+    let mut v: u64 = 0;
+    while i < p.len() {
+        v = v * 10 + octets::digit(p[i]);
+        i += 1;
+    }
+    v
+}
+
+// A fraction in billionths.
+fn billionths(f: &[u8]) -> u64
+    ensures { λ r. ⌜ r ≡ time.billionths (now (f .entry)) ⌝ }
+{
+    let mut k = 0;
+    let mut v: u64 = 0;
+    while k < 9 {
+        v = v * 10 + octets::digit(octets::octet(f, k));
+        k += 1;
+    }
+    v
+}
+
+fn is_leap(year: u64) -> bool
+    ensures { λ r. ⌜ r ≡ time.isLeap year ⌝ }
+{
+    if year % 4 != 0 {
+        return false;
+    }
+    if year % 100 != 0 {
+        return true;
+    }
+    year % 400 == 0
+}
+
+fn has_thirty(month: u64) -> bool
+    ensures { λ r. ⌜ r ≡ time.hasThirty month ⌝ }
+{
+    if month == 4 {
+        return true;
+    }
+    if month == 6 {
+        return true;
+    }
+    if month == 9 {
+        return true;
+    }
+    month == 11
+}
+
+fn days_in(year: u64, month: u64) -> u64
+    ensures { λ r. ⌜ r ≡ time.daysIn year month ⌝ }
+{
+    if month == 2 {
+        if is_leap(year) {
+            return 29;
+        }
+        return 28;
+    }
+    if has_thirty(month) {
+        return 30;
+    }
+    31
+}
+
+fn real_date(year: u64, month: u64, day: u64) -> bool
+    ensures { λ r. ⌜ r ≡ time.realDate year month day ⌝ }
+{
+    if month < 1 {
+        return false;
+    }
+    if 12 < month {
+        return false;
+    }
+    if day < 1 {
+        return false;
+    }
+    day <= days_in(year, month)
+}
+
+fn real_time(hour: u64, minute: u64, second: u64) -> bool
+    ensures { λ r. ⌜ r ≡ time.realTime hour minute second ⌝ }
+{
+    if 23 < hour {
+        return false;
+    }
+    if 59 < minute {
+        return false;
+    }
+    second <= 60
+}
+
+// The digits between the point and the `Z`.
+fn fraction_digits(c: &[u8]) -> &[u8]
+    ensures { λ r. ⌜ now r ≡ time.fractionDigits (now (c .entry)) ⌝ }
+{
+    if c.len() <= 16 {
+        return octets::part(c, 15, 0);
+    }
+    octets::part(c, 15, c.len() - 16)
+}
+
+fn fraction_formed(f: &[u8]) -> bool
+    ensures { λ r. ⌜ r ≡ time.fractionFormed (now (f .entry)) ⌝ }
+{
+    if f.len() < 1 {
+        return false;
+    }
+    if 9 < f.len() {
+        return false;
+    }
+    if !octets::all_digits(f) {
+        return false;
+    }
+    let last = f.len() - 1;
+    f[last] != 48
+}
+
+fn tail_formed(c: &[u8]) -> bool
+    requires { ⌜ 15 ≤ length (now c) ⌝ }
+    ensures { λ r. ⌜ r ≡ time.tailFormed (now (c .entry)) ⌝ }
+{
+    let last = c.len() - 1;
+    if c[last] != 90 {
+        return false;
+    }
+    if c.len() == 15 {
+        return true;
+    }
+    if c[14] != 46 {
+        return false;
+    }
+    fraction_formed(fraction_digits(c))
+}
+
+fn real_moment(c: &[u8]) -> bool
+    ensures { λ r. ⌜ r ≡ time.realMoment (now (c .entry)) ⌝ }
+{
+    let year = digits_at(c, 0, 4);
+    let month = digits_at(c, 4, 2);
+    let day = digits_at(c, 6, 2);
+    if !real_date(year, month, day) {
+        return false;
+    }
+    let hour = digits_at(c, 8, 2);
+    let minute = digits_at(c, 10, 2);
+    let second = digits_at(c, 12, 2);
+    real_time(hour, minute, second)
+}
+
+pub fn legal_time(c: &[u8]) -> bool
+    ensures { λ r. ⌜ r ≡ time.legalTime (now (c .entry)) ⌝ }
+{
+    if c.len() < 15 {
+        return false;
+    }
+    if !octets::all_digits(octets::part(c, 0, 14)) {
+        return false;
+    }
+    if !tail_formed(c) {
+        return false;
+    }
+    real_moment(c)
+}
+
+// What a time says.
+pub fn read_time(c: &[u8]) -> Time
+    ensures { λ r. ⌜ r ≡ time.timeOf (now (c .entry)) ⌝ }
+{
+    let stamp = digits_at(c, 0, 14);
+    let fraction = billionths(fraction_digits(c));
+    Time { stamp, fraction }
+}
+
+pub fn same_time(a: Time, b: Time) -> bool
+    ensures { λ r. ⌜ r ≡ time.sameTime a b ⌝ }
+{
+    if a.stamp != b.stamp {
+        return false;
+    }
+    a.fraction == b.fraction
+}
+
+// By date and time, then fraction.
+pub fn earlier(a: Time, b: Time) -> bool
+    ensures { λ r. ⌜ r ≡ time.earlier a b ⌝ }
+{
+    if a.stamp == b.stamp {
+        return a.fraction < b.fraction;
+    }
+    a.stamp < b.stamp
+}

@@ -1,6 +1,6 @@
 // Octets and text: the lowest layer. Reads past the end give 0, so nothing is asked of a caller.
 ghost use mathlib.Core.Path.{_≡_};
-ghost use Prim.Native.Nat.{_+_, _-_, _*_};
+ghost use Prim.Native.Nat.{_≤_, _+_, _-_, _*_};
 ghost use lib.ListN.{drop};
 ghost use Rattle.octets.specs.Octets as octets;
 ghost use Rattle.octets.specs.Text as text;
@@ -203,7 +203,8 @@ pub fn is_number(s: &[u8]) -> bool
 
 // The value of a decimal digit.
 pub fn digit(b: u8) -> u64
-    ensures { λ r. ⌜ r ≡ b - 48 ⌝ }
+    ensures value { λ r. ⌜ r ≡ b - 48 ⌝ }
+    ensures small { λ r. ⌜ r ≤ 207 ⌝ }
 {
     if b < 48 {
         return 0;
