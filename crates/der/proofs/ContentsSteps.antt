@@ -12,8 +12,10 @@ use lib.Pow.{shl-exact, pow-pos}
 use Rattle.octets.specs.Pick.{pick}
 use Rattle.octets.specs.Octets.{octet, same, every}
 use Rattle.octets.specs.Text.{within}
+use Rattle.octets.specs.Utf8.{utf8}
 use Rattle.octets.proofs.Laws.{every-fails, every-holds}
-use Rattle.der.specs.Contents.{legalBoolean, shortest, legalInteger, legalBits, isSign, isMark, isIa5}
+use Rattle.der.specs.Time.{legalTime}
+use Rattle.der.specs.Contents.{legalBoolean, shortest, legalInteger, legalBits, isSign, isMark, isIa5, legalNull, legalOid, legalPrintable, legalIa5, legalText, legal}
 
 -- ---- BOOLEAN
 one-octet : (c : List ℕ) (b : ℕ) → length c ≡ 1 → same c (b ∷ []) ≡ eqb (octet c 0) b
@@ -125,3 +127,53 @@ module _ (c : List ℕ) (i : ℕ) (inv : every isIa5 (drop i c) ≡ every isIa5 
 
   pub ia5-more : octet c i ≤ 127 → every isIa5 (drop (i + 1) c) ≡ every isIa5 c
   ia5-more g = every-holds isIa5 c i inv h (le-leb _ _ g)
+
+-- ---- by kind
+pub kind-octets : (k : ℕ) (c : List ℕ) → (k ≡ 1 → ⊥) → (k ≡ 2 → ⊥) → (k ≡ 3 → ⊥) → (k ≡ 4 → ⊥) → (k ≡ 5 → ⊥) → k ≡ 6 → true ≡ legal k c
+unfolding legal
+kind-octets k c n1 n2 n3 n4 n5 e = rw (ne-eqb k 1 n1, ne-eqb k 2 n2, ne-eqb k 3 n3, ne-eqb k 4 n4, ne-eqb k 5 n5, eq-eqb k 6 e)
+
+module _ (k : ℕ) (c : List ℕ) (r : Bool) where
+  pub kind-boolean : k ≡ 1 → r ≡ legalBoolean c → r ≡ legal k c
+  unfolding legal
+  kind-boolean e q = rw (eq-eqb k 1 e) q
+
+  pub kind-integer : (k ≡ 1 → ⊥) → k ≡ 2 → r ≡ legalInteger c → r ≡ legal k c
+  unfolding legal
+  kind-integer n1 e q = rw (ne-eqb k 1 n1, eq-eqb k 2 e) q
+
+  pub kind-enumerated : (k ≡ 1 → ⊥) → (k ≡ 2 → ⊥) → k ≡ 3 → r ≡ legalInteger c → r ≡ legal k c
+  unfolding legal
+  kind-enumerated n1 n2 e q = rw (ne-eqb k 1 n1, ne-eqb k 2 n2, eq-eqb k 3 e) q
+
+  pub kind-null : (k ≡ 1 → ⊥) → (k ≡ 2 → ⊥) → (k ≡ 3 → ⊥) → k ≡ 4 → r ≡ legalNull c → r ≡ legal k c
+  unfolding legal
+  kind-null n1 n2 n3 e q = rw (ne-eqb k 1 n1, ne-eqb k 2 n2, ne-eqb k 3 n3, eq-eqb k 4 e) q
+
+  pub kind-oid : (k ≡ 1 → ⊥) → (k ≡ 2 → ⊥) → (k ≡ 3 → ⊥) → (k ≡ 4 → ⊥) → k ≡ 5 → r ≡ legalOid c → r ≡ legal k c
+  unfolding legal
+  kind-oid n1 n2 n3 n4 e q = rw (ne-eqb k 1 n1, ne-eqb k 2 n2, ne-eqb k 3 n3, ne-eqb k 4 n4, eq-eqb k 5 e) q
+
+  pub kind-bits : (k ≡ 1 → ⊥) → (k ≡ 2 → ⊥) → (k ≡ 3 → ⊥) → (k ≡ 4 → ⊥) → (k ≡ 5 → ⊥) → (k ≡ 6 → ⊥) → k ≡ 7 → r ≡ legalBits c → r ≡ legal k c
+  unfolding legal
+  kind-bits n1 n2 n3 n4 n5 n6 e q = rw (ne-eqb k 1 n1, ne-eqb k 2 n2, ne-eqb k 3 n3, ne-eqb k 4 n4, ne-eqb k 5 n5, ne-eqb k 6 n6, eq-eqb k 7 e) q
+
+  pub kind-text : (k ≡ 1 → ⊥) → (k ≡ 2 → ⊥) → (k ≡ 3 → ⊥) → (k ≡ 4 → ⊥) → (k ≡ 5 → ⊥) → (k ≡ 6 → ⊥) → (k ≡ 7 → ⊥) → r ≡ legalText k c → r ≡ legal k c
+  unfolding legal
+  kind-text n1 n2 n3 n4 n5 n6 n7 q = rw (ne-eqb k 1 n1, ne-eqb k 2 n2, ne-eqb k 3 n3, ne-eqb k 4 n4, ne-eqb k 5 n5, ne-eqb k 6 n6, ne-eqb k 7 n7) q
+
+  pub text-utf8 : k ≡ 8 → r ≡ utf8 c → r ≡ legalText k c
+  unfolding legalText
+  text-utf8 e q = rw (eq-eqb k 8 e) q
+
+  pub text-printable : (k ≡ 8 → ⊥) → k ≡ 9 → r ≡ legalPrintable c → r ≡ legalText k c
+  unfolding legalText
+  text-printable n8 e q = rw (ne-eqb k 8 n8, eq-eqb k 9 e) q
+
+  pub text-ia5 : (k ≡ 8 → ⊥) → (k ≡ 9 → ⊥) → k ≡ 10 → r ≡ legalIa5 c → r ≡ legalText k c
+  unfolding legalText
+  text-ia5 n8 n9 e q = rw (ne-eqb k 8 n8, ne-eqb k 9 n9, eq-eqb k 10 e) q
+
+  pub text-time : (k ≡ 8 → ⊥) → (k ≡ 9 → ⊥) → (k ≡ 10 → ⊥) → k ≡ 11 → r ≡ legalTime c → r ≡ legalText k c
+  unfolding legalText
+  text-time n8 n9 n10 e q = rw (ne-eqb k 8 n8, ne-eqb k 9 n9, ne-eqb k 10 n10, eq-eqb k 11 e) q

@@ -4,3 +4,4 @@ pub mod Steps
 pub mod ContentsSteps
 pub mod SubSteps
 pub mod TimeSteps
+pub mod MeaningSteps

@@ -80,6 +80,14 @@ unfoldable pub legalIa5 : List ℕ → Bool
 legalIa5 c = every isIa5 c
 
 -- legal contents of a basic kind
+unfoldable pub legalText : ℕ → List ℕ → Bool
+legalText k c =
+    pick (eqb k utf8String) (utf8 c)
+    (pick (eqb k printableString) (legalPrintable c)
+    (pick (eqb k ia5String) (legalIa5 c)
+    (pick (eqb k generalizedTime) (legalTime c)
+    false)))
+
 unfoldable pub legal : ℕ → List ℕ → Bool
 legal k c =
     pick (eqb k boolean) (legalBoolean c)
@@ -89,8 +97,4 @@ legal k c =
     (pick (eqb k objectIdentifier) (legalOid c)
     (pick (eqb k octetString) true
     (pick (eqb k bitString) (legalBits c)
-    (pick (eqb k utf8String) (utf8 c)
-    (pick (eqb k printableString) (legalPrintable c)
-    (pick (eqb k ia5String) (legalIa5 c)
-    (pick (eqb k generalizedTime) (legalTime c)
-    false))))))))))
+    (legalText k c)))))))

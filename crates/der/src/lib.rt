@@ -3,7 +3,7 @@ ghost use mathlib.Core.Path.{_≡_};
 ghost use Prim.Native.Nat.{_≤_, _<_, _+_, _-_, _%_, _^_};
 ghost use lib.Dec.{eqb};
 ghost use lib.ListN.{length, drop, getD};
-ghost use Rattle.octets.specs.Octets.{octet, two, part};
+ghost use Rattle.octets.specs.Octets.{octet, two, part, baseFrom};
 ghost use Rattle.der.specs.Tag as tag;
 ghost use Rattle.der.specs.Header as header;
 ghost use Rattle.der.specs.Contents as contents;
@@ -145,6 +145,25 @@ pub fn form(kind: u8) -> u8
         return 32;
     }
     0
+}
+
+// The tag octet of a kind's values: its own, or with an implicit context tag; and that of an explicit wrapper.
+pub fn own_octet(kind: u8) -> usize
+    ensures { λ r. ⌜ r ≡ tag.ownOctet kind ⌝ }
+{
+    octets::wide(form(kind)) + octets::wide(universal(kind))
+}
+
+pub fn implicit_octet(n: u8, kind: u8) -> usize
+    ensures { λ r. ⌜ r ≡ tag.implicitOctet n kind ⌝ }
+{
+    128 + octets::wide(form(kind)) + octets::wide(n)
+}
+
+pub fn wrapper_octet(n: u8) -> usize
+    ensures { λ r. ⌜ r ≡ tag.wrapperOctet n ⌝ }
+{
+    160 + octets::wide(n)
 }
 
 // ---- headers
@@ -628,4 +647,174 @@ pub fn earlier(a: Time, b: Time) -> bool
         return a.fraction < b.fraction;
     }
     a.stamp < b.stamp
+}
+
+// ---- contents by kind
+// Whether contents are legal for a basic kind.
+pub fn legal_contents(kind: u8, c: &[u8]) -> bool
+    ensures { λ r. ⌜ r ≡ contents.legal kind (now (c .entry)) ⌝ }
+{
+    if kind == 1 {
+        return legal_boolean(c);
+    }
+    if kind == 2 {
+        return legal_integer(c);
+    }
+    if kind == 3 {
+        return legal_integer(c);
+    }
+    if kind == 4 {
+        return legal_null(c);
+    }
+    if kind == 5 {
+        return legal_oid(c);
+    }
+    if kind == 6 {
+        return true;
+    }
+    if kind == 7 {
+        return legal_bits(c);
+    }
+    legal_text(kind, c)
+}
+
+fn legal_text(kind: u8, c: &[u8]) -> bool
+    ensures { λ r. ⌜ r ≡ contents.legalText kind (now (c .entry)) ⌝ }
+{
+    if kind == 8 {
+        return octets::utf8(c);
+    }
+    if kind == 9 {
+        return legal_printable(c);
+    }
+    if kind == 10 {
+        return legal_ia5(c);
+    }
+    if kind == 11 {
+        return legal_time(c);
+    }
+    false
+}
+
+// The same of the octets from start up to end.
+pub fn legal(kind: u8, s: &[u8], start: usize, end: usize) -> bool
+    ensures { λ r. ⌜ r ≡ contents.legal kind (part (now (s .entry)) start (end - start)) ⌝ }
+{
+    if end <= start {
+        return legal_contents(kind, octets::part(s, start, 0));
+    }
+    legal_contents(kind, octets::part(s, start, end - start))
+}
+
+// ---- what contents mean
+pub fn read_boolean(c: &[u8]) -> bool
+    ensures { λ r. ⌜ r ≡ meaning.booleanOf (now (c .entry)) ⌝ }
+{
+    octets::octet(c, 0) != 0
+}
+
+// The contents as a number without a sign.
+fn plain(c: &[u8]) -> u64
+    requires { ⌜ length (now c) ≤ 8 ⌝ }
+    ensures { λ r. ⌜ r ≡ baseFrom 0 (now (c .entry)) ⌝ }
+{
+    let mut i = 0;
+    let mut n: u64 = 0;
+    while i < c.len() {
+        n = n * 256 + octets::wide64(c[i]);
+        i += 1;
+    }
+    n
+}
+
+fn complement(b: u8) -> u64
+    ensures { λ r. ⌜ r + b ≡ 255 ⌝ }
+{
+    octets::wide64(255 - b)
+}
+
+// The contents' complement as a number without a sign.
+fn flipped(c: &[u8]) -> u64
+    requires { ⌜ length (now c) ≤ 8 ⌝ }
+    ensures { λ r. ⌜ r + baseFrom 0 (now (c .entry)) + 1 ≡ 256 ^ length (now (c .entry)) ⌝ }
+{
+    let mut i = 0;
+    let mut n: u64 = 0;
+    while i < c.len() {
+        n = n * 256 + complement(c[i]);
+        i += 1;
+    }
+    n
+}
+
+// An INTEGER of up to eight octets, as a sign and a size.
+pub fn read_integer(c: &[u8]) -> Integer
+    requires { ⌜ length (now c) ≤ 8 ⌝ }
+    ensures { λ r. ⌜ toldInteger r ≡ meaning.integerOf (now (c .entry)) ⌝ }
+{
+    if octets::octet(c, 0) < 128 {
+        return Integer {
+            minus: false,
+            size: plain(c),
+        };
+    }
+    let rest = flipped(c);
+    Integer {
+        minus: true,
+        size: rest + 1,
+    }
+}
+
+// The number of bits of a BIT STRING.
+pub fn bit_count(c: &[u8]) -> usize
+    requires { ⌜ length (now c) ≤ 65536 ⌝ }
+    ensures { λ r. ⌜ r ≡ length (meaning.bitsOf (now (c .entry))) ⌝ }
+{
+    if c.len() == 0 {
+        return 0;
+    }
+    let all = 8 * (c.len() - 1);
+    let unused = octets::wide(c[0]);
+    if all <= unused {
+        return 0;
+    }
+    all - unused
+}
+
+// Its bit at an index, 0 past the end.
+pub fn bit_at(c: &[u8], i: usize) -> u8
+    requires { ⌜ length (now c) ≤ 65536 ⌝ }
+    ensures { λ r. ⌜ r ≡ getD (meaning.bitsOf (now (c .entry))) i 0 ⌝ }
+{
+    if bit_count(c) <= i {
+        return 0;
+    }
+    bit_of(octets::octet(c, 1 + i / 8), i % 8)
+}
+
+// A bit of an octet, from the top.
+fn bit_of(o: u8, k: usize) -> u8
+    requires { ⌜ k < 8 ⌝ }
+    ensures { λ r. ⌜ r ≡ getD (meaning.octetBits o) k 0 ⌝ }
+{
+    let down = 7 - k;
+    (o >> down) & 1
+}
+
+// Whether an encoding is not above another in X.690 order.
+pub fn not_above(a: &[u8], b: &[u8]) -> bool
+    ensures { λ r. ⌜ r ≡ notAbove (now (a .entry)) (now (b .entry)) ⌝ }
+{
+    let mut i = 0;
+    while i < a.len() {
+        let other = octets::octet(b, i);
+        if a[i] < other {
+            return true;
+        }
+        if other < a[i] {
+            return false;
+        }
+        i += 1;
+    }
+    true
 }

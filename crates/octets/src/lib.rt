@@ -44,7 +44,8 @@ pub fn wide(b: u8) -> usize
 }
 
 pub fn wide64(b: u8) -> u64
-    ensures { λ r. ⌜ r ≡ b ⌝ }
+    ensures value { λ r. ⌜ r ≡ b ⌝ }
+    ensures small { λ r. ⌜ r ≤ 255 ⌝ }
 {
     b as u64
 }
