@@ -6,20 +6,19 @@ use Prim.Native.Nat.{ℕ, zero, suc, _≤_, _<_, _+_, _-_, _*_, _/_, _%_, _^_}
 use native.Mathlib.Omega.{arith}
 use native.Mathlib.Numerals.{add-one}
 use native.Mathlib.Nat.{pow-le-pow-right, pow-suc}
-use borrow.Author.Tests.{eq-eqb, ne-eqb, lt-ltb, le-ltb, lt-leb, le-leb, ltb-true, ltb-false}
-use lib.Dec.{ltb, leb, eqb}
+use borrow.Author.Tests.{ne-eqb, lt-ltb, le-ltb, lt-leb, le-leb, ltb-true, ltb-false}
+use lib.Dec.{ltb, eqb}
 use lib.Bits.{bitAnd, and-mask}
-use lib.ListN.{length, getD, take, drop, length-take, length-append, List·getD-append, List·getD-eq-default}
+use lib.ListN.{length, getD, drop, length-take, length-append, List·getD-append, List·getD-eq-default}
 use lib.Seq.{getD-take, getD-append-add}
 use Rattle.octets.specs.Pick.{pick}
 use Rattle.octets.specs.Octets.{octet, part, baseFrom}
 use Rattle.octets.proofs.Laws.{octet-past, rest-cons, rest-none}
 use Rattle.der.specs.Tag.{form, universal, ownOctet, implicitOctet, wrapperOctet}
 use Rattle.der.specs.Contents.{legal}
-use Rattle.der.specs.Meaning.{Whole, plus, integerOf, booleanOf, octetBits, allBits, bitsOf}
+use Rattle.der.specs.Meaning.{integerOf, booleanOf, octetBits, allBits, bitsOf}
 use Rattle.der.specs.Order.{notAbove}
 use Rattle.der.specs.Answers.{toldInteger}
-use Rattle.der.specs.declared.Integer.{Integer}
 
 -- ---- tag octets
 pub own-is : (k a b x y : ℕ) → a ≡ form k → x ≡ a → b ≡ universal k → y ≡ b → x + y ≡ ownOctet k

@@ -1,12 +1,12 @@
 -- Times: one lemma for each return and each turn of a loop.
-use mathlib.Core.Path.{_≡_, refl, sym, ap, ap₂, _∙_}
+use mathlib.Core.Path.{_≡_, refl, sym, ap, _∙_}
 use mathlib.Core.Bool.{Bool, true, false, not}
-use mathlib.Core.List.{List, [], _∷_}
-use Prim.Native.Nat.{ℕ, zero, suc, _≤_, _<_, _+_, _-_, _*_, _%_, _^_}
+use mathlib.Core.List.{List, []}
+use Prim.Native.Nat.{ℕ, suc, _≤_, _<_, _+_, _-_, _*_, _^_}
 use native.Mathlib.Omega.{arith}
 use native.Mathlib.Numerals.{add-one}
 use native.Mathlib.Nat.{pow-le-pow-right, pow-suc}
-use borrow.Author.Tests.{not-true, not-false, eq-eqb, ne-eqb, lt-ltb, le-ltb, lt-leb, le-leb, ltb-true, ltb-false}
+use borrow.Author.Tests.{not-true, not-false, eq-eqb, ne-eqb, lt-leb, le-leb, ltb-true, ltb-false}
 use lib.Dec.{ltb, leb, eqb}
 use lib.ListN.{length, take, drop, length-take}
 use Rattle.octets.specs.Pick.{pick}
@@ -15,7 +15,6 @@ use Rattle.octets.specs.Text.{isDigit, decimalFrom, decimal}
 use Rattle.octets.proofs.Laws.{octet-past, rest-cons, rest-none}
 use Rattle.der.specs.Time as time
 use Rattle.der.specs.Time.{digitsAt, isLeap, hasThirty, daysIn, realDate, realTime, fractionDigits, fractionFormed, tailFormed, realMoment, legalTime, scaled, billionths, timeOf}
-use Rattle.der.specs.declared.Time.{Time}
 
 -- ---- digits: i of them stand for v
 ten-pos : 0 < 10

@@ -1,6 +1,5 @@
 use Rattle.der.proofs.Tests.{tests}
 use Rattle.der.specs.Time.{earlier}
-use borrow.Author.Needs.{needs}
 use Rattle.der.proofs.earlier.Statement.{statement}
 use Rattle.der.proofs.earlier.Tie as tie
 

@@ -1,6 +1,5 @@
 use Rattle.der.proofs.Tests.{tests}
 use Rattle.der.specs.Time.{hasThirty}
-use borrow.Author.Needs.{needs}
 use Rattle.der.proofs.has_thirty.Statement.{statement}
 use Rattle.der.proofs.has_thirty.Tie as tie
 

@@ -1,6 +1,5 @@
 use Rattle.der.proofs.Tests.{tests}
 use Rattle.der.specs.Time.{isLeap}
-use borrow.Author.Needs.{needs}
 use Rattle.der.proofs.is_leap.Statement.{statement}
 use Rattle.der.proofs.is_leap.Tie as tie
 

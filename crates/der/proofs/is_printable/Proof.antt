@@ -1,5 +1,4 @@
 use Rattle.octets.proofs.Laws.{either-first, either-second}
-use Rattle.der.proofs.Tests.{tests}
 use Rattle.der.specs.Contents.{isPrintable}
 use borrow.Author.Needs.{needs}
 use Rattle.der.proofs.is_printable.Statement.{statement}

@@ -1,6 +1,5 @@
 use Rattle.der.proofs.Tests.{tests}
 use Rattle.der.specs.Contents.{isSign}
-use borrow.Author.Needs.{needs}
 use Rattle.der.proofs.is_sign.Statement.{statement}
 use Rattle.der.proofs.is_sign.Tie as tie
 

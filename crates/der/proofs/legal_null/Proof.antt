@@ -1,6 +1,5 @@
 use Rattle.der.proofs.Tests.{tests}
 use Rattle.der.specs.Contents.{legalNull}
-use borrow.Author.Needs.{needs}
 use Rattle.der.proofs.legal_null.Statement.{statement}
 use Rattle.der.proofs.legal_null.Tie as tie
 

@@ -1,6 +1,6 @@
 use Rattle.der.proofs.SubSteps.{legalFrom, oid-start, oid-full, oid-falls, oid-more, oid-end, oid-broken, oid-done}
 use Rattle.der.specs.Contents.{subidentifiers, legalOid}
-use mathlib.Core.Path.{_≡_, refl}
+use mathlib.Core.Path.{_≡_}
 use Prim.Native.Nat.{_-_, _≤_}
 use lib.ListN.{length, drop}
 use borrow.Author.Needs.{needs}

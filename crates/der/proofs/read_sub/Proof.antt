@@ -1,7 +1,7 @@
 use Rattle.der.proofs.SubSteps.{mask-fits, sub-80, sub-cut, sub-end, sub-more, sub-over, sub-start, sub-value}
 use Rattle.der.specs.Contents.{subsFrom, subidentifiers}
 use mathlib.Core.Bool.{true}
-use mathlib.Core.Path.{_≡_, refl}
+use mathlib.Core.Path.{_≡_}
 use Prim.Native.Nat.{_-_, _≤_}
 use lib.ListN.{length, drop}
 use borrow.Author.Needs.{needs}

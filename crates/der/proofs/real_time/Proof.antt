@@ -1,6 +1,5 @@
 use Rattle.der.proofs.Tests.{tests}
 use Rattle.der.specs.Time.{realTime}
-use borrow.Author.Needs.{needs}
 use Rattle.der.proofs.real_time.Statement.{statement}
 use Rattle.der.proofs.real_time.Tie as tie
 

@@ -1,6 +1,5 @@
 use Rattle.der.proofs.Tests.{tests}
 use Rattle.der.specs.Time.{sameTime}
-use borrow.Author.Needs.{needs}
 use Rattle.der.proofs.same_time.Statement.{statement}
 use Rattle.der.proofs.same_time.Tie as tie
 

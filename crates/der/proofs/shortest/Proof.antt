@@ -1,6 +1,5 @@
 use Rattle.der.proofs.Tests.{tests}
 use Rattle.der.specs.Contents.{shortest}
-use borrow.Author.Needs.{needs}
 use Rattle.der.proofs.shortest.Statement.{statement}
 use Rattle.der.proofs.shortest.Tie as tie
 
