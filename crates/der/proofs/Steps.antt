@@ -6,7 +6,7 @@ use native.Mathlib.Omega.{arith}
 use borrow.Author.Tests.{eq-eqb, ne-eqb, lt-ltb, le-ltb, lt-leb, le-leb}
 use lib.Bits.{bitAnd, and-mask}
 use Rattle.octets.specs.Octets.{octet, two}
-use Rattle.der.specs.Tag.{class, constructed, number, tagOf, context}
+use Rattle.der.specs.Tag.{class, constructed, number, tagOf, context, universalText, universal}
 use Rattle.der.specs.Header.{longLength, lengthAt, sized, headerAt, tagged, insideAt, anyTag}
 use Rattle.der.specs.declared.Length.{Length}
 use Rattle.der.specs.declared.Header.{Header}
@@ -45,6 +45,10 @@ context-is o n e = ap (λ (x : ℕ). 32 + x) e
 
 pub tag-fits : (o n : ℕ) → n ≡ number o → 32 + n < 256
 tag-fits o n e = omega (arith, number-small o)
+
+pub universal-text : (k r : ℕ) → (k ≡ 1 → ⊥) → (k ≡ 2 → ⊥) → (k ≡ 3 → ⊥) → (k ≡ 4 → ⊥) → (k ≡ 5 → ⊥) → (k ≡ 6 → ⊥) → (k ≡ 7 → ⊥) → r ≡ universalText k → r ≡ universal k
+unfolding universal
+universal-text k r a b c d e f g q = rw (ne-eqb k 1 a, ne-eqb k 2 b, ne-eqb k 3 c, ne-eqb k 4 d, ne-eqb k 5 e, ne-eqb k 6 f, ne-eqb k 7 g) q
 
 -- ---- lengths
 pub one-past : (s : List ℕ) (n at end : ℕ) → at < end → end - at < 2 → Length.Unusable ≡ longLength n 128 (at + 2) end

@@ -24,6 +24,15 @@ tagOf o =
     (pick (eqb (class o) 2) (context (number o)) 64)
 
 -- the universal tag of a kind (X.680); 16 for SEQUENCE and SEQUENCE OF. A CHOICE has none of its own, and none is asked of it
+unfoldable pub universalText : ℕ → ℕ
+universalText k =
+    pick (eqb k utf8String) 12
+    (pick (eqb k printableString) 19
+    (pick (eqb k ia5String) 22
+    (pick (eqb k generalizedTime) 24
+    (pick (eqb k setOf) 17
+    16))))
+
 unfoldable pub universal : ℕ → ℕ
 universal k =
     pick (eqb k boolean) 1
@@ -33,12 +42,7 @@ universal k =
     (pick (eqb k objectIdentifier) 6
     (pick (eqb k octetString) 4
     (pick (eqb k bitString) 3
-    (pick (eqb k utf8String) 12
-    (pick (eqb k printableString) 19
-    (pick (eqb k ia5String) 22
-    (pick (eqb k generalizedTime) 24
-    (pick (eqb k setOf) 17
-    16)))))))))))
+    (universalText k)))))))
 
 -- the constructed bit of a kind's tag octet
 abbrev pub form : ℕ → ℕ

@@ -88,6 +88,27 @@ pub fn tag_of(o: u8) -> u8
     64
 }
 
+fn universal_text(kind: u8) -> u8
+    ensures { λ r. ⌜ r ≡ tag.universalText kind ⌝ }
+{
+    if kind == 8 {
+        return 12;
+    }
+    if kind == 9 {
+        return 19;
+    }
+    if kind == 10 {
+        return 22;
+    }
+    if kind == 11 {
+        return 24;
+    }
+    if kind == 15 {
+        return 17;
+    }
+    16
+}
+
 // The universal tag of a kind that is no CHOICE.
 pub fn universal(kind: u8) -> u8
     ensures { λ r. ⌜ r ≡ tag.universal kind ⌝ }
@@ -113,22 +134,7 @@ pub fn universal(kind: u8) -> u8
     if kind == 7 {
         return 3;
     }
-    if kind == 8 {
-        return 12;
-    }
-    if kind == 9 {
-        return 19;
-    }
-    if kind == 10 {
-        return 22;
-    }
-    if kind == 11 {
-        return 24;
-    }
-    if kind == 15 {
-        return 17;
-    }
-    16
+    universal_text(kind)
 }
 
 // The constructed bit of a kind's tag octet.

@@ -1,5 +1,7 @@
+use Rattle.der.proofs.Steps.{universal-text}
 use Rattle.der.proofs.Tests.{tests}
 use Rattle.der.specs.Tag.{universal}
+use borrow.Author.Needs.{needs}
 use Rattle.der.proofs.universal.Statement.{statement}
 use Rattle.der.proofs.universal.Tie as tie
 
@@ -15,9 +17,5 @@ universal-spec =
     (λ c. search tests)  -- returns-5
     (λ c. search tests)  -- returns-6
     (λ c. search tests)  -- returns-7
-    (λ c. search tests)  -- returns-8
-    (λ c. search tests)  -- returns-9
-    (λ c. search tests)  -- returns-10
-    (λ c. search tests)  -- returns-11
-    (λ c. search tests)  -- returns-12
-    (λ c. search tests))  -- returns-13
+    (λ c κs. search needs)  -- universal-text-requires
+    (λ c. search universal-text))  -- returns-8
