@@ -1,6 +1,6 @@
 -- The limits of a question: those of its table, value and filter, of a listing's reference, and of the budget.
 use Prim.Native.Nat.{ℕ}
-use Rattle.table.specs.Limits as table
+use Rattle.rows.specs.Limits as table
 use Rattle.value.specs.Limits as value
 use Rattle.filter.specs.Limits as filter
 

@@ -1,14 +1,16 @@
 -- Laws of the definitions, for this crate's proofs and for the layers above.
 use mathlib.Core.Path.{_≡_, refl, sym, ap, _∙_}
-use mathlib.Core.Bool.{Bool, true, false, not}
+use mathlib.Core.Bool.{Bool, true, false, not, false≢true}
+use mathlib.Core.Logic.{_⊎_, ⊎-elim}
 use mathlib.Core.List.{List, [], _∷_}
 use Prim.Native.Nat.{ℕ, zero, suc, _≤_, _<_, _+_, _-_}
 use native.Mathlib.Omega.{arith}
 use native.Mathlib.Numerals.{add-one}
+use native.Mathlib.Nat.{eq-or-lt-of-le}
 use borrow.Author.Tests.{not-true, not-false}
 use lib.ListN.{length, drop, drop-of-length-le, List·getD-eq-default, length-drop}
 use lib.Seq.{drop-cons, take-nil, take-all}
-use Rattle.octets.specs.Pick.{pick}
+use Rattle.octets.specs.Pick.{pick, both, all}
 use Rattle.octets.specs.Octets.{octet, part, every}
 
 -- ---- tests
@@ -88,3 +90,53 @@ both-first r p q e h = rw (sym e ∙ h)
 
 pub both-second : (r p q u : Bool) → r ≡ p → r ≡ true → u ≡ q → u ≡ pick p q false
 both-second r p q u e h f = rw (sym e ∙ h) f
+
+-- ---- a test of all numbers below one
+last-or : (n i : ℕ) → i < suc n → (i ≡ n) ⊎ (i < n)
+last-or n i h = eq-or-lt-of-le (omega arith)
+
+pub both-true : (a b : Bool) → both a b ≡ true → (a ≡ true) × (b ≡ true)
+both-true true b e = (refl, e)
+both-true false b e = absurd (false≢true e)
+
+pub all-at : (f : ℕ → Bool) (n i : ℕ) → all f n ≡ true → i < n → f i ≡ true
+unfolding all
+all-at f zero i e h = absurd (omega arith)
+all-at f (suc n) i e h =
+    let w = both-true (f n) (all f n) e in
+    ⊎-elim (λ q. rw q (w .0)) (λ l. all-at f n i (w .1) l) (last-or n i h)
+
+pub all-is : (f : ℕ → Bool) (n : ℕ) → ((i : ℕ) → i < n → f i ≡ true) → all f n ≡ true
+unfolding all
+all-is f zero h = refl
+all-is f (suc n) h = rw (h n (omega arith), all-is f n (λ i l. h i (omega arith)))
+
+pub all-cong : (f g : ℕ → Bool) (n : ℕ) → ((i : ℕ) → i < n → f i ≡ g i) → all f n ≡ all g n
+unfolding all
+all-cong f g zero h = refl
+all-cong f g (suc n) h = rw (h n (omega arith), all-cong f g n (λ i l. h i (omega arith)))
+
+pub all-not : (f : ℕ → Bool) (n i : ℕ) → i < n → f i ≡ false → all f n ≡ false
+unfolding all
+all-not f zero i h e = absurd (omega arith)
+all-not f (suc n) i h e = ⊎-elim (λ q. rw (← q, e)) (λ l. rw (all-not f n i l e) (never (f n))) (last-or n i h)
+  where
+    never : (b : Bool) → pick b false false ≡ false
+    never true = refl
+    never false = refl
+
+-- in a loop that counts up: r is what the code found of i
+pub all-none : (f : ℕ → Bool) → all f 0 ≡ true
+unfolding all
+all-none f = refl
+
+module _ (f : ℕ → Bool) (i : ℕ) (r : Bool) (told : r ≡ f i) where
+  pub all-more : all f i ≡ true → not r ≡ false → all f (i + 1) ≡ true
+  unfolding all
+  all-more a c = rw (add-one i, sym told ∙ not-false r c, a)
+
+  pub all-bad : (n : ℕ) → i < n → not r ≡ true → false ≡ all f n
+  all-bad n h c = sym (all-not f n i h (sym told ∙ not-true r c))
+
+pub all-done : (f : ℕ → Bool) (i n : ℕ) → all f i ≡ true → i ≤ n → n ≤ i → true ≡ all f n
+all-done f i n a h l = let e : i ≡ n = omega arith in sym (rw e at a)

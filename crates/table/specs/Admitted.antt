@@ -5,13 +5,13 @@ use mathlib.Core.List.{List, [], _∷_}
 use lib.ListN.{length}
 use lib.Dec.{ltb, eqb}
 use Rattle.octets.specs.Pick.{pick, both, either, no, all}
-use Rattle.octets.specs.Octets.{part, same}
+use Rattle.octets.specs.Octets.{same}
 use Rattle.octets.specs.Text.{within}
 use Rattle.der.specs.Kind as kind
 use Rattle.der.specs.Contents.{legal}
-use Rattle.table.specs.Limits.{Limits}
-use Rattle.table.specs.Row.{kindAt, elementAt, typeRowAt, modeAt, presenceAt, defaultLengthAt, defaultAt, isList, rows, rowAt, membersAt}
-use Rattle.table.specs.Body.{rowFormed}
+use Rattle.rows.specs.Limits.{Limits}
+use Rattle.rows.specs.Row.{nameAt, kindAt, elementAt, typeRowAt, modeAt, presenceAt, defaultLengthAt, defaultAt, isList, rows, rowAt, membersAt}
+use Rattle.rows.specs.Body.{rowFormed}
 use Rattle.table.specs.Types.{typeFrom}
 use Rattle.table.specs.Begins.{tagsApart}
 
@@ -24,8 +24,8 @@ unfoldable pub wholeRows : Limits → List ℕ → Bool
 wholeRows l s = within 1 (l .rows) (length s)
 
 -- the bodies are as the type table has them
-unfoldable pub bodyFormed : Limits → List ℕ → List ℕ → ℕ → Bool
-bodyFormed l t s i = rowFormed l t (rowAt s i)
+unfoldable pub bodyFormed : ℕ → List ℕ → List ℕ → ℕ → Bool
+bodyFormed most t s i = rowFormed most t (rowAt s i)
 
 -- "row 0 is a type"
 unfoldable pub isType : List ℕ → List ℕ → ℕ → Bool
@@ -59,17 +59,17 @@ membersStand t s = standing t 0 s
 abbrev pub memberPlace : List ℕ → ℕ → ℕ → ℕ
 memberPlace s i j = rowAt s (i + 1 + j)
 
-unfoldable pub sameName : Limits → List ℕ → ℕ → ℕ → Bool
-sameName l t p q = same (part t (p + 1) (l .name)) (part t (q + 1) (l .name))
+unfoldable pub sameName : List ℕ → ℕ → ℕ → Bool
+sameName t p q = same (nameAt t p) (nameAt t q)
 
-unfoldable pub differsFrom : Limits → List ℕ → List ℕ → ℕ → ℕ → ℕ → Bool
-differsFrom l t s i b a = no (sameName l t (memberPlace s i a) (memberPlace s i b))
+unfoldable pub differsFrom : List ℕ → List ℕ → ℕ → ℕ → ℕ → Bool
+differsFrom t s i b a = no (sameName t (memberPlace s i a) (memberPlace s i b))
 
-unfoldable pub newName : Limits → List ℕ → List ℕ → ℕ → ℕ → Bool
-newName l t s i b = all (differsFrom l t s i b) b
+unfoldable pub newName : List ℕ → List ℕ → ℕ → ℕ → Bool
+newName t s i b = all (differsFrom t s i b) b
 
-unfoldable pub namesDiffer : Limits → List ℕ → List ℕ → ℕ → Bool
-namesDiffer l t s i = all (newName l t s i) (membersAt t (rowAt s i))
+unfoldable pub namesDiffer : List ℕ → List ℕ → ℕ → Bool
+namesDiffer t s i = all (newName t s i) (membersAt t (rowAt s i))
 
 -- "alternatives are mandatory"
 unfoldable pub mandatoryAt : List ℕ → List ℕ → ℕ → ℕ → Bool
@@ -97,8 +97,8 @@ defaultLegal t s i =
     (pick (eqb (presenceAt t (rowAt s i)) 2) (defaultAllowed (typeKind t s i) (defaultAt t (rowAt s i))) (eqb (defaultLengthAt t (rowAt s i)) 0))
 
 -- "Alternatives' tags differ; so do those of a run of optional or default members and the mandatory one after it."
-unfoldable pub tagsDiffer : Limits → List ℕ → List ℕ → ℕ → Bool
-tagsDiffer l t s i = tagsApart (typeFrom (l .chain) l t s i)
+unfoldable pub tagsDiffer : ℕ → List ℕ → List ℕ → ℕ → Bool
+tagsDiffer chain t s i = tagsApart (typeFrom chain t s i)
 
 -- "A chain of rows, each naming the next as its element or as its member's type, has at most 16 type rows (member rows not counted)."
 -- Each chain from row i on has at most n type rows
@@ -116,16 +116,16 @@ chainFits (suc n) t s i =
 unfoldable pub admittedRows : Limits → List ℕ → List ℕ → Bool
 admittedRows l t s =
     both (wholeRows l s)
-    (both (everyRow (bodyFormed l t s) s)
+    (both (everyRow (bodyFormed (l .members) t s) s)
     (both (firstIsType t s)
     (both (everyRow (pointsLater t s) s)
     (both (membersStand t s)
-    (both (everyRow (namesDiffer l t s) s)
+    (both (everyRow (namesDiffer t s) s)
     (both (everyRow (alternativesMandatory t s) s)
     (both (everyRow (noImplicitChoice t s) s)
     (both (everyRow (defaultLegal t s) s)
     (both (everyRow (chainFits (l .chain) t s) s)
-    (everyRow (tagsDiffer l t s) s))))))))))
+    (everyRow (tagsDiffer (l .chain) t s) s))))))))))
 
 unfoldable pub admitted : Limits → List ℕ → Bool
 admitted l t = admittedRows l t (rows (l .rows) t)

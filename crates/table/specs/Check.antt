@@ -5,8 +5,8 @@ use mathlib.Core.List.{List}
 use lib.ListN.{length}
 use Rattle.octets.specs.Pick.{pick}
 use Rattle.octets.specs.Text.{within}
-use Rattle.table.specs.Limits.{Limits}
-use Rattle.table.specs.Row.{rows}
+use Rattle.rows.specs.Limits.{Limits}
+use Rattle.rows.specs.Row.{rows}
 use Rattle.table.specs.Admitted.{admitted}
 
 -- a refusal number, 0 for none, and the number of rows, 0 with a refusal

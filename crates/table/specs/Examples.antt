@@ -6,7 +6,7 @@ use Prim.Native.Nat.{ℕ, zero, suc}
 use Prim.Native.String.{String}
 use lib.ListN.{length, set, replicate}
 use Rattle.table.specs.Paper.{tableLimits, memberRow, licence}
-use Rattle.table.specs.Row.{rows}
+use Rattle.rows.specs.Row.{rows}
 use Rattle.table.specs.Types.{typeAt}
 use Rattle.table.specs.Begins.{begins}
 use Rattle.table.specs.Admitted.{everyRow, wholeRows, bodyFormed, firstIsType, pointsLater, membersStand, namesDiffer, alternativesMandatory, noImplicitChoice, defaultLegal, chainFits, tagsDiffer}
@@ -27,8 +27,8 @@ answer t = tableReport tableLimits t
 -- the clauses, each on its own
 clausesOf : List ℕ → List ℕ → List Bool
 clausesOf t s =
-    wholeRows tableLimits s ∷ everyRow (bodyFormed tableLimits t s) s ∷ firstIsType t s ∷ everyRow (pointsLater t s) s ∷ membersStand t s ∷ everyRow (namesDiffer tableLimits t s) s
-    ∷ everyRow (alternativesMandatory t s) s ∷ everyRow (noImplicitChoice t s) s ∷ everyRow (defaultLegal t s) s ∷ everyRow (chainFits 16 t s) s ∷ everyRow (tagsDiffer tableLimits t s) s ∷ []
+    wholeRows tableLimits s ∷ everyRow (bodyFormed 16 t s) s ∷ firstIsType t s ∷ everyRow (pointsLater t s) s ∷ membersStand t s ∷ everyRow (namesDiffer t s) s
+    ∷ everyRow (alternativesMandatory t s) s ∷ everyRow (noImplicitChoice t s) s ∷ everyRow (defaultLegal t s) s ∷ everyRow (chainFits 16 t s) s ∷ everyRow (tagsDiffer 16 t s) s ∷ []
 
 clauses : List ℕ → List Bool
 clauses t = clausesOf t (rows 128 t)

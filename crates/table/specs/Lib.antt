@@ -1,6 +1,3 @@
-pub mod Limits
-pub mod Row
-pub mod Body
 pub mod Types
 pub mod Begins
 pub mod Admitted

@@ -4,10 +4,10 @@ use Prim.Native.String.{String}
 use mathlib.Core.List.{List, [], _∷_, _++_}
 use lib.ListN.{length, take, replicate}
 use Rattle.octets.specs.Octets.{bytes}
-use Rattle.table.specs.Limits.{Limits}
+use Rattle.rows.specs.Limits.{Limits}
 
 abbrev pub tableLimits : Limits
-tableLimits = record { bytes = 4992; rows = 128; chain = 16; members = 16; name = 24 }
+tableLimits = record { bytes = 4992; rows = 128; chain = 16; members = 16 }
 
 -- n octets, filled with zeros
 abbrev pub fill : ℕ → List ℕ → List ℕ

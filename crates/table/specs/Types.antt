@@ -3,10 +3,9 @@ use Prim.Native.Nat.{ℕ, zero, suc, _+_}
 use mathlib.Core.List.{List, [], _∷_}
 use lib.Dec.{eqb}
 use Rattle.octets.specs.Pick.{pick}
-use Rattle.octets.specs.Octets.{part}
 use Rattle.der.specs.Kind as kind
-use Rattle.table.specs.Limits.{Limits}
-use Rattle.table.specs.Row.{kindAt, elementAt, typeRowAt, modeAt, numberAt, presenceAt, defaultAt, isList, rows, rowAt, membersAt}
+use Rattle.rows.specs.Limits.{Limits}
+use Rattle.rows.specs.Row.{nameAt, kindAt, elementAt, typeRowAt, modeAt, numberAt, presenceAt, defaultAt, isList, rows, rowAt, membersAt}
 
 -- tag mode: none, explicit, implicit, with the context tag number
 pub data Tagging : Type 0 where
@@ -58,13 +57,13 @@ unfoldable pub presenceOf : ℕ → List ℕ → Presence
 presenceOf presence c = pick (eqb presence 0) mandatory (pick (eqb presence 1) optional (default c))
 
 -- the member of row i, which is the row at p
-unfoldable pub memberOf : Limits → List ℕ → ℕ → ℕ → Member
-memberOf l t i p = record { row = i; name = unfilled (part t (p + 1) (l .name)); tagging = taggingOf (modeAt t p) (numberAt t p); presence = presenceOf (presenceAt t p) (defaultAt t p) }
+unfoldable pub memberOf : List ℕ → ℕ → ℕ → Member
+memberOf t i p = record { row = i; name = unfilled (nameAt t p); tagging = taggingOf (modeAt t p) (numberAt t p); presence = presenceOf (presenceAt t p) (defaultAt t p) }
 
 -- n members from row i on; f gives a row's type
-unfoldable pub membersFrom : (ℕ → Ty) → Limits → List ℕ → List ℕ → ℕ → ℕ → Members
-membersFrom f l t s i zero = noMore
-membersFrom f l t s i (suc n) = more (memberOf l t i (rowAt s i)) (f (typeRowAt t (rowAt s i))) (membersFrom f l t s (i + 1) n)
+unfoldable pub membersFrom : (ℕ → Ty) → List ℕ → List ℕ → ℕ → ℕ → Members
+membersFrom f t s i zero = noMore
+membersFrom f t s i (suc n) = more (memberOf t i (rowAt s i)) (f (typeRowAt t (rowAt s i))) (membersFrom f t s (i + 1) n)
 
 -- the type of a row of kind k, with the type of its element and its members
 abbrev pub typed : ℕ → Ty → Members → Ty
@@ -75,13 +74,13 @@ typed k e ms =
     (basic k)))
 
 -- the type of row i of the rows s, at most n rows deep; `basic 0`, which no value has, is not reached in an admitted table
-unfoldable pub typeFrom : ℕ → Limits → List ℕ → List ℕ → ℕ → Ty
-typeFrom zero l t s i = basic 0
-typeFrom (suc n) l t s i =
-    let e = typeFrom n l t s (elementAt t (rowAt s i)) in
-    let ms = membersFrom (typeFrom n l t s) l t s (i + 1) (membersAt t (rowAt s i)) in
+unfoldable pub typeFrom : ℕ → List ℕ → List ℕ → ℕ → Ty
+typeFrom zero t s i = basic 0
+typeFrom (suc n) t s i =
+    let e = typeFrom n t s (elementAt t (rowAt s i)) in
+    let ms = membersFrom (typeFrom n t s) t s (i + 1) (membersAt t (rowAt s i)) in
     typed (kindAt t (rowAt s i)) e ms
 
 -- the type that row i of a table describes; an admitted table's chains are within their limit, so it is described in full
 unfoldable pub typeAt : Limits → List ℕ → ℕ → Ty
-typeAt l t i = typeFrom (l .chain) l t (rows (l .rows) t) i
+typeAt l t i = typeFrom (l .chain) t (rows (l .rows) t) i

@@ -5,7 +5,7 @@ use mathlib.Core.List.{List}
 use lib.ListN.{length}
 use Rattle.octets.specs.Pick.{pick, both, isSome}
 use Rattle.octets.specs.Text.{within}
-use Rattle.table.specs.Limits as table
+use Rattle.rows.specs.Limits as table
 use Rattle.table.specs.Types.{typeAt}
 use Rattle.table.specs.Admitted.{admitted}
 use Rattle.table.specs.Check.{tableFits}

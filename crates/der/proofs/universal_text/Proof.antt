@@ -1,6 +1,5 @@
 use Rattle.der.proofs.Tests.{tests}
 use Rattle.der.specs.Tag.{universalText}
-use borrow.Author.Needs.{needs}
 use Rattle.der.proofs.universal_text.Statement.{statement}
 use Rattle.der.proofs.universal_text.Tie as tie
 

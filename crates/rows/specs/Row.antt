@@ -23,9 +23,12 @@ countAt t p = octet t (p + 1)
 abbrev pub elementAt : List ℕ → ℕ → ℕ
 elementAt t p = two t (p + 1)
 
--- of a member: a name's octet, type row, tag mode, context tag number, presence, default length, default contents
+-- of a member: its name, a name's octet, type row, tag mode, context tag number, presence, default length, default contents
+abbrev pub nameAt : List ℕ → ℕ → List ℕ
+nameAt t p = part t (p + 1) 24
+
 abbrev pub nameOctetAt : List ℕ → ℕ → ℕ → ℕ
-nameOctetAt t p j = octet t (p + 1 + j)
+nameOctetAt t p j = octet t (p + (1 + j))
 
 abbrev pub typeRowAt : List ℕ → ℕ → ℕ
 typeRowAt t p = two t (p + 25)

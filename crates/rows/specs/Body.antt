@@ -7,14 +7,13 @@ use Rattle.octets.specs.Pick.{pick, both, either, no, all}
 use Rattle.octets.specs.Octets.{part, every}
 use Rattle.octets.specs.Text.{within, isLower, isAlnum}
 use Rattle.der.specs.Kind as kind
-use Rattle.table.specs.Limits.{Limits}
-use Rattle.table.specs.Row.{kindAt, countAt, nameOctetAt, modeAt, numberAt, presenceAt, defaultLengthAt}
+use Rattle.rows.specs.Row.{kindAt, countAt, nameOctetAt, modeAt, numberAt, presenceAt, defaultLengthAt}
 
 -- members from 0, alternatives from 1, up to the limit
-unfoldable pub countFormed : Limits → List ℕ → ℕ → Bool
-countFormed l t p =
-    pick (eqb (kindAt t p) kind.sequence) (leb (countAt t p) (l .members))
-    (pick (eqb (kindAt t p) kind.choice) (within 1 (l .members) (countAt t p))
+unfoldable pub countFormed : ℕ → List ℕ → ℕ → Bool
+countFormed most t p =
+    pick (eqb (kindAt t p) kind.sequence) (leb (countAt t p) most)
+    (pick (eqb (kindAt t p) kind.choice) (within 1 most (countAt t p))
     true)
 
 -- ---- "A name is a lowercase letter, then letters, digits and single hyphens, no hyphen last"; filled with zeros
@@ -28,12 +27,15 @@ follows a b =
 unfoldable pub followed : List ℕ → ℕ → ℕ → Bool
 followed t p j = follows (nameOctetAt t p j) (nameOctetAt t p (j + 1))
 
-unfoldable pub nameFormed : Limits → List ℕ → ℕ → Bool
-nameFormed l t p = both (isLower (nameOctetAt t p 0)) (both (no (eqb (nameOctetAt t p (l .name - 1)) 45)) (all (followed t p) (l .name - 1)))
+unfoldable pub nameFormed : List ℕ → ℕ → Bool
+nameFormed t p = both (isLower (nameOctetAt t p 0)) (both (no (eqb (nameOctetAt t p 23) 45)) (all (followed t p) 23))
 
 -- tag mode 0 none, 1 explicit, 2 implicit; context tag number 0..30, and 0 in mode 0
+unfoldable pub taggingFormed : ℕ → ℕ → Bool
+taggingFormed mode number = both (leb mode 2) (both (leb number 30) (either (no (eqb mode 0)) (eqb number 0)))
+
 unfoldable pub tagFormed : List ℕ → ℕ → Bool
-tagFormed t p = both (leb (modeAt t p) 2) (both (leb (numberAt t p) 30) (either (no (eqb (modeAt t p) 0)) (eqb (numberAt t p) 0)))
+tagFormed t p = taggingFormed (modeAt t p) (numberAt t p)
 
 -- presence 0 mandatory, 1 optional, 2 default
 unfoldable pub presenceFormed : List ℕ → ℕ → Bool
@@ -44,11 +46,11 @@ abbrev pub isZero : ℕ → Bool
 isZero b = eqb b 0
 
 unfoldable pub defaultFilled : List ℕ → ℕ → Bool
-defaultFilled t p = both (leb (defaultLengthAt t p) 8) (every isZero (part t (p + 31 + defaultLengthAt t p) (8 - defaultLengthAt t p)))
+defaultFilled t p = both (leb (defaultLengthAt t p) 8) (every isZero (part t (p + (31 + defaultLengthAt t p)) (8 - defaultLengthAt t p)))
 
 -- a member's body
-unfoldable pub memberFormed : Limits → List ℕ → ℕ → Bool
-memberFormed l t p = both (nameFormed l t p) (both (tagFormed t p) (both (presenceFormed t p) (defaultFilled t p)))
+unfoldable pub memberFormed : List ℕ → ℕ → Bool
+memberFormed t p = both (nameFormed t p) (both (tagFormed t p) (both (presenceFormed t p) (defaultFilled t p)))
 
-unfoldable pub rowFormed : Limits → List ℕ → ℕ → Bool
-rowFormed l t p = pick (eqb (kindAt t p) kind.member) (memberFormed l t p) (countFormed l t p)
+unfoldable pub rowFormed : ℕ → List ℕ → ℕ → Bool
+rowFormed most t p = pick (eqb (kindAt t p) kind.member) (memberFormed t p) (countFormed most t p)

@@ -1,0 +1,11 @@
+use Rattle.rows.proofs.Tests.{tests}
+use Rattle.rows.specs.Row.{isList}
+use borrow.Author.Needs.{needs}
+use Rattle.rows.proofs.is_list.Statement.{statement}
+use Rattle.rows.proofs.is_list.Tie as tie
+
+pub is-list-spec : {M : Type 1} → statement M
+unfolding isList
+is-list-spec = tie.close (tie.spec
+    (λ c. search tests)  -- returns
+    (λ c. search tests))  -- returns-2

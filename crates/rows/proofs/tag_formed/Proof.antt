@@ -1,0 +1,13 @@
+use Rattle.rows.proofs.Tests.{tests}
+use Rattle.rows.specs.Body.{taggingFormed}
+use borrow.Author.Needs.{needs}
+use Rattle.rows.proofs.tag_formed.Statement.{statement}
+use Rattle.rows.proofs.tag_formed.Tie as tie
+
+pub tag-formed-spec : {M : Type 1} → statement M
+unfolding taggingFormed
+tag-formed-spec = tie.close (tie.spec
+    (λ c. search tests)  -- returns
+    (λ c. search tests)  -- returns-2
+    (λ c. search tests)  -- returns-3
+    (λ c. search tests))  -- returns-4

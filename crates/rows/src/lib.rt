@@ -1,0 +1,268 @@
+// The rows of a type table: where they start, their parts, and what their bodies are like. Reads past the end give 0.
+ghost use mathlib.Core.Path.{_≡_};
+ghost use Prim.Native.Nat.{_≤_, _<_, _+_};
+ghost use lib.ListN.{length, take};
+ghost use Rattle.octets.specs.Octets.{octet, two, part, every};
+ghost use Rattle.rows.specs.Row as row;
+ghost use Rattle.rows.specs.Body as body;
+
+// A table: how many rows it has, and the limits of every table.
+pub struct Table {
+    pub rows: usize,
+}
+
+impl Table {
+    pub const MAX_BYTES: usize = 4992;
+
+    pub const MAX_ROWS: usize = 128;
+
+    pub const MAX_CHAIN: usize = 16;
+
+    pub const MAX_MEMBERS: u8 = 16;
+
+    pub fn of(rows: usize) -> Self
+        ensures { λ r. ⌜ r .rows ≡ rows ⌝ }
+    {
+        Self { rows }
+    }
+}
+
+// ---- reading
+// The octet k after place p.
+pub fn field(t: &[u8], p: usize, k: usize) -> u8
+    ensures { λ r. ⌜ r ≡ octet (now (t .entry)) (p + k) ⌝ }
+{
+    if t.len() <= p {
+        return 0;
+    }
+    if t.len() - p <= k {
+        return 0;
+    }
+    t[p + k]
+}
+
+// Up to n octets from k after place p on.
+pub fn fields(t: &[u8], p: usize, k: usize, n: usize) -> &[u8]
+    ensures { λ r. ⌜ now r ≡ part (now (t .entry)) (p + k) n ⌝ }
+{
+    if t.len() <= p {
+        return octets::part(t, t.len(), n);
+    }
+    if t.len() - p <= k {
+        return octets::part(t, t.len(), n);
+    }
+    octets::part(t, p + k, n)
+}
+
+// Two octets, big-endian, from k after place p on.
+pub fn number_after(t: &[u8], p: usize, k: usize) -> usize
+    requires { ⌜ k < 64 ⌝ }
+    ensures { λ r. ⌜ r ≡ two (now (t .entry)) (p + k) ⌝ }
+{
+    octets::wide_two(field(t, p, k), field(t, p, k + 1))
+}
+
+// The place of row i.
+pub fn row_at(s: &[usize], i: usize) -> usize
+    ensures { λ r. ⌜ r ≡ row.rowAt (now (s .entry)) i ⌝ }
+{
+    if s.len() <= i {
+        return 0;
+    }
+    s[i]
+}
+
+// ---- the rows
+pub fn is_group(kind: u8) -> bool
+    ensures { λ r. ⌜ r ≡ row.isGroup kind ⌝ }
+{
+    if kind == 12 {
+        return true;
+    }
+    kind == 13
+}
+
+pub fn is_list(kind: u8) -> bool
+    ensures { λ r. ⌜ r ≡ row.isList kind ⌝ }
+{
+    if kind == 14 {
+        return true;
+    }
+    kind == 15
+}
+
+fn row_size(kind: u8) -> usize
+    ensures { λ r. ⌜ r ≡ row.rowSize kind ⌝ }
+{
+    if octets::within(1, 11, kind) {
+        return 1;
+    }
+    if is_group(kind) {
+        return 2;
+    }
+    if is_list(kind) {
+        return 3;
+    }
+    if kind == 16 {
+        return 39;
+    }
+    0
+}
+
+// Writes the places of a table's rows, and answers how many there are; none where it isn't a table of whole rows within the limit.
+pub fn scan(t: &[u8], s: &mut [usize]) -> usize
+    requires { do ⌜ length (now s) ≡ (← ⟦Table::MAX_ROWS⟧) ⌝ }
+    ensures count { λ r. do ⌜ r ≡ length (row.rows (← ⟦Table::MAX_ROWS⟧ .entry) (now (t .entry))) ⌝ }
+    ensures places { λ r. do ⌜ take r (now (s .exit)) ≡ row.rows (← ⟦Table::MAX_ROWS⟧ .entry) (now (t .entry)) ⌝ }
+    ensures few { λ r. do ⌜ r ≤ (← ⟦Table::MAX_ROWS⟧ .entry) ⌝ }
+{
+    let mut at = 0;
+    let mut n = 0;
+    while at < t.len() {
+        if n == Table::MAX_ROWS {
+            return 0;
+        }
+        let size = row_size(t[at]);
+        if size == 0 {
+            return 0;
+        }
+        if t.len() - at < size {
+            return 0;
+        }
+        s[n] = at;
+        n += 1;
+        at += size;
+    }
+    n
+}
+
+// How many members stand after a row.
+pub fn members_at(t: &[u8], p: usize) -> usize
+    ensures { λ r. ⌜ r ≡ row.membersAt (now (t .entry)) p ⌝ }
+{
+    if is_group(octets::octet(t, p)) {
+        return octets::wide(field(t, p, 1));
+    }
+    0
+}
+
+// ---- bodies
+fn count_formed(t: &[u8], p: usize) -> bool
+    ensures { λ r. do ⌜ r ≡ body.countFormed (← ⟦Table::MAX_MEMBERS⟧ .entry) (now (t .entry)) p ⌝ }
+{
+    let kind = octets::octet(t, p);
+    if kind == 12 {
+        return field(t, p, 1) <= Table::MAX_MEMBERS;
+    }
+    if kind == 13 {
+        return octets::within(1, Table::MAX_MEMBERS, field(t, p, 1));
+    }
+    true
+}
+
+fn may_follow(a: u8, b: u8) -> bool
+    ensures { λ r. ⌜ r ≡ body.follows a b ⌝ }
+{
+    if a == 0 {
+        return b == 0;
+    }
+    if a == 45 {
+        return octets::is_alnum(b);
+    }
+    if b == 0 {
+        return true;
+    }
+    if b == 45 {
+        return true;
+    }
+    octets::is_alnum(b)
+}
+
+fn is_followed(t: &[u8], p: usize, j: usize) -> bool
+    requires { ⌜ j < 64 ⌝ }
+    ensures { λ r. ⌜ r ≡ body.followed (now (t .entry)) p j ⌝ }
+{
+    may_follow(field(t, p, 1 + j), field(t, p, 1 + (j + 1)))
+}
+
+fn name_formed(t: &[u8], p: usize) -> bool
+    ensures { λ r. ⌜ r ≡ body.nameFormed (now (t .entry)) p ⌝ }
+{
+    if !octets::is_lower(field(t, p, 1)) {
+        return false;
+    }
+    if field(t, p, 24) == 45 {
+        return false;
+    }
+    let mut j = 0;
+    while j < 23 {
+        if !is_followed(t, p, j) {
+            return false;
+        }
+        j += 1;
+    }
+    true
+}
+
+fn tag_formed(mode: u8, number: u8) -> bool
+    ensures { λ r. ⌜ r ≡ body.taggingFormed mode number ⌝ }
+{
+    if 2 < mode {
+        return false;
+    }
+    if 30 < number {
+        return false;
+    }
+    if mode == 0 {
+        return number == 0;
+    }
+    true
+}
+
+fn all_zero(c: &[u8]) -> bool
+    ensures { λ r. ⌜ r ≡ every body.isZero (now (c .entry)) ⌝ }
+{
+    let mut i = 0;
+    while i < c.len() {
+        if c[i] != 0 {
+            return false;
+        }
+        i += 1;
+    }
+    true
+}
+
+fn default_filled(t: &[u8], p: usize) -> bool
+    ensures { λ r. ⌜ r ≡ body.defaultFilled (now (t .entry)) p ⌝ }
+{
+    let n = octets::wide(field(t, p, 30));
+    if 8 < n {
+        return false;
+    }
+    all_zero(fields(t, p, 31 + n, 8 - n))
+}
+
+fn member_formed(t: &[u8], p: usize) -> bool
+    ensures { λ r. ⌜ r ≡ body.memberFormed (now (t .entry)) p ⌝ }
+{
+    if !name_formed(t, p) {
+        return false;
+    }
+    if !tag_formed(field(t, p, 27), field(t, p, 28)) {
+        return false;
+    }
+    if 2 < field(t, p, 29) {
+        return false;
+    }
+    default_filled(t, p)
+}
+
+// Whether a row's body is as the type table has it.
+pub fn row_formed(t: &[u8], p: usize) -> bool
+    ensures { λ r. do ⌜ r ≡ body.rowFormed (← ⟦Table::MAX_MEMBERS⟧ .entry) (now (t .entry)) p ⌝ }
+{
+    if octets::octet(t, p) == 16 {
+        return member_formed(t, p);
+    }
+    count_formed(t, p)
+}
