@@ -1,18 +1,16 @@
 -- The steps of the scan that finds the rows.
-use mathlib.Core.Path.{_≡_, refl, sym, ap, ap₂, _∙_}
-use mathlib.Core.Bool.{Bool, true, false}
+use mathlib.Core.Path.{_≡_, refl, sym, ap, _∙_}
 use mathlib.Core.Option.{Option, none, some}
 use mathlib.Core.List.{List, [], _∷_, _++_, append-assoc, append-nil}
 use Prim.Native.Nat.{ℕ, zero, suc, _≤_, _<_, _+_, _-_}
 use native.Mathlib.Omega.{arith}
 use native.Mathlib.Numerals.{add-one}
-use borrow.Author.Tests.{eq-eqb, ne-eqb, lt-ltb, le-ltb}
-use lib.ListN.{length, take, set, getD, length-set}
+use borrow.Author.Tests.{ne-eqb, lt-ltb, le-ltb}
+use lib.ListN.{length, take, set, length-set}
 use lib.Seq.{take-suc-set, length-take-le}
-use lib.Dec.{eqb, ltb}
-use Rattle.octets.specs.Pick.{pick, consed}
+use Rattle.octets.specs.Pick.{consed}
 use Rattle.octets.specs.Octets.{octet}
-use Rattle.rows.specs.Row.{kindAt, rowSize, rowsFrom, orNone, rows}
+use Rattle.rows.specs.Row.{rowSize, rowsFrom, rows}
 
 abbrev pub joined : List ℕ → Option (List ℕ) → Option (List ℕ)
 joined xs none = none

@@ -1,13 +1,13 @@
 -- One lemma for each return and each turn of a loop; its premises are the facts as the code has them.
-use mathlib.Core.Path.{_≡_, refl, sym, ap, ap₂, _∙_}
+use mathlib.Core.Path.{_≡_, sym, ap, ap₂, _∙_}
 use mathlib.Core.Bool.{Bool, true, false, not}
-use mathlib.Core.List.{List, [], _∷_}
-use Prim.Native.Nat.{ℕ, zero, suc, _≤_, _<_, _+_, _-_, _*_}
+use mathlib.Core.List.{List}
+use Prim.Native.Nat.{ℕ, _≤_, _<_, _+_, _-_, _*_}
 use native.Mathlib.Omega.{arith}
-use borrow.Author.Tests.{not-true, not-false, eq-eqb, ne-eqb, lt-ltb, le-ltb, lt-leb, le-leb}
-use lib.Dec.{ltb, leb, eqb}
+use borrow.Author.Tests.{not-true, not-false, eq-eqb, ne-eqb, lt-leb, le-leb}
+use lib.Dec.{leb, eqb}
 use lib.ListN.{length, drop}
-use Rattle.octets.specs.Pick.{pick, all}
+use Rattle.octets.specs.Pick.{all}
 use Rattle.octets.specs.Octets.{octet, two, part, every}
 use Rattle.octets.specs.Text.{within, isLower, isAlnum}
 use Rattle.octets.proofs.Laws.{octet-past, part-past, every-fails, every-holds, all-bad, all-done}

@@ -1,116 +1,18 @@
--- Type table: "Admitted", a test for each of its clauses. t is the table, s its rows.
-use Prim.Native.Nat.{ℕ, zero, suc, _+_, _-_}
-use mathlib.Core.Bool.{Bool, true, false}
-use mathlib.Core.List.{List, [], _∷_}
-use lib.ListN.{length}
-use lib.Dec.{ltb, eqb}
-use Rattle.octets.specs.Pick.{pick, both, either, no, all}
-use Rattle.octets.specs.Octets.{same}
-use Rattle.octets.specs.Text.{within}
+-- Type table: "Admitted", all clauses. t is the table, s its rows.
+use Prim.Native.Nat.{ℕ}
+use mathlib.Core.Bool.{Bool}
+use mathlib.Core.List.{List}
+use Rattle.octets.specs.Pick.{both}
 use Rattle.der.specs.Kind as kind
-use Rattle.der.specs.Contents.{legal}
 use Rattle.rows.specs.Limits.{Limits}
-use Rattle.rows.specs.Row.{nameAt, kindAt, elementAt, typeRowAt, modeAt, presenceAt, defaultLengthAt, defaultAt, isList, rows, rowAt, membersAt}
-use Rattle.rows.specs.Body.{rowFormed}
+use Rattle.rows.specs.Row.{rows}
 use Rattle.table.specs.Types.{typeFrom}
 use Rattle.table.specs.Begins.{tagsApart}
-
--- a test of every row, by its number
-abbrev pub everyRow : (ℕ → Bool) → List ℕ → Bool
-everyRow f s = all f (length s)
-
--- "1 to 128 whole rows"
-unfoldable pub wholeRows : Limits → List ℕ → Bool
-wholeRows l s = within 1 (l .rows) (length s)
-
--- the bodies are as the type table has them
-unfoldable pub bodyFormed : ℕ → List ℕ → List ℕ → ℕ → Bool
-bodyFormed most t s i = rowFormed most t (rowAt s i)
-
--- "row 0 is a type"
-unfoldable pub isType : List ℕ → List ℕ → ℕ → Bool
-isType t s i = both (ltb i (length s)) (no (eqb (kindAt t (rowAt s i)) kind.member))
-
-unfoldable pub firstIsType : List ℕ → List ℕ → Bool
-firstIsType t s = isType t s 0
-
--- "row numbers point to later rows of types": row i names row j
-unfoldable pub laterType : List ℕ → List ℕ → ℕ → ℕ → Bool
-laterType t s i j = both (ltb i j) (isType t s j)
-
-unfoldable pub pointsLater : List ℕ → List ℕ → ℕ → Bool
-pointsLater t s i =
-    pick (isList (kindAt t (rowAt s i))) (laterType t s i (elementAt t (rowAt s i)))
-    (pick (eqb (kindAt t (rowAt s i)) kind.member) (laterType t s i (typeRowAt t (rowAt s i)))
-    true)
-
--- "member rows stand directly after their SEQUENCE or CHOICE and nowhere else": so many members are still due before these rows
-unfoldable pub standing : List ℕ → ℕ → List ℕ → Bool
-standing t due [] = eqb due 0
-standing t due (p ∷ ps) =
-    let member = standing t (due - 1) ps in
-    let type = standing t (membersAt t p) ps in
-    pick (eqb (kindAt t p) kind.member) (both (ltb 0 due) member) (both (eqb due 0) type)
-
-unfoldable pub membersStand : List ℕ → List ℕ → Bool
-membersStand t s = standing t 0 s
-
--- "names in one type differ": members a and b of row i
-abbrev pub memberPlace : List ℕ → ℕ → ℕ → ℕ
-memberPlace s i j = rowAt s (i + 1 + j)
-
-unfoldable pub sameName : List ℕ → ℕ → ℕ → Bool
-sameName t p q = same (nameAt t p) (nameAt t q)
-
-unfoldable pub differsFrom : List ℕ → List ℕ → ℕ → ℕ → ℕ → Bool
-differsFrom t s i b a = no (sameName t (memberPlace s i a) (memberPlace s i b))
-
-unfoldable pub newName : List ℕ → List ℕ → ℕ → ℕ → Bool
-newName t s i b = all (differsFrom t s i b) b
-
-unfoldable pub namesDiffer : List ℕ → List ℕ → ℕ → Bool
-namesDiffer t s i = all (newName t s i) (membersAt t (rowAt s i))
-
--- "alternatives are mandatory"
-unfoldable pub mandatoryAt : List ℕ → List ℕ → ℕ → ℕ → Bool
-mandatoryAt t s i j = eqb (presenceAt t (memberPlace s i j)) 0
-
-unfoldable pub alternativesMandatory : List ℕ → List ℕ → ℕ → Bool
-alternativesMandatory t s i = either (no (eqb (kindAt t (rowAt s i)) kind.choice)) (all (mandatoryAt t s i) (membersAt t (rowAt s i)))
-
--- "no implicit tag on a CHOICE": `typeKind` is the kind of member row i's type
-abbrev pub typeKind : List ℕ → List ℕ → ℕ → ℕ
-typeKind t s i = kindAt t (rowAt s (typeRowAt t (rowAt s i)))
-
-unfoldable pub noImplicitChoice : List ℕ → List ℕ → ℕ → Bool
-noImplicitChoice t s i =
-    either (no (eqb (kindAt t (rowAt s i)) kind.member))
-    (either (no (eqb (modeAt t (rowAt s i)) 2)) (no (eqb (typeKind t s i) kind.choice)))
-
--- "defaults only on BOOLEAN, INTEGER, ENUMERATED, with legal DER contents of 1 to 8 octets (length 0 without presence 2)"
-unfoldable pub defaultAllowed : ℕ → List ℕ → Bool
-defaultAllowed k c = both (within kind.boolean kind.enumerated k) (legal k c)
-
-unfoldable pub defaultLegal : List ℕ → List ℕ → ℕ → Bool
-defaultLegal t s i =
-    either (no (eqb (kindAt t (rowAt s i)) kind.member))
-    (pick (eqb (presenceAt t (rowAt s i)) 2) (defaultAllowed (typeKind t s i) (defaultAt t (rowAt s i))) (eqb (defaultLengthAt t (rowAt s i)) 0))
+use Rattle.groups.specs.Clauses.{everyRow, wholeRows, bodyFormed, firstIsType, pointsLater, membersStand, namesDiffer, alternativesMandatory, noImplicitChoice, defaultLegal, chainFits}
 
 -- "Alternatives' tags differ; so do those of a run of optional or default members and the mandatory one after it."
 unfoldable pub tagsDiffer : ℕ → List ℕ → List ℕ → ℕ → Bool
 tagsDiffer chain t s i = tagsApart (typeFrom chain t s i)
-
--- "A chain of rows, each naming the next as its element or as its member's type, has at most 16 type rows (member rows not counted)."
--- Each chain from row i on has at most n type rows
-unfoldable pub ofMember : (ℕ → Bool) → List ℕ → List ℕ → ℕ → ℕ → Bool
-ofMember f t s i j = f (typeRowAt t (memberPlace s i j))
-
-unfoldable pub chainFits : ℕ → List ℕ → List ℕ → ℕ → Bool
-chainFits zero t s i = false
-chainFits (suc n) t s i =
-    let element = chainFits n t s (elementAt t (rowAt s i)) in
-    pick (isList (kindAt t (rowAt s i))) element
-    (all (ofMember (chainFits n t s) t s i) (membersAt t (rowAt s i)))
 
 -- all clauses
 unfoldable pub admittedRows : Limits → List ℕ → List ℕ → Bool

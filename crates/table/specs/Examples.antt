@@ -9,7 +9,8 @@ use Rattle.table.specs.Paper.{tableLimits, memberRow, licence}
 use Rattle.rows.specs.Row.{rows}
 use Rattle.table.specs.Types.{typeAt}
 use Rattle.table.specs.Begins.{begins}
-use Rattle.table.specs.Admitted.{everyRow, wholeRows, bodyFormed, firstIsType, pointsLater, membersStand, namesDiffer, alternativesMandatory, noImplicitChoice, defaultLegal, chainFits, tagsDiffer}
+use Rattle.groups.specs.Clauses.{everyRow, wholeRows, bodyFormed, firstIsType, pointsLater, membersStand, namesDiffer, alternativesMandatory, noImplicitChoice, defaultLegal, chainFits}
+use Rattle.table.specs.Admitted.{tagsDiffer}
 use Rattle.table.specs.Check.{TableReport, refused, admits, tableReport}
 use Rattle.table.specs.Computing.{tableComputes}
 

@@ -1,6 +1,5 @@
 use Rattle.rows.proofs.Tests.{tests}
 use Rattle.rows.specs.Row.{isGroup}
-use borrow.Author.Needs.{needs}
 use Rattle.rows.proofs.is_group.Statement.{statement}
 use Rattle.rows.proofs.is_group.Tie as tie
 

@@ -1,6 +1,5 @@
 use Rattle.rows.proofs.Tests.{tests}
 use Rattle.rows.specs.Row.{isList}
-use borrow.Author.Needs.{needs}
 use Rattle.rows.proofs.is_list.Statement.{statement}
 use Rattle.rows.proofs.is_list.Tie as tie
 

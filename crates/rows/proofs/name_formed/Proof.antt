@@ -4,7 +4,7 @@ use Rattle.rows.specs.Body.{followed}
 use Rattle.octets.specs.Pick.{all}
 use native.Mathlib.Omega.{arith}
 use mathlib.Core.Bool.{true}
-use mathlib.Core.Path.{_≡_, refl}
+use mathlib.Core.Path.{_≡_}
 use Prim.Native.Nat.{_-_, _≤_}
 use borrow.Author.Needs.{needs}
 use Rattle.rows.proofs.name_formed.Statement.{statement}

@@ -1,6 +1,5 @@
 use Rattle.rows.proofs.Tests.{tests}
 use Rattle.rows.specs.Body.{taggingFormed}
-use borrow.Author.Needs.{needs}
 use Rattle.rows.proofs.tag_formed.Statement.{statement}
 use Rattle.rows.proofs.tag_formed.Tie as tie
 

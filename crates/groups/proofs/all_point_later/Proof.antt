@@ -1,0 +1,31 @@
+use Rattle.octets.proofs.Laws.{all-none, all-more, all-bad, all-done}
+use Rattle.groups.specs.Clauses.{pointsLater}
+use Rattle.octets.specs.Pick.{all}
+use native.Mathlib.Omega.{arith}
+use mathlib.Core.Bool.{true}
+use mathlib.Core.Path.{_≡_, refl}
+use Prim.Native.Nat.{_-_, _≤_}
+use lib.ListN.{length}
+use borrow.Author.Needs.{needs}
+use Rattle.groups.proofs.all_point_later.Statement.{statement}
+use Rattle.groups.proofs.all_point_later.Tie as tie
+
+abbrev Inv-loop : tie.InvT-loop
+Inv-loop t s i₀ i = (i ≤ length s) × (all (pointsLater t s) i ≡ true)
+
+abbrev μ-loop : tie.MeasureT-loop
+μ-loop t s i₀ i = length s - i
+
+pub all-point-later-spec : {M : Type 1} → statement M
+all-point-later-spec =
+    tie.close
+    (tie.spec
+    Inv-loop
+    μ-loop
+    (λ c. (search needs, all-none (pointsLater _ _)))  -- loop-holds
+    (λ c κs. search needs)  -- points-later-requires
+    (λ c. search all-bad)  -- returns
+    (λ c. search needs)  -- add-i
+    (λ c. search needs)  -- loop-less
+    (λ c. (omega arith, search all-more))  -- loop-again
+    (λ c. search all-done))  -- returns-2

@@ -1,0 +1,11 @@
+use Rattle.groups.proofs.Steps.{names-same}
+use borrow.Author.Needs.{needs}
+use Rattle.groups.proofs.same_name.Statement.{statement}
+use Rattle.groups.proofs.same_name.Tie as tie
+
+pub same-name-spec : {M : Type 1} → statement M
+same-name-spec = tie.close (tie.spec
+    (λ c κs. search needs)  -- fields-requires
+    (λ c κs. search needs)  -- fields-requires-2
+    (λ c κs. search needs)  -- same-requires
+    (λ c. search names-same))  -- returns

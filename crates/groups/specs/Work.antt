@@ -1,0 +1,25 @@
+-- What the pass over the rows computes, from the last row to the first, by the array d that it fills: the longest chain from each row on.
+use Prim.Native.Nat.{ℕ, zero, suc}
+use mathlib.Core.List.{List}
+use lib.Dec.{ltb}
+use Rattle.octets.specs.Pick.{pick}
+use Rattle.rows.specs.Row.{kindAt, elementAt, typeRowAt, isList, rowAt, membersAt}
+use Rattle.groups.specs.Clauses.{memberPlace}
+
+abbrev pub memberType : List ℕ → List ℕ → ℕ → ℕ → ℕ
+memberType t s i j = typeRowAt t (memberPlace s i j)
+
+unfoldable pub larger : ℕ → ℕ → ℕ
+larger a b = pick (ltb a b) b a
+
+unfoldable pub memberDepth : List ℕ → List ℕ → List ℕ → ℕ → ℕ → ℕ
+memberDepth d t s i j = rowAt d (memberType t s i j)
+
+-- the largest of the first n numbers that f gives
+unfoldable pub tallest : (ℕ → ℕ) → ℕ → ℕ
+tallest f zero = 0
+tallest f (suc n) = larger (f n) (tallest f n)
+
+-- the longest chain of the rows that row i names
+unfoldable pub deepest : List ℕ → List ℕ → List ℕ → ℕ → ℕ
+deepest d t s i = pick (isList (kindAt t (rowAt s i))) (rowAt d (elementAt t (rowAt s i))) (tallest (memberDepth d t s i) (membersAt t (rowAt s i)))

@@ -1,0 +1,288 @@
+// Clauses of "Admitted": each row's body, the rows that rows name, members and their names, alternatives, defaults, and chains.
+ghost use mathlib.Core.Path.{_≡_};
+ghost use mathlib.Core.Bool.{true};
+ghost use Prim.Native.Nat.{_≤_};
+ghost use lib.ListN.{length};
+ghost use Rattle.octets.specs.Pick.{all};
+ghost use Rattle.rows.specs.Row as row;
+ghost use Rattle.groups.specs.Clauses as clause;
+ghost use Rattle.groups.specs.Work as work;
+
+// ---- bodies
+fn body_formed(t: &[u8], s: &[usize], i: usize) -> bool
+    ensures { λ r. do ⌜ r ≡ clause.bodyFormed (← ⟦rows::Table::MAX_MEMBERS⟧ .entry) (now (t .entry)) (now (s .entry)) i ⌝ }
+{
+    rows::row_formed(t, rows::row_at(s, i))
+}
+
+// ---- row numbers
+pub fn is_type(t: &[u8], s: &[usize], i: usize) -> bool
+    ensures { λ r. ⌜ r ≡ clause.isType (now (t .entry)) (now (s .entry)) i ⌝ }
+{
+    if s.len() <= i {
+        return false;
+    }
+    octets::octet(t, rows::row_at(s, i)) != 16
+}
+
+fn later_type(t: &[u8], s: &[usize], i: usize, j: usize) -> bool
+    ensures { λ r. ⌜ r ≡ clause.laterType (now (t .entry)) (now (s .entry)) i j ⌝ }
+{
+    if j <= i {
+        return false;
+    }
+    is_type(t, s, j)
+}
+
+fn points_later(t: &[u8], s: &[usize], i: usize) -> bool
+    ensures { λ r. ⌜ r ≡ clause.pointsLater (now (t .entry)) (now (s .entry)) i ⌝ }
+{
+    let p = rows::row_at(s, i);
+    let kind = octets::octet(t, p);
+    if rows::is_list(kind) {
+        return later_type(t, s, i, rows::number_after(t, p, 1));
+    }
+    if kind == 16 {
+        return later_type(t, s, i, rows::number_after(t, p, 25));
+    }
+    true
+}
+
+// ---- members
+// Whether member rows stand directly after their SEQUENCE or CHOICE and nowhere else.
+pub fn members_stand(t: &[u8], s: &[usize]) -> bool
+    ensures { λ r. ⌜ r ≡ clause.membersStand (now (t .entry)) (now (s .entry)) ⌝ }
+{
+    let mut i = 0;
+    let mut due = 0;
+    while i < s.len() {
+        let p = s[i];
+        if octets::octet(t, p) == 16 {
+            if due == 0 {
+                return false;
+            }
+            due -= 1;
+            i += 1;
+        } else {
+            if due != 0 {
+                return false;
+            }
+            due = rows::members_at(t, p);
+            i += 1;
+        }
+    }
+    due == 0
+}
+
+// The place of member j of row i.
+pub fn member_place(s: &[usize], i: usize, j: usize) -> usize
+    ensures { λ r. ⌜ r ≡ clause.memberPlace (now (s .entry)) i j ⌝ }
+{
+    if s.len() <= i {
+        return 0;
+    }
+    if s.len() - i <= j {
+        return 0;
+    }
+    rows::row_at(s, i + 1 + j)
+}
+
+fn same_name(t: &[u8], p: usize, q: usize) -> bool
+    ensures { λ r. ⌜ r ≡ clause.sameName (now (t .entry)) p q ⌝ }
+{
+    octets::same(rows::fields(t, p, 1, 24), rows::fields(t, q, 1, 24))
+}
+
+fn differs_from(t: &[u8], s: &[usize], i: usize, b: usize, a: usize) -> bool
+    ensures { λ r. ⌜ r ≡ clause.differsFrom (now (t .entry)) (now (s .entry)) i b a ⌝ }
+{
+    if same_name(t, member_place(s, i, a), member_place(s, i, b)) {
+        return false;
+    }
+    true
+}
+
+fn new_name(t: &[u8], s: &[usize], i: usize, b: usize) -> bool
+    ensures { λ r. ⌜ r ≡ clause.newName (now (t .entry)) (now (s .entry)) i b ⌝ }
+{
+    let mut a = 0;
+    while a < b {
+        if !differs_from(t, s, i, b, a) {
+            return false;
+        }
+        a += 1;
+    }
+    true
+}
+
+fn names_differ(t: &[u8], s: &[usize], i: usize) -> bool
+    ensures { λ r. ⌜ r ≡ clause.namesDiffer (now (t .entry)) (now (s .entry)) i ⌝ }
+{
+    let n = rows::members_at(t, rows::row_at(s, i));
+    let mut b = 0;
+    while b < n {
+        if !new_name(t, s, i, b) {
+            return false;
+        }
+        b += 1;
+    }
+    true
+}
+
+pub fn is_mandatory(t: &[u8], s: &[usize], i: usize, j: usize) -> bool
+    ensures { λ r. ⌜ r ≡ clause.mandatoryAt (now (t .entry)) (now (s .entry)) i j ⌝ }
+{
+    rows::field(t, member_place(s, i, j), 29) == 0
+}
+
+fn all_mandatory(t: &[u8], s: &[usize], i: usize, n: usize) -> bool
+    ensures { λ r. ⌜ r ≡ all (clause.mandatoryAt (now (t .entry)) (now (s .entry)) i) n ⌝ }
+{
+    let mut j = 0;
+    while j < n {
+        if !is_mandatory(t, s, i, j) {
+            return false;
+        }
+        j += 1;
+    }
+    true
+}
+
+fn alternatives_mandatory(t: &[u8], s: &[usize], i: usize) -> bool
+    ensures { λ r. ⌜ r ≡ clause.alternativesMandatory (now (t .entry)) (now (s .entry)) i ⌝ }
+{
+    let p = rows::row_at(s, i);
+    if octets::octet(t, p) != 13 {
+        return true;
+    }
+    all_mandatory(t, s, i, rows::members_at(t, p))
+}
+
+// The kind of a member row's type.
+fn type_kind(t: &[u8], s: &[usize], i: usize) -> u8
+    ensures { λ r. ⌜ r ≡ clause.typeKind (now (t .entry)) (now (s .entry)) i ⌝ }
+{
+    let type_row = rows::number_after(t, rows::row_at(s, i), 25);
+    octets::octet(t, rows::row_at(s, type_row))
+}
+
+fn no_implicit_choice(t: &[u8], s: &[usize], i: usize) -> bool
+    ensures { λ r. ⌜ r ≡ clause.noImplicitChoice (now (t .entry)) (now (s .entry)) i ⌝ }
+{
+    let p = rows::row_at(s, i);
+    if octets::octet(t, p) != 16 {
+        return true;
+    }
+    if rows::field(t, p, 27) != 2 {
+        return true;
+    }
+    type_kind(t, s, i) != 13
+}
+
+fn default_allowed(k: u8, c: &[u8]) -> bool
+    ensures { λ r. ⌜ r ≡ clause.defaultAllowed k (now (c .entry)) ⌝ }
+{
+    if !octets::within(1, 3, k) {
+        return false;
+    }
+    der::legal_contents(k, c)
+}
+
+fn default_legal(t: &[u8], s: &[usize], i: usize) -> bool
+    ensures { λ r. ⌜ r ≡ clause.defaultLegal (now (t .entry)) (now (s .entry)) i ⌝ }
+{
+    let p = rows::row_at(s, i);
+    if octets::octet(t, p) != 16 {
+        return true;
+    }
+    let n = rows::field(t, p, 30);
+    if rows::field(t, p, 29) != 2 {
+        return n == 0;
+    }
+    default_allowed(type_kind(t, s, i), rows::fields(t, p, 31, octets::wide(n)))
+}
+
+// ---- every row
+// Whether the bodies of all rows are formed.
+pub fn bodies_formed(t: &[u8], s: &[usize]) -> bool
+    ensures { λ r. do ⌜ r ≡ clause.everyRow (clause.bodyFormed (← ⟦rows::Table::MAX_MEMBERS⟧ .entry) (now (t .entry)) (now (s .entry))) (now (s .entry)) ⌝ }
+{
+    let mut i = 0;
+    while i < s.len() {
+        if !body_formed(t, s, i) {
+            return false;
+        }
+        i += 1;
+    }
+    true
+}
+
+// Whether row numbers point to later rows of types.
+pub fn all_point_later(t: &[u8], s: &[usize]) -> bool
+    ensures { λ r. ⌜ r ≡ clause.everyRow (clause.pointsLater (now (t .entry)) (now (s .entry))) (now (s .entry)) ⌝ }
+{
+    let mut i = 0;
+    while i < s.len() {
+        if !points_later(t, s, i) {
+            return false;
+        }
+        i += 1;
+    }
+    true
+}
+
+// Whether names in one type differ.
+pub fn all_names_differ(t: &[u8], s: &[usize]) -> bool
+    ensures { λ r. ⌜ r ≡ clause.everyRow (clause.namesDiffer (now (t .entry)) (now (s .entry))) (now (s .entry)) ⌝ }
+{
+    let mut i = 0;
+    while i < s.len() {
+        if !names_differ(t, s, i) {
+            return false;
+        }
+        i += 1;
+    }
+    true
+}
+
+// Whether alternatives are mandatory.
+pub fn all_alternatives_mandatory(t: &[u8], s: &[usize]) -> bool
+    ensures { λ r. ⌜ r ≡ clause.everyRow (clause.alternativesMandatory (now (t .entry)) (now (s .entry))) (now (s .entry)) ⌝ }
+{
+    let mut i = 0;
+    while i < s.len() {
+        if !alternatives_mandatory(t, s, i) {
+            return false;
+        }
+        i += 1;
+    }
+    true
+}
+
+// Whether no CHOICE has an implicit tag.
+pub fn no_implicit_choices(t: &[u8], s: &[usize]) -> bool
+    ensures { λ r. ⌜ r ≡ clause.everyRow (clause.noImplicitChoice (now (t .entry)) (now (s .entry))) (now (s .entry)) ⌝ }
+{
+    let mut i = 0;
+    while i < s.len() {
+        if !no_implicit_choice(t, s, i) {
+            return false;
+        }
+        i += 1;
+    }
+    true
+}
+
+// Whether defaults are legal.
+pub fn defaults_legal(t: &[u8], s: &[usize]) -> bool
+    ensures { λ r. ⌜ r ≡ clause.everyRow (clause.defaultLegal (now (t .entry)) (now (s .entry))) (now (s .entry)) ⌝ }
+{
+    let mut i = 0;
+    while i < s.len() {
+        if !default_legal(t, s, i) {
+            return false;
+        }
+        i += 1;
+    }
+    true
+}
