@@ -1,2 +1,4 @@
 pub mod Tests
 pub mod Steps
+pub mod LaterSteps
+pub mod ChainSteps

@@ -1,5 +1,8 @@
 -- What the pass over the rows computes, from the last row to the first, by the array d that it fills: the longest chain from each row on.
-use Prim.Native.Nat.{ℕ, zero, suc}
+use Prim.Native.Nat.{ℕ, zero, suc, _<_}
+use mathlib.Core.Path.{_≡_}
+use mathlib.Core.Bool.{true}
+use lib.ListN.{length}
 use mathlib.Core.List.{List}
 use lib.Dec.{ltb}
 use Rattle.octets.specs.Pick.{pick}
@@ -23,3 +26,8 @@ tallest f (suc n) = larger (f n) (tallest f n)
 -- the longest chain of the rows that row i names
 unfoldable pub deepest : List ℕ → List ℕ → List ℕ → ℕ → ℕ
 deepest d t s i = pick (isList (kindAt t (rowAt s i))) (rowAt d (elementAt t (rowAt s i))) (tallest (memberDepth d t s i) (membersAt t (rowAt s i)))
+
+-- rows name later rows
+pub record Later (t s : List ℕ) : Type 0 where
+  pub of-list : (i : ℕ) → i < length s → isList (kindAt t (rowAt s i)) ≡ true → (i < elementAt t (rowAt s i)) × (elementAt t (rowAt s i) < length s)
+  pub of-member : (i : ℕ) → i < length s → (j : ℕ) → j < membersAt t (rowAt s i) → (i < memberType t s i j) × (memberType t s i j < length s)

@@ -286,3 +286,68 @@ pub fn defaults_legal(t: &[u8], s: &[usize]) -> bool
     }
     true
 }
+
+// ---- chains: the longest chain from each row on, in an array that is filled from the last row to the first
+fn larger(a: usize, b: usize) -> usize
+    ensures { λ r. ⌜ r ≡ work.larger a b ⌝ }
+{
+    if a < b {
+        return b;
+    }
+    a
+}
+
+// The row of member j's type.
+pub fn member_type(t: &[u8], s: &[usize], i: usize, j: usize) -> usize
+    ensures { λ r. ⌜ r ≡ work.memberType (now (t .entry)) (now (s .entry)) i j ⌝ }
+{
+    rows::number_after(t, member_place(s, i, j), 25)
+}
+
+fn member_depth(d: &[usize], t: &[u8], s: &[usize], i: usize, j: usize) -> usize
+    ensures { λ r. ⌜ r ≡ work.memberDepth (now (d .entry)) (now (t .entry)) (now (s .entry)) i j ⌝ }
+{
+    rows::row_at(d, member_type(t, s, i, j))
+}
+
+fn tallest(d: &[usize], t: &[u8], s: &[usize], i: usize, n: usize) -> usize
+    ensures { λ r. ⌜ r ≡ work.tallest (work.memberDepth (now (d .entry)) (now (t .entry)) (now (s .entry)) i) n ⌝ }
+{
+    let mut most = 0;
+    let mut j = 0;
+    while j < n {
+        most = larger(member_depth(d, t, s, i, j), most);
+        j += 1;
+    }
+    most
+}
+
+fn deepest(d: &[usize], t: &[u8], s: &[usize], i: usize) -> usize
+    ensures { λ r. ⌜ r ≡ work.deepest (now (d .entry)) (now (t .entry)) (now (s .entry)) i ⌝ }
+{
+    let p = rows::row_at(s, i);
+    if rows::is_list(octets::octet(t, p)) {
+        return rows::row_at(d, rows::number_after(t, p, 1));
+    }
+    tallest(d, t, s, i, rows::members_at(t, p))
+}
+
+// Whether chains of rows, each naming the next, are within the limit.
+pub fn chains_short(t: &[u8], s: &[usize]) -> bool
+    requires few { do ⌜ length (now s) ≤ (← ⟦rows::Table::MAX_ROWS⟧) ⌝ }
+    requires later { ⌜ clause.everyRow (clause.pointsLater (now t) (now s)) (now s) ≡ true ⌝ }
+    requires stand { ⌜ clause.membersStand (now t) (now s) ≡ true ⌝ }
+    ensures { λ r. do ⌜ r ≡ clause.everyRow (clause.chainFits (← ⟦rows::Table::MAX_CHAIN⟧ .entry) (now (t .entry)) (now (s .entry))) (now (s .entry)) ⌝ }
+{
+    let mut d = [0usize; rows::Table::MAX_ROWS];
+    let mut i = s.len();
+    while 0 < i {
+        i -= 1;
+        let below = deepest(&d, t, s, i);
+        if rows::Table::MAX_CHAIN <= below {
+            return false;
+        }
+        d[i] = below + 1;
+    }
+    true
+}
