@@ -1,1 +1,149 @@
-// The type table: rows, admission, and the type that a row describes. The definitions are in specs/.
+// The type table: the tags that each row can begin with, and admission.
+ghost use mathlib.Core.Path.{_≡_};
+ghost use mathlib.Core.Bool.{true};
+ghost use Prim.Native.Nat.{_≤_, _<_, _+_, _-_, _^_};
+ghost use lib.ListN.{length, take};
+ghost use Rattle.der.specs.Tag.{universal};
+ghost use Rattle.rows.specs.Row as row;
+ghost use Rattle.groups.specs.Clauses as clause;
+ghost use Rattle.table.specs.Admitted as admitted;
+ghost use Rattle.table.specs.Work as work;
+
+// ---- sets of tags: bit n for universal n, bit 32 + n for context n
+fn bit(n: u8) -> u64
+    requires { ⌜ n < 64 ⌝ }
+    ensures { λ r. ⌜ r ≡ 2 ^ n ⌝ }
+{
+    1u64 << n
+}
+
+fn context_bit(n: u8) -> u64
+    ensures { λ r. ⌜ r ≡ work.contextBit n ⌝ }
+{
+    if n < 32 {
+        return bit(32 + n);
+    }
+    0
+}
+
+fn kept(m: &[u64], i: usize) -> u64
+    ensures { λ r. ⌜ r ≡ row.rowAt (now (m .entry)) i ⌝ }
+{
+    if m.len() <= i {
+        return 0;
+    }
+    m[i]
+}
+
+fn member_mask(m: &[u64], t: &[u8], p: usize) -> u64
+    ensures { λ r. ⌜ r ≡ work.memberMask (now (m .entry)) (now (t .entry)) p ⌝ }
+{
+    if rows::field(t, p, 27) == 0 {
+        return kept(m, rows::number_after(t, p, 25));
+    }
+    context_bit(rows::field(t, p, 28))
+}
+
+fn group_mask(m: &[u64], t: &[u8], s: &[usize], i: usize, n: usize) -> u64
+    ensures { λ r. ⌜ r ≡ work.groupFrom (now (m .entry)) (now (t .entry)) (now (s .entry)) i n 0 ⌝ }
+{
+    let mut set = 0;
+    let mut a = n;
+    while 0 < a {
+        a -= 1;
+        set = member_mask(m, t, groups::member_place(s, i, a)) | set;
+    }
+    set
+}
+
+fn row_mask(m: &[u64], t: &[u8], s: &[usize], i: usize) -> u64
+    ensures { λ r. ⌜ r ≡ work.rowMask (now (m .entry)) (now (t .entry)) (now (s .entry)) i ⌝ }
+{
+    let p = rows::row_at(s, i);
+    let kind = octets::octet(t, p);
+    if kind == 13 {
+        return group_mask(m, t, s, i, rows::members_at(t, p));
+    }
+    bit(der::universal(kind))
+}
+
+// ---- tags differ
+fn apart(m: &[u64], t: &[u8], s: &[usize], i: usize, a: usize, b: usize) -> bool
+    ensures { λ r. ⌜ r ≡ work.apartMask (now (m .entry)) (now (t .entry)) (now (s .entry)) i a b ⌝ }
+{
+    let x = member_mask(m, t, groups::member_place(s, i, a));
+    let y = member_mask(m, t, groups::member_place(s, i, b));
+    x & y == 0
+}
+
+// Whether a member ends a run: a mandatory member of a SEQUENCE.
+fn ends_run(t: &[u8], s: &[usize], i: usize, b: usize) -> bool
+    ensures { λ r. ⌜ r ≡ work.endsRun (now (t .entry)) (now (s .entry)) i b ⌝ }
+{
+    if octets::octet(t, rows::row_at(s, i)) == 12 {
+        return groups::is_mandatory(t, s, i, b);
+    }
+    false
+}
+
+fn run_clear(m: &[u64], t: &[u8], s: &[usize], i: usize, a: usize, n: usize) -> bool
+    requires { ⌜ a < n ⌝ }
+    ensures { λ r. ⌜ r ≡ work.runFrom (now (m .entry)) (now (t .entry)) (now (s .entry)) i a (n - (a + 1)) (a + 1) ⌝ }
+{
+    let mut b = a + 1;
+    while b < n {
+        if !apart(m, t, s, i, a, b) {
+            return false;
+        }
+        if ends_run(t, s, i, b) {
+            return true;
+        }
+        b += 1;
+    }
+    true
+}
+
+fn new_mask(m: &[u64], t: &[u8], s: &[usize], i: usize, a: usize, n: usize) -> bool
+    requires { ⌜ a < n ⌝ }
+    ensures { λ r. ⌜ r ≡ work.newMask (now (m .entry)) (now (t .entry)) (now (s .entry)) i a (n - (a + 1)) ⌝ }
+{
+    if ends_run(t, s, i, a) {
+        return true;
+    }
+    run_clear(m, t, s, i, a, n)
+}
+
+fn masks_differ(m: &[u64], t: &[u8], s: &[usize], i: usize) -> bool
+    ensures { λ r. ⌜ r ≡ work.masksDiffer (now (m .entry)) (now (t .entry)) (now (s .entry)) i ⌝ }
+{
+    let n = rows::members_at(t, rows::row_at(s, i));
+    let mut a = 0;
+    while a < n {
+        if !new_mask(m, t, s, i, a, n) {
+            return false;
+        }
+        a += 1;
+    }
+    true
+}
+
+// Whether tags differ in every row; the sets of tags of all rows are left in m.
+fn tags_differ(t: &[u8], s: &[usize], m: &mut [u64]) -> bool
+    requires space { do ⌜ length (now m) ≡ (← ⟦rows::Table::MAX_ROWS⟧) ⌝ }
+    requires few { do ⌜ length (now s) ≤ (← ⟦rows::Table::MAX_ROWS⟧) ⌝ }
+    requires later { ⌜ clause.everyRow (clause.pointsLater (now t) (now s)) (now s) ≡ true ⌝ }
+    requires stand { ⌜ clause.membersStand (now t) (now s) ≡ true ⌝ }
+    requires chains { do ⌜ clause.everyRow (clause.chainFits (← ⟦rows::Table::MAX_CHAIN⟧) (now t) (now s)) (now s) ≡ true ⌝ }
+    ensures told { λ r. do ⌜ r ≡ clause.everyRow (admitted.tagsDiffer (← ⟦rows::Table::MAX_CHAIN⟧ .entry) (now (t .entry)) (now (s .entry))) (now (s .entry)) ⌝ }
+    ensures sets { λ r. do ⌜ (r ≡ true → work.Masked (← ⟦rows::Table::MAX_CHAIN⟧ .entry) (now (t .entry)) (now (s .entry)) (now (m .exit))) ⌝ }
+{
+    let mut i = s.len();
+    while 0 < i {
+        i -= 1;
+        if !masks_differ(m, t, s, i) {
+            return false;
+        }
+        m[i] = row_mask(m, t, s, i);
+    }
+    true
+}

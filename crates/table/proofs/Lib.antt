@@ -1,0 +1,4 @@
+pub mod Tests
+pub mod BitSets
+pub mod TagLaws
+pub mod TagSteps

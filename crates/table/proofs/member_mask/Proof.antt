@@ -1,0 +1,16 @@
+use Rattle.table.proofs.TagSteps.{mask-tagged, mask-untagged}
+use borrow.Author.Needs.{needs}
+use Rattle.table.proofs.member_mask.Statement.{statement}
+use Rattle.table.proofs.member_mask.Tie as tie
+
+pub member-mask-spec : {M : Type 1} → statement M
+member-mask-spec =
+    tie.close
+    (tie.spec
+    (λ c κs. search needs)  -- field-requires
+    (λ c κs. search needs)  -- number-after-requires
+    (λ c κs. search needs)  -- kept-requires
+    (λ c. search mask-untagged)  -- returns
+    (λ c κs. search needs)  -- field-requires-2
+    (λ c κs. search needs)  -- context-bit-requires
+    (λ c. search mask-tagged))  -- returns-2

@@ -1,0 +1,69 @@
+-- What the pass over the rows computes, from the last row to the first, by the array m that it fills: for each row the set of tags that its type can
+-- begin with, as the bits of a number.
+use Prim.Native.Nat.{ℕ, zero, suc, _+_, _/_, _%_, _^_, _<_}
+use mathlib.Core.Path.{_≡_}
+use lib.ListN.{length}
+use mathlib.Core.Bool.{Bool, true, false}
+use mathlib.Core.List.{List}
+use lib.Dec.{ltb, eqb}
+use lib.Bits.{bitAnd, bitOr}
+use Rattle.octets.specs.Pick.{pick, both, either}
+use Rattle.der.specs.Kind as kind
+use Rattle.der.specs.Tag.{universal}
+use Rattle.rows.specs.Row.{kindAt, modeAt, numberAt, typeRowAt, rowAt, membersAt}
+use Rattle.groups.specs.Clauses.{memberPlace, mandatoryAt}
+use Rattle.table.specs.Types.{typeFrom}
+use Rattle.table.specs.Begins.{begins}
+
+-- bit g of n is set
+unfoldable pub bitOf : ℕ → ℕ → Bool
+bitOf n zero = eqb (n % 2) 1
+bitOf n (suc g) = bitOf (n / 2) g
+
+unfoldable pub contextBit : ℕ → ℕ
+contextBit n = pick (ltb n 32) (2 ^ (32 + n)) 0
+
+-- the tags of the member row at p
+unfoldable pub memberMask : List ℕ → List ℕ → ℕ → ℕ
+memberMask m t p = pick (eqb (modeAt t p) 0) (rowAt m (typeRowAt t p)) (contextBit (numberAt t p))
+
+-- the tags of k members of row i from a on
+unfoldable pub groupFrom : List ℕ → List ℕ → List ℕ → ℕ → ℕ → ℕ → ℕ
+groupFrom m t s i zero a = 0
+groupFrom m t s i (suc k) a = bitOr (memberMask m t (memberPlace s i a)) (groupFrom m t s i k (a + 1))
+
+unfoldable pub rowMask : List ℕ → List ℕ → List ℕ → ℕ → ℕ
+rowMask m t s i = pick (eqb (kindAt t (rowAt s i)) kind.choice) (groupFrom m t s i (membersAt t (rowAt s i)) 0) (2 ^ universal (kindAt t (rowAt s i)))
+
+-- members a and b of row i have no tag in common
+unfoldable pub apartMask : List ℕ → List ℕ → List ℕ → ℕ → ℕ → ℕ → Bool
+apartMask m t s i a b = eqb (bitAnd (memberMask m t (memberPlace s i a)) (memberMask m t (memberPlace s i b))) 0
+
+-- member b of row i ends a run: a mandatory member of a SEQUENCE
+unfoldable pub endsRun : List ℕ → List ℕ → ℕ → ℕ → Bool
+endsRun t s i b = both (eqb (kindAt t (rowAt s i)) kind.sequence) (mandatoryAt t s i b)
+
+-- member a has no tag in common with those of its run from b on, k of them at most
+unfoldable pub runFrom : List ℕ → List ℕ → List ℕ → ℕ → ℕ → ℕ → ℕ → Bool
+runFrom m t s i a zero b = true
+runFrom m t s i a (suc k) b =
+    let r = runFrom m t s i a k (b + 1) in
+    both (apartMask m t s i a b) (either (endsRun t s i b) r)
+
+-- member a, with k members after it, begins no run or differs in it
+unfoldable pub newMask : List ℕ → List ℕ → List ℕ → ℕ → ℕ → ℕ → Bool
+newMask m t s i a k = either (endsRun t s i a) (runFrom m t s i a k (a + 1))
+
+-- the same of k members from a on
+unfoldable pub differFrom : List ℕ → List ℕ → List ℕ → ℕ → ℕ → ℕ → Bool
+differFrom m t s i zero a = true
+differFrom m t s i (suc k) a =
+    let r = differFrom m t s i k (a + 1) in
+    both (newMask m t s i a k) r
+
+unfoldable pub masksDiffer : List ℕ → List ℕ → List ℕ → ℕ → Bool
+masksDiffer m t s i = differFrom m t s i (membersAt t (rowAt s i)) 0
+
+-- the array m has the set of tags of each row
+pub record Masked (chain : ℕ) (t s m : List ℕ) : Type 0 where
+  pub says : (j : ℕ) → j < length s → (g : ℕ) → g < 64 → bitOf (rowAt m j) g ≡ begins (typeFrom chain t s j) g
