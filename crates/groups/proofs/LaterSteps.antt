@@ -1,15 +1,15 @@
 -- Rows that pass the clauses on row numbers and on where members stand name later rows.
 use mathlib.Core.Path.{_≡_, refl, sym, ap, _∙_}
-use mathlib.Core.Bool.{Bool, true, false, false≢true}
+use mathlib.Core.Bool.{Bool, true, false}
 use mathlib.Core.Logic.{_⊎_, ⊎-elim, inl, inr}
 use mathlib.Core.List.{List, [], _∷_}
-use Prim.Native.Nat.{ℕ, zero, suc, _≤_, _<_, _+_, _-_}
+use Prim.Native.Nat.{ℕ, zero, suc, _<_, _+_, _-_}
 use native.Mathlib.Omega.{arith}
-use borrow.Author.Tests.{ltb-true, eqb-true, ne-eqb}
+use borrow.Author.Tests.{ltb-true, eqb-true}
 use lib.ListN.{length, getD, drop, length-drop}
 use lib.Seq.{drop-cons, getD-drop}
 use lib.Dec.{ltb, eqb}
-use Rattle.octets.specs.Pick.{pick, both, all}
+use Rattle.octets.specs.Pick.{pick}
 use Rattle.octets.proofs.Laws.{both-true, all-at}
 use Rattle.rows.specs.Row.{kindAt, rowAt, isGroup, isList, elementAt, typeRowAt, membersAt}
 use Rattle.groups.specs.Clauses.{everyRow, isType, laterType, pointsLater, standing, membersStand, memberPlace}

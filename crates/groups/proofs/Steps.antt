@@ -1,18 +1,18 @@
 -- One lemma for each return and each turn of a loop; its premises are the facts as the code has them.
 use mathlib.Core.Path.{_≡_, refl, sym, ap, ap₂, _∙_}
 use mathlib.Core.Bool.{Bool, true, false, not}
-use mathlib.Core.List.{List, [], _∷_}
-use Prim.Native.Nat.{ℕ, zero, suc, _≤_, _<_, _+_, _-_}
+use mathlib.Core.List.{List, _∷_}
+use Prim.Native.Nat.{ℕ, _≤_, _<_, _+_, _-_}
 use native.Mathlib.Omega.{arith}
 use borrow.Author.Tests.{not-true, not-false, eq-eqb, ne-eqb, lt-ltb, le-ltb}
-use lib.Dec.{ltb, leb, eqb}
+use lib.Dec.{eqb}
 use lib.ListN.{length, drop}
-use Rattle.octets.specs.Pick.{pick, no, all}
+use Rattle.octets.specs.Pick.{no, all}
 use Rattle.octets.specs.Octets.{octet, two, part, same}
 use Rattle.octets.specs.Text.{within}
 use Rattle.octets.proofs.Laws.{octet-past, rest-cons, rest-none, all-bad, all-done}
 use Rattle.der.specs.Contents.{legal}
-use Rattle.rows.specs.Row.{kindAt, rowAt, membersAt, isList}
+use Rattle.rows.specs.Row.{rowAt, membersAt, isList}
 use Rattle.rows.specs.Body.{rowFormed}
 use Rattle.groups.specs.Clauses.{bodyFormed, isType, laterType, pointsLater, standing, membersStand, memberPlace, sameName, differsFrom, newName, namesDiffer, mandatoryAt, alternativesMandatory, typeKind, noImplicitChoice, defaultAllowed, defaultLegal}
 

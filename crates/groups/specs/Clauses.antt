@@ -9,8 +9,7 @@ use Rattle.octets.specs.Octets.{same}
 use Rattle.octets.specs.Text.{within}
 use Rattle.der.specs.Kind as kind
 use Rattle.der.specs.Contents.{legal}
-use Rattle.rows.specs.Limits.{Limits}
-use Rattle.rows.specs.Row.{nameAt, kindAt, elementAt, typeRowAt, modeAt, presenceAt, defaultLengthAt, defaultAt, isList, rows, rowAt, membersAt}
+use Rattle.rows.specs.Row.{nameAt, kindAt, elementAt, typeRowAt, modeAt, presenceAt, defaultLengthAt, defaultAt, isList, rowAt, membersAt}
 use Rattle.rows.specs.Body.{rowFormed}
 
 -- a test of every row, by its number
@@ -18,8 +17,8 @@ abbrev pub everyRow : (ℕ → Bool) → List ℕ → Bool
 everyRow f s = all f (length s)
 
 -- "1 to 128 whole rows"
-unfoldable pub wholeRows : Limits → List ℕ → Bool
-wholeRows l s = within 1 (l .rows) (length s)
+unfoldable pub wholeRows : ℕ → List ℕ → Bool
+wholeRows most s = within 1 most (length s)
 
 -- the bodies are as the type table has them
 unfoldable pub bodyFormed : ℕ → List ℕ → List ℕ → ℕ → Bool

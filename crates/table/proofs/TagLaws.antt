@@ -11,18 +11,18 @@ use lib.ListN.{length, set, length-set}
 use lib.Seq.{getD-set-same, getD-set-other}
 use lib.Dec.{ltb, eqb}
 use lib.Pow.{pow-lt}
-use lib.Bits.{bitAnd, bitOr, or-lt}
-use Rattle.octets.specs.Pick.{pick, both, either, no, all}
+use lib.Bits.{or-lt}
+use Rattle.octets.specs.Pick.{pick, both, either, no}
 use Rattle.octets.specs.Octets.{octet}
 use Rattle.octets.proofs.Laws.{all-at, all-is, all-not, all-cong}
 use Rattle.der.specs.Kind as kind
 use Rattle.der.specs.Tag.{context, universal, universalText}
-use Rattle.rows.specs.Row.{kindAt, modeAt, numberAt, presenceAt, defaultAt, elementAt, typeRowAt, rowAt, membersAt, isGroup, isList}
+use Rattle.rows.specs.Row.{kindAt, modeAt, numberAt, presenceAt, defaultAt, elementAt, rowAt, membersAt, isGroup, isList}
 use Rattle.groups.specs.Clauses.{everyRow, pointsLater, membersStand, memberPlace, mandatoryAt, ofMember, chainFits}
 use Rattle.groups.proofs.LaterSteps.{is-later}
 use Rattle.table.specs.Admitted.{tagsDiffer}
 use Rattle.groups.specs.Work.{memberType, Later}
-use Rattle.table.specs.Types.{Tagging, untagged, explicit, implicit, Presence, mandatory, optional, default, Member, Ty, basic, sequence, choice, listOf, Members, noMore, more, taggingOf, presenceOf, memberOf, membersFrom, typed, typeFrom}
+use Rattle.table.specs.Types.{untagged, explicit, implicit, mandatory, optional, default, Member, Ty, basic, sequence, choice, listOf, Members, taggingOf, presenceOf, memberOf, membersFrom, typed, typeFrom}
 use Rattle.table.specs.Begins.{asTagged, begins, someBegins, memberBegins, isMandatory, apartAt, apart, apartFromAll, alternativesDiffer, apartInRun, runsDiffer, tagsApart}
 use Rattle.table.specs.Work.{bitOf, contextBit, memberMask, groupFrom, rowMask, apartMask, endsRun, runFrom, newMask, differFrom, masksDiffer, Masked}
 use Rattle.table.proofs.BitSets.{bit-none, bit-or, bit-one, sets-apart}

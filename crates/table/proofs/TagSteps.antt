@@ -2,7 +2,7 @@
 use mathlib.Core.Path.{_≡_, refl, sym, ap, ap₂, _∙_}
 use mathlib.Core.Bool.{Bool, true, false, not}
 use mathlib.Core.List.{List}
-use Prim.Native.Nat.{ℕ, zero, suc, _≤_, _<_, _+_, _-_, _*_, _^_, _%_}
+use Prim.Native.Nat.{ℕ, suc, _≤_, _<_, _+_, _-_, _*_, _^_, _%_}
 use native.Mathlib.Omega.{arith}
 use native.Mathlib.Nat.{one-mul}
 use borrow.Author.Tests.{not-true, not-false, eq-eqb, ne-eqb, lt-ltb, le-ltb}
@@ -10,11 +10,11 @@ use lib.ListN.{length}
 use lib.Dec.{eqb}
 use lib.Bits.{bitAnd, bitOr}
 use lib.Pow.{shl-exact}
-use Rattle.octets.specs.Pick.{pick, both, either}
+use Rattle.octets.specs.Pick.{both, either}
 use Rattle.octets.specs.Octets.{octet, two}
 use Rattle.octets.proofs.Laws.{octet-past}
 use Rattle.der.specs.Tag.{universal}
-use Rattle.rows.specs.Row.{kindAt, rowAt, membersAt}
+use Rattle.rows.specs.Row.{rowAt, membersAt}
 use Rattle.groups.specs.Clauses.{memberPlace, mandatoryAt}
 use Rattle.table.specs.Work.{contextBit, memberMask, groupFrom, rowMask, apartMask, endsRun, runFrom, newMask, differFrom, masksDiffer}
 

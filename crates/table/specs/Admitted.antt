@@ -2,7 +2,8 @@
 use Prim.Native.Nat.{ℕ}
 use mathlib.Core.Bool.{Bool}
 use mathlib.Core.List.{List}
-use Rattle.octets.specs.Pick.{both}
+use lib.ListN.{length}
+use Rattle.octets.specs.Pick.{pick, both}
 use Rattle.der.specs.Kind as kind
 use Rattle.rows.specs.Limits.{Limits}
 use Rattle.rows.specs.Row.{rows}
@@ -14,20 +15,33 @@ use Rattle.groups.specs.Clauses.{everyRow, wholeRows, bodyFormed, firstIsType, 
 unfoldable pub tagsDiffer : ℕ → List ℕ → List ℕ → ℕ → Bool
 tagsDiffer chain t s i = tagsApart (typeFrom chain t s i)
 
--- all clauses
-unfoldable pub admittedRows : Limits → List ℕ → List ℕ → Bool
-admittedRows l t s =
-    both (wholeRows l s)
-    (both (everyRow (bodyFormed (l .members) t s) s)
-    (both (firstIsType t s)
-    (both (everyRow (pointsLater t s) s)
-    (both (membersStand t s)
-    (both (everyRow (namesDiffer t s) s)
+-- ---- the clauses together
+-- rows and bodies
+unfoldable pub rowsFormed : ℕ → ℕ → List ℕ → List ℕ → Bool
+rowsFormed most members t s = both (wholeRows most s) (both (everyRow (bodyFormed members t s) s) (firstIsType t s))
+
+-- the rows that rows name, and where members stand
+unfoldable pub rowsNamed : List ℕ → List ℕ → Bool
+rowsNamed t s = both (everyRow (pointsLater t s) s) (membersStand t s)
+
+-- members of one type, and their defaults
+unfoldable pub membersAgree : List ℕ → List ℕ → Bool
+membersAgree t s =
+    both (everyRow (namesDiffer t s) s)
     (both (everyRow (alternativesMandatory t s) s)
     (both (everyRow (noImplicitChoice t s) s)
-    (both (everyRow (defaultLegal t s) s)
-    (both (everyRow (chainFits (l .chain) t s) s)
-    (everyRow (tagsDiffer (l .chain) t s) s))))))))))
+    (everyRow (defaultLegal t s) s)))
+
+-- chains and tags
+unfoldable pub typesFit : ℕ → List ℕ → List ℕ → Bool
+typesFit chain t s = both (everyRow (chainFits chain t s) s) (everyRow (tagsDiffer chain t s) s)
+
+unfoldable pub admittedRows : Limits → List ℕ → List ℕ → Bool
+admittedRows l t s = both (rowsFormed (l .rows) (l .members) t s) (both (rowsNamed t s) (both (membersAgree t s) (typesFit (l .chain) t s)))
 
 unfoldable pub admitted : Limits → List ℕ → Bool
 admitted l t = admittedRows l t (rows (l .rows) t)
+
+-- how many rows an admitted table has; 0 where it is not admitted
+unfoldable pub rowCount : Limits → List ℕ → ℕ
+rowCount l t = pick (admitted l t) (length (rows (l .rows) t)) 0

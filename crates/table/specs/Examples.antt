@@ -28,7 +28,7 @@ answer t = tableReport tableLimits t
 -- the clauses, each on its own
 clausesOf : List ℕ → List ℕ → List Bool
 clausesOf t s =
-    wholeRows tableLimits s ∷ everyRow (bodyFormed 16 t s) s ∷ firstIsType t s ∷ everyRow (pointsLater t s) s ∷ membersStand t s ∷ everyRow (namesDiffer t s) s
+    wholeRows 128 s ∷ everyRow (bodyFormed 16 t s) s ∷ firstIsType t s ∷ everyRow (pointsLater t s) s ∷ membersStand t s ∷ everyRow (namesDiffer t s) s
     ∷ everyRow (alternativesMandatory t s) s ∷ everyRow (noImplicitChoice t s) s ∷ everyRow (defaultLegal t s) s ∷ everyRow (chainFits 16 t s) s ∷ everyRow (tagsDiffer 16 t s) s ∷ []
 
 clauses : List ℕ → List Bool

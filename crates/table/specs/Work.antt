@@ -2,15 +2,15 @@
 -- begin with, as the bits of a number.
 use Prim.Native.Nat.{ℕ, zero, suc, _+_, _/_, _%_, _^_, _<_}
 use mathlib.Core.Path.{_≡_}
-use lib.ListN.{length}
-use mathlib.Core.Bool.{Bool, true, false}
+use lib.ListN.{length, take}
+use mathlib.Core.Bool.{Bool, true}
 use mathlib.Core.List.{List}
 use lib.Dec.{ltb, eqb}
 use lib.Bits.{bitAnd, bitOr}
 use Rattle.octets.specs.Pick.{pick, both, either}
 use Rattle.der.specs.Kind as kind
 use Rattle.der.specs.Tag.{universal}
-use Rattle.rows.specs.Row.{kindAt, modeAt, numberAt, typeRowAt, rowAt, membersAt}
+use Rattle.rows.specs.Row.{kindAt, modeAt, numberAt, typeRowAt, rows, rowAt, membersAt}
 use Rattle.groups.specs.Clauses.{memberPlace, mandatoryAt}
 use Rattle.table.specs.Types.{typeFrom}
 use Rattle.table.specs.Begins.{begins}
@@ -67,3 +67,8 @@ masksDiffer m t s i = differFrom m t s i (membersAt t (rowAt s i)) 0
 -- the array m has the set of tags of each row
 pub record Masked (chain : ℕ) (t s m : List ℕ) : Type 0 where
   pub says : (j : ℕ) → j < length s → (g : ℕ) → g < 64 → bitOf (rowAt m j) g ≡ begins (typeFrom chain t s j) g
+
+-- what the check of a table leaves for the layers above, where it has n rows: the places of the rows, and their sets of tags
+pub record Admits (most chain : ℕ) (t : List ℕ) (n : ℕ) (starts masks : List ℕ) : Type 0 where
+  pub places : 0 < n → take n starts ≡ rows most t
+  pub sets : 0 < n → Masked chain t (rows most t) masks

@@ -7,7 +7,15 @@ ghost use Rattle.der.specs.Tag.{universal};
 ghost use Rattle.rows.specs.Row as row;
 ghost use Rattle.groups.specs.Clauses as clause;
 ghost use Rattle.table.specs.Admitted as admitted;
+ghost use Rattle.rows.specs.Limits.{limits};
 ghost use Rattle.table.specs.Work as work;
+ghost use Rattle.table.specs.Check.{report, tableReport};
+
+// The answer of the table check: the number of rows, or a refusal.
+pub enum TableCheck {
+    Admitted(usize),
+    Refused(u8),
+}
 
 // ---- sets of tags: bit n for universal n, bit 32 + n for context n
 fn bit(n: u8) -> u64
@@ -146,4 +154,108 @@ fn tags_differ(t: &[u8], s: &[usize], m: &mut [u64]) -> bool
         m[i] = row_mask(m, t, s, i);
     }
     true
+}
+
+// ---- admission
+fn rows_formed(t: &[u8], s: &[usize]) -> bool
+    ensures { λ r. do ⌜ r ≡ admitted.rowsFormed (← ⟦rows::Table::MAX_ROWS⟧ .entry) (← ⟦rows::Table::MAX_MEMBERS⟧ .entry) (now (t .entry)) (now (s .entry)) ⌝ }
+{
+    if s.len() < 1 {
+        return false;
+    }
+    if rows::Table::MAX_ROWS < s.len() {
+        return false;
+    }
+    if !groups::bodies_formed(t, s) {
+        return false;
+    }
+    groups::is_type(t, s, 0)
+}
+
+fn rows_named(t: &[u8], s: &[usize]) -> bool
+    ensures { λ r. ⌜ r ≡ admitted.rowsNamed (now (t .entry)) (now (s .entry)) ⌝ }
+{
+    if !groups::all_point_later(t, s) {
+        return false;
+    }
+    groups::members_stand(t, s)
+}
+
+fn members_agree(t: &[u8], s: &[usize]) -> bool
+    ensures { λ r. ⌜ r ≡ admitted.membersAgree (now (t .entry)) (now (s .entry)) ⌝ }
+{
+    if !groups::all_names_differ(t, s) {
+        return false;
+    }
+    if !groups::all_alternatives_mandatory(t, s) {
+        return false;
+    }
+    if !groups::no_implicit_choices(t, s) {
+        return false;
+    }
+    groups::defaults_legal(t, s)
+}
+
+fn types_fit(t: &[u8], s: &[usize], m: &mut [u64]) -> bool
+    requires space { do ⌜ length (now m) ≡ (← ⟦rows::Table::MAX_ROWS⟧) ⌝ }
+    requires few { do ⌜ length (now s) ≤ (← ⟦rows::Table::MAX_ROWS⟧) ⌝ }
+    requires named { ⌜ admitted.rowsNamed (now t) (now s) ≡ true ⌝ }
+    ensures told { λ r. do ⌜ r ≡ admitted.typesFit (← ⟦rows::Table::MAX_CHAIN⟧ .entry) (now (t .entry)) (now (s .entry)) ⌝ }
+    ensures sets { λ r. do ⌜ (r ≡ true → work.Masked (← ⟦rows::Table::MAX_CHAIN⟧ .entry) (now (t .entry)) (now (s .entry)) (now (m .exit))) ⌝ }
+{
+    if !groups::chains_short(t, s) {
+        return false;
+    }
+    tags_differ(t, s, m)
+}
+
+fn admit_rows(t: &[u8], s: &[usize], m: &mut [u64]) -> bool
+    requires space { do ⌜ length (now m) ≡ (← ⟦rows::Table::MAX_ROWS⟧) ⌝ }
+    requires few { do ⌜ length (now s) ≤ (← ⟦rows::Table::MAX_ROWS⟧) ⌝ }
+    ensures told { λ r. do ⌜ r ≡ admitted.admittedRows (limits (← ⟦rows::Table::MAX_BYTES⟧ .entry) (← ⟦rows::Table::MAX_ROWS⟧ .entry) (← ⟦rows::Table::MAX_CHAIN⟧ .entry) (← ⟦rows::Table::MAX_MEMBERS⟧ .entry)) (now (t .entry)) (now (s .entry)) ⌝ }
+    ensures sets { λ r. do ⌜ (r ≡ true → work.Masked (← ⟦rows::Table::MAX_CHAIN⟧ .entry) (now (t .entry)) (now (s .entry)) (now (m .exit))) ⌝ }
+{
+    if !rows_formed(t, s) {
+        return false;
+    }
+    if !rows_named(t, s) {
+        return false;
+    }
+    if !members_agree(t, s) {
+        return false;
+    }
+    types_fit(t, s, m)
+}
+
+// How many rows an admitted table has, with the places of its rows and their sets of tags; 0 where it is not admitted.
+pub fn admit_table(t: &[u8], starts: &mut [usize], masks: &mut [u64]) -> usize
+    requires places { do ⌜ length (now starts) ≡ (← ⟦rows::Table::MAX_ROWS⟧) ⌝ }
+    requires sets { do ⌜ length (now masks) ≡ (← ⟦rows::Table::MAX_ROWS⟧) ⌝ }
+    ensures count { λ r. do ⌜ r ≡ admitted.rowCount (limits (← ⟦rows::Table::MAX_BYTES⟧ .entry) (← ⟦rows::Table::MAX_ROWS⟧ .entry) (← ⟦rows::Table::MAX_CHAIN⟧ .entry) (← ⟦rows::Table::MAX_MEMBERS⟧ .entry)) (now (t .entry)) ⌝ }
+    ensures leaves { λ r. do ⌜ work.Admits (← ⟦rows::Table::MAX_ROWS⟧ .entry) (← ⟦rows::Table::MAX_CHAIN⟧ .entry) (now (t .entry)) r (now (starts .exit)) (now (masks .exit)) ⌝ }
+{
+    let n = rows::scan(t, starts);
+    if !admit_rows(t, &starts[..n], masks) {
+        return 0;
+    }
+    n
+}
+
+// The table check: any octets.
+pub fn check_table(table: &[u8]) -> TableCheck
+    ensures { λ r. do ⌜ report r ≡ tableReport (limits (← ⟦rows::Table::MAX_BYTES⟧ .entry) (← ⟦rows::Table::MAX_ROWS⟧ .entry) (← ⟦rows::Table::MAX_CHAIN⟧ .entry) (← ⟦rows::Table::MAX_MEMBERS⟧ .entry)) (now (table .entry)) ⌝ }
+{
+    if table.len() < 1 {
+        return TableCheck::Refused(1);
+    }
+    if rows::Table::MAX_BYTES < table.len() {
+        return TableCheck::Refused(1);
+    }
+    let mut starts = [0usize; rows::Table::MAX_ROWS];
+    let mut masks = [0u64; rows::Table::MAX_ROWS];
+    let n = admit_table(table, &mut starts, &mut masks);
+    if n == 0 {
+        return TableCheck::Refused(2);
+    }
+    TableCheck::Admitted(n)
 }

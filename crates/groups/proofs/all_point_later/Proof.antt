@@ -3,7 +3,7 @@ use Rattle.groups.specs.Clauses.{pointsLater}
 use Rattle.octets.specs.Pick.{all}
 use native.Mathlib.Omega.{arith}
 use mathlib.Core.Bool.{true}
-use mathlib.Core.Path.{_≡_, refl}
+use mathlib.Core.Path.{_≡_}
 use Prim.Native.Nat.{_-_, _≤_}
 use lib.ListN.{length}
 use borrow.Author.Needs.{needs}

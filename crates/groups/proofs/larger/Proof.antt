@@ -1,6 +1,5 @@
 use Rattle.groups.proofs.Tests.{tests}
 use Rattle.groups.specs.Work.{larger}
-use borrow.Author.Needs.{needs}
 use Rattle.groups.proofs.larger.Statement.{statement}
 use Rattle.groups.proofs.larger.Tie as tie
 

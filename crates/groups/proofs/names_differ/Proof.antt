@@ -1,10 +1,10 @@
 use Rattle.groups.proofs.Steps.{names-bad, names-done}
-use Rattle.octets.proofs.Laws.{all-none, all-more, all-bad, all-done}
+use Rattle.octets.proofs.Laws.{all-none, all-more}
 use Rattle.groups.specs.Clauses.{newName}
 use Rattle.octets.specs.Pick.{all}
 use native.Mathlib.Omega.{arith}
 use mathlib.Core.Bool.{true}
-use mathlib.Core.Path.{_≡_, refl}
+use mathlib.Core.Path.{_≡_}
 use Prim.Native.Nat.{_-_, _≤_}
 use borrow.Author.Needs.{needs}
 use Rattle.groups.proofs.names_differ.Statement.{statement}

@@ -1,7 +1,7 @@
 use Rattle.groups.proofs.ChainSteps.{tallest-none, tallest-more, tallest-done}
 use Rattle.groups.specs.Work.{memberDepth, tallest}
 use native.Mathlib.Omega.{arith}
-use mathlib.Core.Path.{_≡_, refl}
+use mathlib.Core.Path.{_≡_}
 use Prim.Native.Nat.{_-_, _≤_}
 use borrow.Author.Needs.{needs}
 use Rattle.groups.proofs.tallest.Statement.{statement}
