@@ -90,7 +90,10 @@ pub fn member_place(s: &[usize], i: usize, j: usize) -> usize
 fn same_name(t: &[u8], p: usize, q: usize) -> bool
     ensures { λ r. ⌜ r ≡ clause.sameName (now (t .entry)) p q ⌝ }
 {
-    octets::same(rows::fields(t, p, 1, 24), rows::fields(t, q, 1, 24))
+    octets::same(
+        rows::fields(t, p, 1, rows::Table::MAX_NAME),
+        rows::fields(t, q, 1, rows::Table::MAX_NAME),
+    )
 }
 
 fn differs_from(t: &[u8], s: &[usize], i: usize, b: usize, a: usize) -> bool

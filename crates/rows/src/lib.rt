@@ -20,6 +20,9 @@ impl Table {
 
     pub const MAX_MEMBERS: u8 = 16;
 
+    // The width of a name's field.
+    pub const MAX_NAME: usize = 24;
+
     pub fn of(rows: usize) -> Self
         ensures { λ r. ⌜ r .rows ≡ rows ⌝ }
     {
@@ -191,11 +194,11 @@ fn name_formed(t: &[u8], p: usize) -> bool
     if !octets::is_lower(field(t, p, 1)) {
         return false;
     }
-    if field(t, p, 24) == 45 {
+    if field(t, p, Table::MAX_NAME) == 45 {
         return false;
     }
     let mut j = 0;
-    while j < 23 {
+    while j < Table::MAX_NAME - 1 {
         if !is_followed(t, p, j) {
             return false;
         }

@@ -25,6 +25,7 @@ use Rattle.groups.specs.Work.{memberType, Later}
 use Rattle.table.specs.Types.{untagged, explicit, implicit, mandatory, optional, default, Member, Ty, basic, sequence, choice, listOf, Members, taggingOf, presenceOf, memberOf, membersFrom, typed, typeFrom}
 use Rattle.table.specs.Begins.{asTagged, begins, someBegins, memberBegins, isMandatory, apartAt, apart, apartFromAll, alternativesDiffer, apartInRun, runsDiffer, tagsApart}
 use Rattle.table.specs.Work.{bitOf, contextBit, memberMask, groupFrom, rowMask, apartMask, endsRun, runFrom, newMask, differFrom, masksDiffer, Masked}
+use Rattle.table.proofs.TypeLaws.{member-fits}
 use Rattle.table.proofs.BitSets.{bit-none, bit-or, bit-one, sets-apart}
 
 pick-bit : (x : Bool) (g a b : ℕ) (c d : Bool) → (x ≡ true → bitOf a g ≡ c) → (x ≡ false → bitOf b g ≡ d) → bitOf (pick x a b) g ≡ pick x c d
@@ -193,24 +194,7 @@ begins-choice : (k : ℕ) (e : Ty) (ms : Members) (g : ℕ) → k ≡ 13 → beg
 unfolding begins
 begins-choice k e ms g q = rw q
 
--- a row that is no SEQUENCE or CHOICE has no members, and one with members is no list
-members-group : (t : List ℕ) (p a : ℕ) → a < membersAt t p → isGroup (kindAt t p) ≡ true
-unfolding membersAt
-members-group t p a h = go (isGroup (kindAt t p)) h
-  where
-    go : (x : Bool) → a < pick x (octet t (p + 1)) 0 → x ≡ true
-    go true l = refl
-    go false l = absurd (omega arith)
-
-group-no-list : (k : ℕ) → isGroup k ≡ true → isList k ≡ false
-unfolding isGroup isList
-group-no-list k e = go (eqb k 12) refl (eqb k 13) refl e
-  where
-    go : (x : Bool) → eqb k 12 ≡ x → (y : Bool) → eqb k 13 ≡ y → pick x true y ≡ true → pick (eqb k 14) true (eqb k 15) ≡ false
-    go true q y r e = rw (eqb-true k 12 q)
-    go false q true r e = rw (eqb-true k 13 r)
-    go false q false r e = absurd (false≢true e)
-
+-- a row that is no SEQUENCE or CHOICE has no members
 no-group : (k : ℕ) → eqb k 12 ≡ false → eqb k 13 ≡ false → isGroup k ≡ false
 unfolding isGroup
 no-group k e f = rw (e, f)
@@ -231,15 +215,11 @@ module _ (t s m : List ℕ) (i : ℕ) (later : Later t s) (masks : Masks t s m (
       pick-small (eqb (modeAt t (memberPlace s i a)) 0) _ _ (2 ^ 64) (λ _. masks (memberType t s i a) (w .0) (w .1) .0) (λ _. context-small (numberAt t (memberPlace s i a)))
 
   module _ (k : ℕ) (fits : chainFits (suc k) t s i ≡ true) where
-    member-fits : (a : ℕ) → a < membersAt t (rowAt s i) → chainFits k t s (memberType t s i a) ≡ true
-    unfolding chainFits ofMember
-    member-fits a l = all-at (ofMember (chainFits k t s) t s i) (membersAt t (rowAt s i)) a (rw (group-no-list (kindAt t (rowAt s i)) (members-group t (rowAt s i) a l)) at fits) l
-
     member-bits : (a : ℕ) → a < membersAt t (rowAt s i) → (g : ℕ) → g < 64 → bitOf (memberMask m t (memberPlace s i a)) g ≡ memberBegins (memberAt t s i a) (typeFrom k t s (memberType t s i a)) g
     unfolding memberMask
     member-bits a l g b =
         let w = later .of-member i h a l in
-        pick-bit (eqb (modeAt t (memberPlace s i a)) 0) g _ _ _ _ (λ _. masks (memberType t s i a) (w .0) (w .1) .1 k (member-fits a l) g b) (λ _. context-bits (numberAt t (memberPlace s i a)) g b)
+        pick-bit (eqb (modeAt t (memberPlace s i a)) 0) g _ _ _ _ (λ _. masks (memberType t s i a) (w .0) (w .1) .1 k (member-fits t s i k fits a l) g b) (λ _. context-bits (numberAt t (memberPlace s i a)) g b)
         ∙ sym (begins-as (typeFrom k t s) t s i a g)
 
     row-bits : (g : ℕ) → g < 64 → bitOf (rowMask m t s i) g ≡ begins (typeFrom (suc k) t s i) g

@@ -28,6 +28,7 @@ name-formed-spec =
     (λ c κs. search needs)  -- field-requires-2
     (λ c. search name-hyphen)  -- returns-2
     (λ c. (search needs, all-none (followed _ _)))  -- loop-holds
+    (λ c. search needs)  -- sub-loop
     (λ c κs. search needs)  -- is-followed-requires
     (λ c. search name-bad)  -- returns-3
     (λ c. search needs)  -- add-j

@@ -1,0 +1,73 @@
+// Answers the cases of standard input, a line for each. docs/CASES.md describes both formats.
+use libc::STDIN_FILENO;
+use libc::STDOUT_FILENO;
+use rows::Table;
+use table::TableCheck;
+ghost use Prim.Native.Nat.{_≤_};
+ghost use Rattle.io.specs.Counts.{Counts};
+
+// Reads n octets to the start of buf, or as many as fit or are left.
+fn read_part(buf: &mut [u8], n: usize) -> usize
+    ensures { λ r. ⌜ Counts r (now (buf .exit)) ⌝ }
+{
+    if n <= buf.len() {
+        io::read_full(STDIN_FILENO, &mut buf[..n])
+    } else {
+        io::read_full(STDIN_FILENO, buf)
+    }
+}
+
+fn wide(b: u8) -> usize
+    ensures { λ r. ⌜ r ≤ 255 ⌝ }
+{
+    b as usize
+}
+
+fn print_line(word: &[u8], n: u64) {
+    io::write_all(STDOUT_FILENO, word);
+    io::print_decimal(STDOUT_FILENO, n);
+    io::write_all(STDOUT_FILENO, b"\n");
+}
+
+// An input's length: two octets, most significant first; 0 at the end of the input.
+fn read_length() -> usize
+    ensures { λ r. ⌜ r ≤ 65535 ⌝ }
+{
+    let mut head = [0u8; 2];
+    let got = io::read_full(STDIN_FILENO, &mut head);
+    if got < 2 {
+        return 0;
+    }
+    wide(head[0]) * 256 + wide(head[1])
+}
+
+fn table_case() {
+    let mut table = [0u8; Table::MAX_BYTES + 1];
+    let n = read_length();
+    let t = read_part(&mut table, n);
+    match table::check_table(&table[..t]) {
+        TableCheck::Admitted(rows) => print_line(b"admitted ", rows as u64),
+        TableCheck::Refused(refusal) => print_line(b"refused ", refusal as u64),
+    }
+}
+
+// One case; false at the end of the input and at a kind of case that there is not.
+fn one() -> bool {
+    let mut kind = [0u8; 1];
+    let got = io::read_full(STDIN_FILENO, &mut kind);
+    if got < 1 {
+        return false;
+    }
+    if kind[0] != b't' {
+        return false;
+    }
+    table_case();
+    true
+}
+
+fn main() {
+    let mut turns = u64::MAX;
+    while turns > 0 && one() {
+        turns -= 1;
+    }
+}
