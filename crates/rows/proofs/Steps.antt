@@ -112,24 +112,24 @@ unfolding followed
 followed-is t p j a b r e f q = q ∙ ap₂ follows e f
 
 module _ (t : List ℕ) (p o : ℕ) (low : Bool) (read : o ≡ octet t (p + 1)) (told : low ≡ isLower o) where
-  pub name-high : not low ≡ true → false ≡ nameFormed t p
+  pub name-high : not low ≡ true → false ≡ nameFormed 24 t p
   unfolding nameFormed
   name-high h = rw (← read, sym told ∙ not-true low h)
 
   module _ (l : ℕ) (h : not low ≡ false) (last : l ≡ octet t (p + 24)) where
-    pub name-hyphen : l ≡ 45 → false ≡ nameFormed t p
+    pub name-hyphen : l ≡ 45 → false ≡ nameFormed 24 t p
     unfolding nameFormed
     name-hyphen q = rw (← read, sym told ∙ not-false low h, ← last, eq-eqb l 45 q)
 
     module _ (q : l ≡ 45 → ⊥) where
-      name-rest : nameFormed t p ≡ all (followed t p) 23
+      name-rest : nameFormed 24 t p ≡ all (followed t p) 23
       unfolding nameFormed
       name-rest = rw (← read, sym told ∙ not-false low h, ← last, ne-eqb l 45 q)
 
-      pub name-bad : (j : ℕ) (r : Bool) → r ≡ followed t p j → j < 23 → not r ≡ true → false ≡ nameFormed t p
+      pub name-bad : (j : ℕ) (r : Bool) → r ≡ followed t p j → j < 23 → not r ≡ true → false ≡ nameFormed 24 t p
       name-bad j r e b n = all-bad (followed t p) j r e 23 b n ∙ sym name-rest
 
-      pub name-done : (j : ℕ) → all (followed t p) j ≡ true → j ≤ 23 → 23 ≤ j → true ≡ nameFormed t p
+      pub name-done : (j : ℕ) → all (followed t p) j ≡ true → j ≤ 23 → 23 ≤ j → true ≡ nameFormed 24 t p
       name-done j a b n = all-done (followed t p) j 23 a b n ∙ sym name-rest
 
 module _ (c : List ℕ) (i : ℕ) (inv : every isZero (drop i c) ≡ every isZero c) (h : i < length c) where
@@ -148,7 +148,7 @@ module _ (t : List ℕ) (p o n : ℕ) (read : o ≡ octet t (p + 30)) (wide : n 
   unfolding defaultFilled
   filled-is c r h e q = rw (← read, ← wide, le-leb n 8 h) (q ∙ ap (every isZero) e)
 
-module _ (t : List ℕ) (p : ℕ) (r : Bool) (named : r ≡ nameFormed t p) where
+module _ (t : List ℕ) (p : ℕ) (r : Bool) (named : r ≡ nameFormed 24 t p) where
   pub member-name : not r ≡ true → false ≡ memberFormed t p
   unfolding memberFormed
   member-name h = rw (sym named ∙ not-true r h)

@@ -27,8 +27,9 @@ follows a b =
 unfoldable pub followed : List ℕ → ℕ → ℕ → Bool
 followed t p j = follows (nameOctetAt t p j) (nameOctetAt t p (j + 1))
 
-unfoldable pub nameFormed : List ℕ → ℕ → Bool
-nameFormed t p = both (isLower (nameOctetAt t p 0)) (both (no (eqb (nameOctetAt t p 23) 45)) (all (followed t p) 23))
+-- the name of the member row at p, in a field of n octets
+unfoldable pub nameFormed : ℕ → List ℕ → ℕ → Bool
+nameFormed n t p = both (isLower (nameOctetAt t p 0)) (both (no (eqb (nameOctetAt t p (n - 1)) 45)) (all (followed t p) (n - 1)))
 
 -- tag mode 0 none, 1 explicit, 2 implicit; context tag number 0..30, and 0 in mode 0
 unfoldable pub taggingFormed : ℕ → ℕ → Bool
@@ -50,7 +51,7 @@ defaultFilled t p = both (leb (defaultLengthAt t p) 8) (every isZero (part t (p 
 
 -- a member's body
 unfoldable pub memberFormed : List ℕ → ℕ → Bool
-memberFormed t p = both (nameFormed t p) (both (tagFormed t p) (both (presenceFormed t p) (defaultFilled t p)))
+memberFormed t p = both (nameFormed 24 t p) (both (tagFormed t p) (both (presenceFormed t p) (defaultFilled t p)))
 
 unfoldable pub rowFormed : ℕ → List ℕ → ℕ → Bool
 rowFormed most t p = pick (eqb (kindAt t p) kind.member) (memberFormed t p) (countFormed most t p)

@@ -189,7 +189,7 @@ fn is_followed(t: &[u8], p: usize, j: usize) -> bool
 }
 
 fn name_formed(t: &[u8], p: usize) -> bool
-    ensures { λ r. ⌜ r ≡ body.nameFormed (now (t .entry)) p ⌝ }
+    ensures { λ r. do ⌜ r ≡ body.nameFormed (← ⟦Table::MAX_NAME⟧ .entry) (now (t .entry)) p ⌝ }
 {
     if !octets::is_lower(field(t, p, 1)) {
         return false;
