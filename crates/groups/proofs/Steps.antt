@@ -12,7 +12,7 @@ use Rattle.octets.specs.Octets.{octet, two, part, same}
 use Rattle.octets.specs.Text.{within}
 use Rattle.octets.proofs.Laws.{octet-past, rest-cons, rest-none, all-bad, all-done}
 use Rattle.der.specs.Contents.{legal}
-use Rattle.rows.specs.Row.{rowAt, membersAt, isList}
+use Rattle.rows.specs.Row.{rowAt, membersAt, isList, defaultAt}
 use Rattle.rows.specs.Body.{rowFormed}
 use Rattle.groups.specs.Clauses.{bodyFormed, isType, laterType, pointsLater, standing, membersStand, memberPlace, sameName, differsFrom, newName, namesDiffer, mandatoryAt, alternativesMandatory, typeKind, noImplicitChoice, defaultAllowed, defaultLegal}
 
@@ -88,9 +88,9 @@ module _ (t s : List ℕ) (i p k : ℕ) (placed : p ≡ rowAt s i) (read : k ≡
       unfolding defaultLegal
       default-other h = rw (← placed, ← read, eq-eqb k 16 e, ← presence, ne-eqb m 2 h, ← size)
 
-      pub default-is : (c w : ℕ) (d : List ℕ) (r : Bool) → m ≡ 2 → c ≡ typeKind t s i → w ≡ n → d ≡ part t (p + 31) w → r ≡ defaultAllowed c d → r ≡ defaultLegal t s i
+      pub default-is : (c : ℕ) (d : List ℕ) (r : Bool) → m ≡ 2 → c ≡ typeKind t s i → d ≡ defaultAt t p → r ≡ defaultAllowed c d → r ≡ defaultLegal t s i
       unfolding defaultLegal
-      default-is c w d r h a b f q = rw (← a, ← placed, ← read, eq-eqb k 16 e, ← presence, eq-eqb m 2 h, ← size) (q ∙ ap (defaultAllowed c) (f ∙ ap (part t (p + 31)) b))
+      default-is c d r h a f q = rw (← a, ← placed, ← read, eq-eqb k 16 e, ← presence, eq-eqb m 2 h) (q ∙ ap (defaultAllowed c) f)
 
 pub kind-is : (t s : List ℕ) (i p c q k : ℕ) → p ≡ rowAt s i → c ≡ two t (p + 25) → q ≡ rowAt s c → k ≡ octet t q → k ≡ typeKind t s i
 kind-is t s i p c q k a b d e = rw (← a, ← b, ← d) e

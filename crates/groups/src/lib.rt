@@ -22,7 +22,7 @@ pub fn is_type(t: &[u8], s: &[usize], i: usize) -> bool
     if s.len() <= i {
         return false;
     }
-    octets::octet(t, rows::row_at(s, i)) != 16
+    rows::kind_at(t, rows::row_at(s, i)) != 16
 }
 
 fn later_type(t: &[u8], s: &[usize], i: usize, j: usize) -> bool
@@ -38,12 +38,12 @@ fn points_later(t: &[u8], s: &[usize], i: usize) -> bool
     ensures { λ r. ⌜ r ≡ clause.pointsLater (now (t .entry)) (now (s .entry)) i ⌝ }
 {
     let p = rows::row_at(s, i);
-    let kind = octets::octet(t, p);
+    let kind = rows::kind_at(t, p);
     if rows::is_list(kind) {
-        return later_type(t, s, i, rows::number_after(t, p, 1));
+        return later_type(t, s, i, rows::element_at(t, p));
     }
     if kind == 16 {
-        return later_type(t, s, i, rows::number_after(t, p, 25));
+        return later_type(t, s, i, rows::type_row_at(t, p));
     }
     true
 }
@@ -57,7 +57,7 @@ pub fn members_stand(t: &[u8], s: &[usize]) -> bool
     let mut due = 0;
     while i < s.len() {
         let p = s[i];
-        if octets::octet(t, p) == 16 {
+        if rows::kind_at(t, p) == 16 {
             if due == 0 {
                 return false;
             }
@@ -90,10 +90,7 @@ pub fn member_place(s: &[usize], i: usize, j: usize) -> usize
 fn same_name(t: &[u8], p: usize, q: usize) -> bool
     ensures { λ r. ⌜ r ≡ clause.sameName (now (t .entry)) p q ⌝ }
 {
-    octets::same(
-        rows::fields(t, p, 1, rows::Table::MAX_NAME),
-        rows::fields(t, q, 1, rows::Table::MAX_NAME),
-    )
+    octets::same(rows::name_at(t, p), rows::name_at(t, q))
 }
 
 fn differs_from(t: &[u8], s: &[usize], i: usize, b: usize, a: usize) -> bool
@@ -135,7 +132,7 @@ fn names_differ(t: &[u8], s: &[usize], i: usize) -> bool
 pub fn is_mandatory(t: &[u8], s: &[usize], i: usize, j: usize) -> bool
     ensures { λ r. ⌜ r ≡ clause.mandatoryAt (now (t .entry)) (now (s .entry)) i j ⌝ }
 {
-    rows::field(t, member_place(s, i, j), 29) == 0
+    rows::presence_at(t, member_place(s, i, j)) == 0
 }
 
 fn all_mandatory(t: &[u8], s: &[usize], i: usize, n: usize) -> bool
@@ -155,7 +152,7 @@ fn alternatives_mandatory(t: &[u8], s: &[usize], i: usize) -> bool
     ensures { λ r. ⌜ r ≡ clause.alternativesMandatory (now (t .entry)) (now (s .entry)) i ⌝ }
 {
     let p = rows::row_at(s, i);
-    if octets::octet(t, p) != 13 {
+    if rows::kind_at(t, p) != 13 {
         return true;
     }
     all_mandatory(t, s, i, rows::members_at(t, p))
@@ -165,18 +162,18 @@ fn alternatives_mandatory(t: &[u8], s: &[usize], i: usize) -> bool
 fn type_kind(t: &[u8], s: &[usize], i: usize) -> u8
     ensures { λ r. ⌜ r ≡ clause.typeKind (now (t .entry)) (now (s .entry)) i ⌝ }
 {
-    let type_row = rows::number_after(t, rows::row_at(s, i), 25);
-    octets::octet(t, rows::row_at(s, type_row))
+    let type_row = rows::type_row_at(t, rows::row_at(s, i));
+    rows::kind_at(t, rows::row_at(s, type_row))
 }
 
 fn no_implicit_choice(t: &[u8], s: &[usize], i: usize) -> bool
     ensures { λ r. ⌜ r ≡ clause.noImplicitChoice (now (t .entry)) (now (s .entry)) i ⌝ }
 {
     let p = rows::row_at(s, i);
-    if octets::octet(t, p) != 16 {
+    if rows::kind_at(t, p) != 16 {
         return true;
     }
-    if rows::field(t, p, 27) != 2 {
+    if rows::mode_at(t, p) != 2 {
         return true;
     }
     type_kind(t, s, i) != 13
@@ -195,14 +192,14 @@ fn default_legal(t: &[u8], s: &[usize], i: usize) -> bool
     ensures { λ r. ⌜ r ≡ clause.defaultLegal (now (t .entry)) (now (s .entry)) i ⌝ }
 {
     let p = rows::row_at(s, i);
-    if octets::octet(t, p) != 16 {
+    if rows::kind_at(t, p) != 16 {
         return true;
     }
-    let n = rows::field(t, p, 30);
-    if rows::field(t, p, 29) != 2 {
+    let n = rows::default_length_at(t, p);
+    if rows::presence_at(t, p) != 2 {
         return n == 0;
     }
-    default_allowed(type_kind(t, s, i), rows::fields(t, p, 31, octets::wide(n)))
+    default_allowed(type_kind(t, s, i), rows::default_at(t, p))
 }
 
 // ---- every row
@@ -304,7 +301,7 @@ fn larger(a: usize, b: usize) -> usize
 pub fn member_type(t: &[u8], s: &[usize], i: usize, j: usize) -> usize
     ensures { λ r. ⌜ r ≡ work.memberType (now (t .entry)) (now (s .entry)) i j ⌝ }
 {
-    rows::number_after(t, member_place(s, i, j), 25)
+    rows::type_row_at(t, member_place(s, i, j))
 }
 
 fn member_depth(d: &[usize], t: &[u8], s: &[usize], i: usize, j: usize) -> usize
@@ -329,8 +326,8 @@ fn deepest(d: &[usize], t: &[u8], s: &[usize], i: usize) -> usize
     ensures { λ r. ⌜ r ≡ work.deepest (now (d .entry)) (now (t .entry)) (now (s .entry)) i ⌝ }
 {
     let p = rows::row_at(s, i);
-    if rows::is_list(octets::octet(t, p)) {
-        return rows::row_at(d, rows::number_after(t, p, 1));
+    if rows::is_list(rows::kind_at(t, p)) {
+        return rows::row_at(d, rows::element_at(t, p));
     }
     tallest(d, t, s, i, rows::members_at(t, p))
 }

@@ -11,7 +11,7 @@ use Rattle.octets.specs.Pick.{all}
 use Rattle.octets.specs.Octets.{octet, two, part, every}
 use Rattle.octets.specs.Text.{within, isLower, isAlnum}
 use Rattle.octets.proofs.Laws.{octet-past, part-past, every-fails, every-holds, all-bad, all-done}
-use Rattle.rows.specs.Row.{isGroup, isList, rowSize, rowAt, membersAt}
+use Rattle.rows.specs.Row.{defaultAt, isGroup, isList, rowSize, rowAt, membersAt}
 use Rattle.rows.specs.Body.{countFormed, follows, followed, nameFormed, taggingFormed, tagFormed, presenceFormed, isZero, defaultFilled, memberFormed, rowFormed}
 
 -- ---- reading
@@ -35,6 +35,9 @@ number-is t p k a b r e f g =
 
 pub row-past : (s : List ℕ) (i : ℕ) → length s ≤ i → 0 ≡ rowAt s i
 row-past s i h = octet-past s i h
+
+pub default-is : (t a : List ℕ) (p n w : ℕ) → n ≡ octet t (p + 30) → w ≡ n → a ≡ part t (p + 31) w → a ≡ defaultAt t p
+default-is t a p n w e f g = g ∙ ap (part t (p + 31)) (f ∙ e)
 
 -- ---- the rows
 module _ (k : ℕ) (a : Bool) (basic : a ≡ within 1 11 k) where

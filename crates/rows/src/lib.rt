@@ -32,7 +32,7 @@ impl Table {
 
 // ---- reading
 // The octet k after place p.
-pub fn field(t: &[u8], p: usize, k: usize) -> u8
+fn field(t: &[u8], p: usize, k: usize) -> u8
     ensures { λ r. ⌜ r ≡ octet (now (t .entry)) (p + k) ⌝ }
 {
     if t.len() <= p {
@@ -45,7 +45,7 @@ pub fn field(t: &[u8], p: usize, k: usize) -> u8
 }
 
 // Up to n octets from k after place p on.
-pub fn fields(t: &[u8], p: usize, k: usize, n: usize) -> &[u8]
+fn fields(t: &[u8], p: usize, k: usize, n: usize) -> &[u8]
     ensures { λ r. ⌜ now r ≡ part (now (t .entry)) (p + k) n ⌝ }
 {
     if t.len() <= p {
@@ -58,7 +58,7 @@ pub fn fields(t: &[u8], p: usize, k: usize, n: usize) -> &[u8]
 }
 
 // Two octets, big-endian, from k after place p on.
-pub fn number_after(t: &[u8], p: usize, k: usize) -> usize
+fn number_after(t: &[u8], p: usize, k: usize) -> usize
     requires { ⌜ k < 64 ⌝ }
     ensures { λ r. ⌜ r ≡ two (now (t .entry)) (p + k) ⌝ }
 {
@@ -73,6 +73,65 @@ pub fn row_at(s: &[usize], i: usize) -> usize
         return 0;
     }
     s[i]
+}
+
+// ---- the parts of the row at p
+pub fn kind_at(t: &[u8], p: usize) -> u8
+    ensures { λ r. ⌜ r ≡ row.kindAt (now (t .entry)) p ⌝ }
+{
+    octets::octet(t, p)
+}
+
+// The row of a list's element.
+pub fn element_at(t: &[u8], p: usize) -> usize
+    ensures { λ r. ⌜ r ≡ row.elementAt (now (t .entry)) p ⌝ }
+{
+    number_after(t, p, 1)
+}
+
+// A member's name, with its fill.
+pub fn name_at(t: &[u8], p: usize) -> &[u8]
+    ensures { λ r. ⌜ now r ≡ row.nameAt (now (t .entry)) p ⌝ }
+{
+    fields(t, p, 1, Table::MAX_NAME)
+}
+
+// The row of a member's type.
+pub fn type_row_at(t: &[u8], p: usize) -> usize
+    ensures { λ r. ⌜ r ≡ row.typeRowAt (now (t .entry)) p ⌝ }
+{
+    number_after(t, p, 25)
+}
+
+pub fn mode_at(t: &[u8], p: usize) -> u8
+    ensures { λ r. ⌜ r ≡ row.modeAt (now (t .entry)) p ⌝ }
+{
+    field(t, p, 27)
+}
+
+pub fn number_at(t: &[u8], p: usize) -> u8
+    ensures { λ r. ⌜ r ≡ row.numberAt (now (t .entry)) p ⌝ }
+{
+    field(t, p, 28)
+}
+
+pub fn presence_at(t: &[u8], p: usize) -> u8
+    ensures { λ r. ⌜ r ≡ row.presenceAt (now (t .entry)) p ⌝ }
+{
+    field(t, p, 29)
+}
+
+pub fn default_length_at(t: &[u8], p: usize) -> u8
+    ensures { λ r. ⌜ r ≡ row.defaultLengthAt (now (t .entry)) p ⌝ }
+{
+    field(t, p, 30)
+}
+
+// A member's default contents, without their fill.
+pub fn default_at(t: &[u8], p: usize) -> &[u8]
+    ensures { λ r. ⌜ now r ≡ row.defaultAt (now (t .entry)) p ⌝ }
+{
+    fields(t, p, 31, octets::wide(default_length_at(t, p)))
 }
 
 // ---- the rows
@@ -143,7 +202,7 @@ pub fn scan(t: &[u8], s: &mut [usize]) -> usize
 pub fn members_at(t: &[u8], p: usize) -> usize
     ensures { λ r. ⌜ r ≡ row.membersAt (now (t .entry)) p ⌝ }
 {
-    if is_group(octets::octet(t, p)) {
+    if is_group(kind_at(t, p)) {
         return octets::wide(field(t, p, 1));
     }
     0
@@ -153,7 +212,7 @@ pub fn members_at(t: &[u8], p: usize) -> usize
 fn count_formed(t: &[u8], p: usize) -> bool
     ensures { λ r. do ⌜ r ≡ body.countFormed (← ⟦Table::MAX_MEMBERS⟧ .entry) (now (t .entry)) p ⌝ }
 {
-    let kind = octets::octet(t, p);
+    let kind = kind_at(t, p);
     if kind == 12 {
         return field(t, p, 1) <= Table::MAX_MEMBERS;
     }
@@ -238,7 +297,7 @@ fn all_zero(c: &[u8]) -> bool
 fn default_filled(t: &[u8], p: usize) -> bool
     ensures { λ r. ⌜ r ≡ body.defaultFilled (now (t .entry)) p ⌝ }
 {
-    let n = octets::wide(field(t, p, 30));
+    let n = octets::wide(default_length_at(t, p));
     if 8 < n {
         return false;
     }
@@ -251,10 +310,10 @@ fn member_formed(t: &[u8], p: usize) -> bool
     if !name_formed(t, p) {
         return false;
     }
-    if !tag_formed(field(t, p, 27), field(t, p, 28)) {
+    if !tag_formed(mode_at(t, p), number_at(t, p)) {
         return false;
     }
-    if 2 < field(t, p, 29) {
+    if 2 < presence_at(t, p) {
         return false;
     }
     default_filled(t, p)
@@ -264,7 +323,7 @@ fn member_formed(t: &[u8], p: usize) -> bool
 pub fn row_formed(t: &[u8], p: usize) -> bool
     ensures { λ r. do ⌜ r ≡ body.rowFormed (← ⟦Table::MAX_MEMBERS⟧ .entry) (now (t .entry)) p ⌝ }
 {
-    if octets::octet(t, p) == 16 {
+    if kind_at(t, p) == 16 {
         return member_formed(t, p);
     }
     count_formed(t, p)

@@ -46,10 +46,10 @@ fn kept(m: &[u64], i: usize) -> u64
 fn member_mask(m: &[u64], t: &[u8], p: usize) -> u64
     ensures { λ r. ⌜ r ≡ work.memberMask (now (m .entry)) (now (t .entry)) p ⌝ }
 {
-    if rows::field(t, p, 27) == 0 {
-        return kept(m, rows::number_after(t, p, 25));
+    if rows::mode_at(t, p) == 0 {
+        return kept(m, rows::type_row_at(t, p));
     }
-    context_bit(rows::field(t, p, 28))
+    context_bit(rows::number_at(t, p))
 }
 
 fn group_mask(m: &[u64], t: &[u8], s: &[usize], i: usize, n: usize) -> u64
@@ -68,7 +68,7 @@ fn row_mask(m: &[u64], t: &[u8], s: &[usize], i: usize) -> u64
     ensures { λ r. ⌜ r ≡ work.rowMask (now (m .entry)) (now (t .entry)) (now (s .entry)) i ⌝ }
 {
     let p = rows::row_at(s, i);
-    let kind = octets::octet(t, p);
+    let kind = rows::kind_at(t, p);
     if kind == 13 {
         return group_mask(m, t, s, i, rows::members_at(t, p));
     }
@@ -88,7 +88,7 @@ fn apart(m: &[u64], t: &[u8], s: &[usize], i: usize, a: usize, b: usize) -> bool
 fn ends_run(t: &[u8], s: &[usize], i: usize, b: usize) -> bool
     ensures { λ r. ⌜ r ≡ work.endsRun (now (t .entry)) (now (s .entry)) i b ⌝ }
 {
-    if octets::octet(t, rows::row_at(s, i)) == 12 {
+    if rows::kind_at(t, rows::row_at(s, i)) == 12 {
         return groups::is_mandatory(t, s, i, b);
     }
     false

@@ -8,7 +8,7 @@ alternatives-mandatory-spec =
     tie.close
     (tie.spec
     (λ c κs. search needs)  -- row-at-requires
-    (λ c κs. search needs)  -- octet-requires
+    (λ c κs. search needs)  -- kind-at-requires
     (λ c. search alternatives-none)  -- returns
     (λ c κs. search needs)  -- members-at-requires
     (λ c κs. search needs)  -- all-mandatory-requires

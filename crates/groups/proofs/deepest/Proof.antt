@@ -8,9 +8,9 @@ deepest-spec =
     tie.close
     (tie.spec
     (λ c κs. search needs)  -- row-at-requires
-    (λ c κs. search needs)  -- octet-requires
+    (λ c κs. search needs)  -- kind-at-requires
     (λ c κs. search needs)  -- is-list-requires
-    (λ c κs. search needs)  -- number-after-requires
+    (λ c κs. search needs)  -- element-at-requires
     (λ c κs. search needs)  -- row-at-requires-2
     (λ c. search deepest-list)  -- returns
     (λ c κs. search needs)  -- members-at-requires

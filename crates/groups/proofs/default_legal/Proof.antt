@@ -8,13 +8,12 @@ default-legal-spec =
     tie.close
     (tie.spec
     (λ c κs. search needs)  -- row-at-requires
-    (λ c κs. search needs)  -- octet-requires
+    (λ c κs. search needs)  -- kind-at-requires
     (λ c. search default-none)  -- returns
-    (λ c κs. search needs)  -- field-requires
-    (λ c κs. search needs)  -- field-requires-2
+    (λ c κs. search needs)  -- default-length-at-requires
+    (λ c κs. search needs)  -- presence-at-requires
     (λ c. search default-other)  -- returns-2
     (λ c κs. search needs)  -- type-kind-requires
-    (λ c κs. search needs)  -- wide-requires
-    (λ c κs. search needs)  -- fields-requires
+    (λ c κs. search needs)  -- default-at-requires
     (λ c κs. search needs)  -- default-allowed-requires
     (λ c. search default-is))  -- returns-3

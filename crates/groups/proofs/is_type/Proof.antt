@@ -7,5 +7,5 @@ pub is-type-spec : {M : Type 1} → statement M
 is-type-spec = tie.close (tie.spec
     (λ c. search type-past)  -- returns
     (λ c κs. search needs)  -- row-at-requires
-    (λ c κs. search needs)  -- octet-requires
+    (λ c κs. search needs)  -- kind-at-requires
     (λ c. search type-is))  -- returns-2

@@ -20,7 +20,7 @@ members-stand-spec =
     (λ c. search stand-start)  -- loop-holds
     (λ c. search needs)  -- mul-p
     (λ c. search needs)  -- shared-slice-read-p
-    (λ c κs. search needs)  -- octet-requires
+    (λ c κs. search needs)  -- kind-at-requires
     (λ c. search stand-extra)  -- returns
     (λ c. search needs)  -- sub-due
     (λ c. search needs)  -- add-i

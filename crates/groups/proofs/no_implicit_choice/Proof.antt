@@ -8,9 +8,9 @@ no-implicit-choice-spec =
     tie.close
     (tie.spec
     (λ c κs. search needs)  -- row-at-requires
-    (λ c κs. search needs)  -- octet-requires
+    (λ c κs. search needs)  -- kind-at-requires
     (λ c. search implicit-none)  -- returns
-    (λ c κs. search needs)  -- field-requires
+    (λ c κs. search needs)  -- mode-at-requires
     (λ c. search implicit-other)  -- returns-2
     (λ c κs. search needs)  -- type-kind-requires
     (λ c. search implicit-is))  -- returns-3

@@ -8,12 +8,12 @@ points-later-spec =
     tie.close
     (tie.spec
     (λ c κs. search needs)  -- row-at-requires
-    (λ c κs. search needs)  -- octet-requires
+    (λ c κs. search needs)  -- kind-at-requires
     (λ c κs. search needs)  -- is-list-requires
-    (λ c κs. search needs)  -- number-after-requires
+    (λ c κs. search needs)  -- element-at-requires
     (λ c κs. search needs)  -- later-type-requires
     (λ c. search points-list)  -- returns
-    (λ c κs. search needs)  -- number-after-requires-2
+    (λ c κs. search needs)  -- type-row-at-requires
     (λ c κs. search needs)  -- later-type-requires-2
     (λ c. search points-member)  -- returns-2
     (λ c. search points-none))  -- returns-3

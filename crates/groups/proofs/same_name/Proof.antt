@@ -5,7 +5,7 @@ use Rattle.groups.proofs.same_name.Tie as tie
 
 pub same-name-spec : {M : Type 1} → statement M
 same-name-spec = tie.close (tie.spec
-    (λ c κs. search needs)  -- fields-requires
-    (λ c κs. search needs)  -- fields-requires-2
+    (λ c κs. search needs)  -- name-at-requires
+    (λ c κs. search needs)  -- name-at-requires-2
     (λ c κs. search needs)  -- same-requires
     (λ c. search names-same))  -- returns

@@ -8,7 +8,7 @@ type-kind-spec =
     tie.close
     (tie.spec
     (λ c κs. search needs)  -- row-at-requires
-    (λ c κs. search needs)  -- number-after-requires
+    (λ c κs. search needs)  -- type-row-at-requires
     (λ c κs. search needs)  -- row-at-requires-2
-    (λ c κs. search needs)  -- octet-requires
+    (λ c κs. search needs)  -- kind-at-requires
     (λ c. search kind-is))  -- returns

@@ -7,7 +7,7 @@ pub count-formed-spec : {M : Type 1} → statement M
 count-formed-spec =
     tie.close
     (tie.spec
-    (λ c κs. search needs)  -- octet-requires
+    (λ c κs. search needs)  -- kind-at-requires
     (λ c κs. search needs)  -- field-requires
     (λ c. search count-sequence)  -- returns
     (λ c κs. search needs)  -- field-requires-2

@@ -7,7 +7,7 @@ pub default-filled-spec : {M : Type 1} → statement M
 default-filled-spec =
     tie.close
     (tie.spec
-    (λ c κs. search needs)  -- field-requires
+    (λ c κs. search needs)  -- default-length-at-requires
     (λ c κs. search needs)  -- wide-requires
     (λ c. search filled-long)  -- returns
     (λ c. search needs)  -- add-fields

@@ -7,7 +7,7 @@ pub members-at-spec : {M : Type 1} → statement M
 members-at-spec =
     tie.close
     (tie.spec
-    (λ c κs. search needs)  -- octet-requires
+    (λ c κs. search needs)  -- kind-at-requires
     (λ c κs. search needs)  -- is-group-requires
     (λ c κs. search needs)  -- field-requires
     (λ c κs. search needs)  -- wide-requires

@@ -7,7 +7,7 @@ pub row-formed-spec : {M : Type 1} → statement M
 row-formed-spec =
     tie.close
     (tie.spec
-    (λ c κs. search needs)  -- octet-requires
+    (λ c κs. search needs)  -- kind-at-requires
     (λ c κs. search needs)  -- member-formed-requires
     (λ c. search row-member)  -- returns
     (λ c κs. search needs)  -- count-formed-requires

@@ -7,7 +7,7 @@ pub ends-run-spec : {M : Type 1} → statement M
 ends-run-spec =
     tie.close (tie.spec
     (λ c κs. search needs)  -- row-at-requires
-    (λ c κs. search needs)  -- octet-requires
+    (λ c κs. search needs)  -- kind-at-requires
     (λ c κs. search needs)  -- is-mandatory-requires
     (λ c. search ends-sequence)  -- returns
     (λ c. search ends-not))  -- returns-2

@@ -7,10 +7,10 @@ pub member-mask-spec : {M : Type 1} → statement M
 member-mask-spec =
     tie.close
     (tie.spec
-    (λ c κs. search needs)  -- field-requires
-    (λ c κs. search needs)  -- number-after-requires
+    (λ c κs. search needs)  -- mode-at-requires
+    (λ c κs. search needs)  -- type-row-at-requires
     (λ c κs. search needs)  -- kept-requires
     (λ c. search mask-untagged)  -- returns
-    (λ c κs. search needs)  -- field-requires-2
+    (λ c κs. search needs)  -- number-at-requires
     (λ c κs. search needs)  -- context-bit-requires
     (λ c. search mask-tagged))  -- returns-2

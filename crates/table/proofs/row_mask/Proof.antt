@@ -9,7 +9,7 @@ row-mask-spec =
     tie.close
     (tie.spec
     (λ c κs. search needs)  -- row-at-requires
-    (λ c κs. search needs)  -- octet-requires
+    (λ c κs. search needs)  -- kind-at-requires
     (λ c κs. search needs)  -- members-at-requires
     (λ c κs. search needs)  -- group-mask-requires
     (λ c. search row-choice)  -- returns
