@@ -115,13 +115,13 @@ def lay_out(dice, root, loose=False):
     def named(drawn):
         return [member.type for member in drawn.members] + ([drawn.element] if drawn.element else [])
 
-    waiting, todo, seen = {}, [root], {root}
-    while todo:
-        for inner in named(todo.pop()):
+    waiting, unread, seen = {}, [root], {root}
+    while unread:
+        for inner in named(unread.pop()):
             waiting[inner] = waiting.get(inner, 0) + 1
             if inner not in seen:
                 seen.add(inner)
-                todo.append(inner)
+                unread.append(inner)
     ready, order = [root], []
     while ready:
         drawn = ready.pop(0 if dice.random() < 0.5 else dice.randrange(len(ready)))

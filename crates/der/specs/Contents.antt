@@ -59,7 +59,7 @@ legalBits c =
     (both (leb (octet c 0) 7)
     (pick (eqb (length c) 1) (eqb (octet c 0) 0) (eqb (octet c (length c - 1) % 2 ^ octet c 0) 0)))
 
--- PrintableString by X.680: letters, digits, space and ' ( ) + , - . / : = ?
+-- PrintableString by X.680: letters, digits, space and ' ( ) + , - . / : = and the question mark
 unfoldable pub isSign : ℕ → Bool
 isSign b = either (eqb b 58) (either (eqb b 61) (eqb b 63))
 

@@ -1,5 +1,5 @@
 -- What the layers above use of an admitted table. s below is its list of rows.
-use mathlib.Core.Path.{_≡_, ap, _∙_}
+use mathlib.Core.Path.{_≡_}
 use mathlib.Core.Bool.{true}
 use mathlib.Core.List.{List}
 use Prim.Native.Nat.{ℕ, _≤_, _<_, _+_}
@@ -7,15 +7,16 @@ use borrow.Author.Tests.{leb-true}
 use lib.ListN.{length}
 use Rattle.octets.proofs.Laws.{both-true, all-at}
 use Rattle.rows.specs.Limits.{Limits}
-use Rattle.rows.specs.Row.{rows, rowAt, kindAt, isList, elementAt, membersAt}
+use Rattle.rows.specs.Row.{rows, rowAt, kindAt, elementAt, membersAt}
 use Rattle.groups.specs.Clauses.{everyRow, wholeRows, bodyFormed, isType, firstIsType, pointsLater, membersStand, memberPlace, namesDiffer, alternativesMandatory, noImplicitChoice, defaultLegal, chainFits}
-use Rattle.groups.specs.Work.{memberType, Later}
+use Rattle.groups.specs.Work.{Later}
 use Rattle.groups.proofs.LaterSteps.{is-later, member-follows}
 use Rattle.table.specs.Types.{membersFrom, typed, typeAt}
 use Rattle.table.specs.Begins.{begins, tagsApart}
 use Rattle.table.specs.Admitted.{tagsDiffer, rowsFormed, rowsNamed, membersAgree, typesFit, admittedRows, admitted}
 use Rattle.table.specs.Work.{bitOf, Masked}
 use Rattle.table.proofs.TypeLaws.{step}
+use Rattle.table.proofs.AdmitSteps.{named-points, named-stand}
 
 module _ (l : Limits) (t : List ℕ) (ok : admitted l t ≡ true) where
   abbrev s : List ℕ
@@ -52,12 +53,10 @@ module _ (l : Limits) (t : List ℕ) (ok : admitted l t ≡ true) where
   row-0-is-type = both-true (everyRow (bodyFormed (l .members) t s) s) _ (both-true (wholeRows (l .rows) s) _ formed .1) .1
 
   points : everyRow (pointsLater t s) s ≡ true
-  unfolding rowsNamed
-  points = both-true (everyRow (pointsLater t s) s) _ named .0
+  points = named-points t s named
 
   stands : membersStand t s ≡ true
-  unfolding rowsNamed
-  stands = both-true (everyRow (pointsLater t s) s) _ named .1
+  stands = named-stand t s named
 
   chains : everyRow (chainFits (l .chain) t s) s ≡ true
   unfolding typesFit

@@ -13,12 +13,10 @@ use lib.Dec.{ltb, eqb}
 use lib.Pow.{pow-lt}
 use lib.Bits.{or-lt}
 use Rattle.octets.specs.Pick.{pick, both, either, no}
-use Rattle.octets.specs.Octets.{octet}
 use Rattle.octets.proofs.Laws.{all-at, all-is, all-not, all-cong}
-use Rattle.der.specs.Kind as kind
 use Rattle.der.specs.Tag.{context, universal, universalText}
 use Rattle.rows.specs.Row.{kindAt, modeAt, numberAt, presenceAt, defaultAt, elementAt, rowAt, membersAt, isGroup, isList}
-use Rattle.groups.specs.Clauses.{everyRow, pointsLater, membersStand, memberPlace, mandatoryAt, ofMember, chainFits}
+use Rattle.groups.specs.Clauses.{everyRow, pointsLater, membersStand, memberPlace, mandatoryAt, chainFits}
 use Rattle.groups.proofs.LaterSteps.{is-later}
 use Rattle.table.specs.Admitted.{tagsDiffer}
 use Rattle.groups.specs.Work.{memberType, Later}

@@ -1,5 +1,5 @@
 -- The type of a row does not depend on the depth to which it is unfolded, where the chain fits; one step of it.
-use mathlib.Core.Path.{_≡_, refl, sym, ap, ap₂, _∙_}
+use mathlib.Core.Path.{_≡_, refl, ap, ap₂, _∙_}
 use mathlib.Core.Bool.{Bool, true, false, false≢true}
 use mathlib.Core.List.{List}
 use Prim.Native.Nat.{ℕ, zero, suc, _≤_, _<_, _+_}
@@ -7,7 +7,7 @@ use native.Mathlib.Omega.{arith}
 use borrow.Author.Tests.{eqb-true}
 use lib.ListN.{length}
 use lib.Dec.{eqb}
-use Rattle.octets.specs.Pick.{pick, all}
+use Rattle.octets.specs.Pick.{pick}
 use Rattle.octets.specs.Octets.{octet}
 use Rattle.octets.proofs.Laws.{all-at}
 use Rattle.rows.specs.Row.{kindAt, rowAt, isGroup, isList, elementAt, membersAt}

@@ -4,7 +4,6 @@ use mathlib.Core.Bool.{Bool}
 use mathlib.Core.List.{List}
 use lib.ListN.{length}
 use Rattle.octets.specs.Pick.{pick, both}
-use Rattle.der.specs.Kind as kind
 use Rattle.rows.specs.Limits.{Limits}
 use Rattle.rows.specs.Row.{rows}
 use Rattle.table.specs.Types.{typeFrom}
