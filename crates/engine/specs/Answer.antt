@@ -37,7 +37,7 @@ budgeted budget (faulted n) = pick (leb n budget) (refused 7) (refused 5)
 -- 1: a size or the budget out of its limits
 unfoldable pub questionFits : Limits → List ℕ → List ℕ → List ℕ → ℕ → Bool
 questionFits l t v s budget =
-    both (tableFits (l .table) t)
+    both (tableFits (l .bytes) t)
     (both (valueFits (l .value) v)
     (both (filterFits (l .filter) s)
     (leb budget (l .budget))))

@@ -50,7 +50,7 @@ walked a room = pick (faulty a) (refusedList 7 room) (listed (reached a) room)
 
 -- 1: "a listing's reference above 2,048"; where none is given its octets are not looked at
 unfoldable pub listingFits : Limits → List ℕ → List ℕ → Bool → List ℕ → Bool
-listingFits l t v given r = both (tableFits (l .table) t) (both (valueFits (l .value) v) (either (no given) (leb (length r) (l .reference))))
+listingFits l t v given r = both (tableFits (l .bytes) t) (both (valueFits (l .value) v) (either (no given) (leb (length r) (l .reference))))
 
 -- "The listing may be given no reference; an empty one is refused 3."
 abbrev pub givenIds : Bool → List ℕ → Option (List Id)

@@ -21,9 +21,9 @@ not-no true = refl
 not-no false = refl
 
 -- ---- bodies
-pub body-is : (most : ℕ) (t s : List ℕ) (i p : ℕ) (r : Bool) → p ≡ rowAt s i → r ≡ rowFormed most t p → r ≡ bodyFormed most t s i
+pub body-is : (most name : ℕ) (t s : List ℕ) (i p : ℕ) (r : Bool) → p ≡ rowAt s i → r ≡ rowFormed most name t p → r ≡ bodyFormed most name t s i
 unfolding bodyFormed
-body-is most t s i p r e q = rw (← e) q
+body-is most name t s i p r e q = rw (← e) q
 
 -- ---- row numbers
 pub type-past : (t s : List ℕ) (i : ℕ) → length s ≤ i → false ≡ isType t s i

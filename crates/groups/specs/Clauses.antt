@@ -21,8 +21,8 @@ unfoldable pub wholeRows : ℕ → List ℕ → Bool
 wholeRows most s = within 1 most (length s)
 
 -- the bodies are as the type table has them
-unfoldable pub bodyFormed : ℕ → List ℕ → List ℕ → ℕ → Bool
-bodyFormed most t s i = rowFormed most t (rowAt s i)
+unfoldable pub bodyFormed : ℕ → ℕ → List ℕ → List ℕ → ℕ → Bool
+bodyFormed most name t s i = rowFormed most name t (rowAt s i)
 
 -- "row 0 is a type"
 unfoldable pub isType : List ℕ → List ℕ → ℕ → Bool

@@ -10,7 +10,7 @@ ghost use Rattle.groups.specs.Work as work;
 
 // ---- bodies
 fn body_formed(t: &[u8], s: &[usize], i: usize) -> bool
-    ensures { λ r. do ⌜ r ≡ clause.bodyFormed (← ⟦rows::Table::MAX_MEMBERS⟧ .entry) (now (t .entry)) (now (s .entry)) i ⌝ }
+    ensures { λ r. do ⌜ r ≡ clause.bodyFormed (← ⟦rows::Table::MAX_MEMBERS⟧ .entry) (← ⟦rows::Table::MAX_NAME⟧ .entry) (now (t .entry)) (now (s .entry)) i ⌝ }
 {
     rows::row_formed(t, rows::row_at(s, i))
 }
@@ -205,7 +205,7 @@ fn default_legal(t: &[u8], s: &[usize], i: usize) -> bool
 // ---- every row
 // Whether the bodies of all rows are formed.
 pub fn bodies_formed(t: &[u8], s: &[usize]) -> bool
-    ensures { λ r. do ⌜ r ≡ clause.everyRow (clause.bodyFormed (← ⟦rows::Table::MAX_MEMBERS⟧ .entry) (now (t .entry)) (now (s .entry))) (now (s .entry)) ⌝ }
+    ensures { λ r. do ⌜ r ≡ clause.everyRow (clause.bodyFormed (← ⟦rows::Table::MAX_MEMBERS⟧ .entry) (← ⟦rows::Table::MAX_NAME⟧ .entry) (now (t .entry)) (now (s .entry))) (now (s .entry)) ⌝ }
 {
     let mut i = 0;
     while i < s.len() {

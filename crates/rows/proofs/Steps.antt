@@ -152,7 +152,7 @@ module _ (t : List ℕ) (p o n : ℕ) (read : o ≡ octet t (p + 30)) (wide : n 
   filled-is c r h e q = rw (← read, ← wide, le-leb n 8 h) (q ∙ ap (every isZero) e)
 
 module _ (t : List ℕ) (p : ℕ) (r : Bool) (named : r ≡ nameFormed 24 t p) where
-  pub member-name : not r ≡ true → false ≡ memberFormed t p
+  pub member-name : not r ≡ true → false ≡ memberFormed 24 t p
   unfolding memberFormed
   member-name h = rw (sym named ∙ not-true r h)
 
@@ -161,23 +161,23 @@ module _ (t : List ℕ) (p : ℕ) (r : Bool) (named : r ≡ nameFormed 24 t p) w
     unfolding tagFormed
     tag = told ∙ ap₂ taggingFormed e f
 
-    pub member-tag : not u ≡ true → false ≡ memberFormed t p
+    pub member-tag : not u ≡ true → false ≡ memberFormed 24 t p
     unfolding memberFormed
     member-tag g = rw (sym named ∙ not-false r h, sym tag ∙ not-true u g)
 
     module _ (g : not u ≡ false) (c : ℕ) (q : c ≡ octet t (p + 29)) where
-      pub member-presence : 2 < c → false ≡ memberFormed t p
+      pub member-presence : 2 < c → false ≡ memberFormed 24 t p
       unfolding memberFormed presenceFormed
       member-presence l = rw (sym named ∙ not-false r h, sym tag ∙ not-false u g, ← q, lt-leb c 2 l)
 
-      pub member-filled : (w : Bool) → c ≤ 2 → w ≡ defaultFilled t p → w ≡ memberFormed t p
+      pub member-filled : (w : Bool) → c ≤ 2 → w ≡ defaultFilled t p → w ≡ memberFormed 24 t p
       unfolding memberFormed presenceFormed
       member-filled w l k = rw (sym named ∙ not-false r h, sym tag ∙ not-false u g, ← q, le-leb c 2 l) k
 
-pub row-member : (most : ℕ) (t : List ℕ) (p k : ℕ) (r : Bool) → k ≡ octet t p → k ≡ 16 → r ≡ memberFormed t p → r ≡ rowFormed most t p
+pub row-member : (most : ℕ) (t : List ℕ) (p k : ℕ) (r : Bool) → k ≡ octet t p → k ≡ 16 → r ≡ memberFormed 24 t p → r ≡ rowFormed most 24 t p
 unfolding rowFormed
 row-member most t p k r e f q = rw (← e, eq-eqb k 16 f) q
 
-pub row-type : (most : ℕ) (t : List ℕ) (p k : ℕ) (r : Bool) → k ≡ octet t p → (k ≡ 16 → ⊥) → r ≡ countFormed most t p → r ≡ rowFormed most t p
+pub row-type : (most : ℕ) (t : List ℕ) (p k : ℕ) (r : Bool) → k ≡ octet t p → (k ≡ 16 → ⊥) → r ≡ countFormed most t p → r ≡ rowFormed most 24 t p
 unfolding rowFormed
 row-type most t p k r e f q = rw (← e, ne-eqb k 16 f) q

@@ -27,7 +27,7 @@ follows a b =
 unfoldable pub followed : List ℕ → ℕ → ℕ → Bool
 followed t p j = follows (nameOctetAt t p j) (nameOctetAt t p (j + 1))
 
--- the name of the member row at p, in a field of n octets
+-- the name of the member row at p, of at most n octets
 unfoldable pub nameFormed : ℕ → List ℕ → ℕ → Bool
 nameFormed n t p = both (isLower (nameOctetAt t p 0)) (both (no (eqb (nameOctetAt t p (n - 1)) 45)) (all (followed t p) (n - 1)))
 
@@ -49,9 +49,10 @@ isZero b = eqb b 0
 unfoldable pub defaultFilled : List ℕ → ℕ → Bool
 defaultFilled t p = both (leb (defaultLengthAt t p) 8) (every isZero (part t (p + (31 + defaultLengthAt t p)) (8 - defaultLengthAt t p)))
 
--- a member's body
-unfoldable pub memberFormed : List ℕ → ℕ → Bool
-memberFormed t p = both (nameFormed 24 t p) (both (tagFormed t p) (both (presenceFormed t p) (defaultFilled t p)))
+-- a member's body, with a name of at most so many octets
+unfoldable pub memberFormed : ℕ → List ℕ → ℕ → Bool
+memberFormed name t p = both (nameFormed name t p) (both (tagFormed t p) (both (presenceFormed t p) (defaultFilled t p)))
 
-unfoldable pub rowFormed : ℕ → List ℕ → ℕ → Bool
-rowFormed most t p = pick (eqb (kindAt t p) kind.member) (memberFormed t p) (countFormed most t p)
+-- at most so many members, names of at most so many octets
+unfoldable pub rowFormed : ℕ → ℕ → List ℕ → ℕ → Bool
+rowFormed most name t p = pick (eqb (kindAt t p) kind.member) (memberFormed name t p) (countFormed most t p)

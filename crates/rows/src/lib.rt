@@ -20,7 +20,7 @@ impl Table {
 
     pub const MAX_MEMBERS: u8 = 16;
 
-    // The width of a name's field.
+    // A name's octets, and the width of its field.
     pub const MAX_NAME: usize = 24;
 
     pub fn of(rows: usize) -> Self
@@ -305,7 +305,7 @@ fn default_filled(t: &[u8], p: usize) -> bool
 }
 
 fn member_formed(t: &[u8], p: usize) -> bool
-    ensures { λ r. ⌜ r ≡ body.memberFormed (now (t .entry)) p ⌝ }
+    ensures { λ r. do ⌜ r ≡ body.memberFormed (← ⟦Table::MAX_NAME⟧ .entry) (now (t .entry)) p ⌝ }
 {
     if !name_formed(t, p) {
         return false;
@@ -321,7 +321,7 @@ fn member_formed(t: &[u8], p: usize) -> bool
 
 // Whether a row's body is as the type table has it.
 pub fn row_formed(t: &[u8], p: usize) -> bool
-    ensures { λ r. do ⌜ r ≡ body.rowFormed (← ⟦Table::MAX_MEMBERS⟧ .entry) (now (t .entry)) p ⌝ }
+    ensures { λ r. do ⌜ r ≡ body.rowFormed (← ⟦Table::MAX_MEMBERS⟧ .entry) (← ⟦Table::MAX_NAME⟧ .entry) (now (t .entry)) p ⌝ }
 {
     if kind_at(t, p) == 16 {
         return member_formed(t, p);

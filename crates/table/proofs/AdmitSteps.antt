@@ -1,39 +1,39 @@
 -- Admission: one lemma for each return.
 use mathlib.Core.Path.{_≡_, refl, sym, ap, _∙_}
-use mathlib.Core.Bool.{Bool, true, false, not}
+use mathlib.Core.Bool.{Bool, true, false, not, true≢false}
 use mathlib.Core.List.{List}
 use Prim.Native.Nat.{ℕ, _≤_, _<_}
 use native.Mathlib.Omega.{arith}
 use borrow.Author.Tests.{not-true, not-false, lt-leb, le-leb, leb-true}
 use lib.ListN.{length, take}
-use Rattle.octets.specs.Pick.{pick}
+use Rattle.octets.specs.Pick.{pick, no}
 use Rattle.octets.proofs.Laws.{both-true}
 use Rattle.rows.specs.Limits.{limits}
 use Rattle.rows.specs.Row.{rows}
 use Rattle.groups.specs.Clauses.{everyRow, wholeRows, bodyFormed, isType, firstIsType, pointsLater, membersStand, namesDiffer, alternativesMandatory, noImplicitChoice, defaultLegal, chainFits}
 use Rattle.table.specs.Admitted.{tagsDiffer, rowsFormed, rowsNamed, membersAgree, typesFit, admittedRows, admitted, rowCount}
 use Rattle.table.specs.Work.{Masked, Admits}
-use Rattle.table.specs.Check.{refused, admits, tableFits, tableReport}
+use Rattle.table.specs.Check.{refused, admits, isRefused, tableFits, admission}
 
 pub told-true : (a b : Bool) → a ≡ b → not a ≡ false → b ≡ true
 told-true a b e h = sym e ∙ not-false a h
 
 module _ (t s : List ℕ) where
-  pub formed-none : length s < 1 → false ≡ rowsFormed 128 16 t s
+  pub formed-none : length s < 1 → false ≡ rowsFormed 128 16 24 t s
   unfolding rowsFormed wholeRows
   formed-none h = rw (lt-leb 1 (length s) h)
 
   module _ (h : 1 ≤ length s) where
-    pub formed-many : 128 < length s → false ≡ rowsFormed 128 16 t s
+    pub formed-many : 128 < length s → false ≡ rowsFormed 128 16 24 t s
     unfolding rowsFormed wholeRows
     formed-many g = rw (le-leb 1 (length s) h, lt-leb (length s) 128 g)
 
-    module _ (g : length s ≤ 128) (r : Bool) (told : r ≡ everyRow (bodyFormed 16 t s) s) where
-      pub formed-bodies : not r ≡ true → false ≡ rowsFormed 128 16 t s
+    module _ (g : length s ≤ 128) (r : Bool) (told : r ≡ everyRow (bodyFormed 16 24 t s) s) where
+      pub formed-bodies : not r ≡ true → false ≡ rowsFormed 128 16 24 t s
       unfolding rowsFormed wholeRows
       formed-bodies e = rw (le-leb 1 (length s) h, le-leb (length s) 128 g, sym told ∙ not-true r e)
 
-      pub formed-is : (u : Bool) → not r ≡ false → u ≡ isType t s 0 → u ≡ rowsFormed 128 16 t s
+      pub formed-is : (u : Bool) → not r ≡ false → u ≡ isType t s 0 → u ≡ rowsFormed 128 16 24 t s
       unfolding rowsFormed wholeRows firstIsType
       formed-is u e q = rw (le-leb 1 (length s) h, le-leb (length s) 128 g, sym told ∙ not-false r e) q
 
@@ -82,36 +82,36 @@ module _ (t s : List ℕ) where
     unfolding typesFit
     types-are u e q = rw (sym chains ∙ not-false r e) q
 
-  module _ (a : Bool) (formed : a ≡ rowsFormed 128 16 t s) where
-    pub rows-unformed : not a ≡ true → false ≡ admittedRows (limits 4992 128 16 16) t s
+  module _ (a : Bool) (formed : a ≡ rowsFormed 128 16 24 t s) where
+    pub rows-unformed : not a ≡ true → false ≡ admittedRows (limits 128 16 16 24) t s
     unfolding admittedRows
     rows-unformed e = rw (sym formed ∙ not-true a e)
 
     module _ (ea : not a ≡ false) (b : Bool) (named : b ≡ rowsNamed t s) where
-      pub rows-unnamed : not b ≡ true → false ≡ admittedRows (limits 4992 128 16 16) t s
+      pub rows-unnamed : not b ≡ true → false ≡ admittedRows (limits 128 16 16 24) t s
       unfolding admittedRows
       rows-unnamed e = rw (sym formed ∙ not-false a ea, sym named ∙ not-true b e)
 
       module _ (eb : not b ≡ false) (c : Bool) (agree : c ≡ membersAgree t s) where
-        pub rows-disagree : not c ≡ true → false ≡ admittedRows (limits 4992 128 16 16) t s
+        pub rows-disagree : not c ≡ true → false ≡ admittedRows (limits 128 16 16 24) t s
         unfolding admittedRows
         rows-disagree e = rw (sym formed ∙ not-false a ea, sym named ∙ not-false b eb, sym agree ∙ not-true c e)
 
-        pub rows-are : (u : Bool) → not c ≡ false → u ≡ typesFit 16 t s → u ≡ admittedRows (limits 4992 128 16 16) t s
+        pub rows-are : (u : Bool) → not c ≡ false → u ≡ typesFit 16 t s → u ≡ admittedRows (limits 128 16 16 24) t s
         unfolding admittedRows
         rows-are u e q = rw (sym formed ∙ not-false a ea, sym named ∙ not-false b eb, sym agree ∙ not-false c e) q
 
 -- ---- the rows of an admitted table
-module _ (t s m : List ℕ) (n : ℕ) (a : Bool) (found : take n s ≡ rows 128 t) (told : a ≡ admittedRows (limits 4992 128 16 16) t (take n s)) where
-  is-admitted : admitted (limits 4992 128 16 16) t ≡ a
+module _ (t s m : List ℕ) (n : ℕ) (a : Bool) (found : take n s ≡ rows 128 t) (told : a ≡ admittedRows (limits 128 16 16 24) t (take n s)) where
+  is-admitted : admitted (limits 128 16 16 24) t ≡ a
   unfolding admitted
   is-admitted = sym (rw found at told)
 
-  pub count-not : not a ≡ true → 0 ≡ rowCount (limits 4992 128 16 16) t
+  pub count-not : not a ≡ true → 0 ≡ rowCount (limits 128 16 16 24) t
   unfolding rowCount
   count-not f = rw (is-admitted ∙ not-true a f)
 
-  pub count-is : n ≡ length (rows 128 t) → not a ≡ false → n ≡ rowCount (limits 4992 128 16 16) t
+  pub count-is : n ≡ length (rows 128 t) → not a ≡ false → n ≡ rowCount (limits 128 16 16 24) t
   unfolding rowCount
   count-is c f = rw (is-admitted ∙ not-false a f) c
 
@@ -129,31 +129,45 @@ rows-counted t l n e f = e ∙ ap length (sym f)
 
 -- ---- the answer
 module _ (t : List ℕ) where
-  pub answer-empty : length t < 1 → refused 1 ≡ tableReport (limits 4992 128 16 16) t
-  unfolding tableReport tableFits
-  answer-empty h = rw (lt-leb 1 (length t) h)
+  pub size-empty : length t < 1 → isRefused 1 (refused 1) ≡ no (tableFits 4992 t)
+  unfolding tableFits
+  size-empty h = rw (lt-leb 1 (length t) h)
 
-  pub answer-long : 1 ≤ length t → 4992 < length t → refused 1 ≡ tableReport (limits 4992 128 16 16) t
-  unfolding tableReport tableFits
-  answer-long h l = rw (le-leb 1 (length t) h, lt-leb (length t) 4992 l)
+  pub size-long : 1 ≤ length t → 4992 < length t → isRefused 1 (refused 1) ≡ no (tableFits 4992 t)
+  unfolding tableFits
+  size-long h l = rw (le-leb 1 (length t) h, lt-leb (length t) 4992 l)
 
-  some-rows : admitted (limits 4992 128 16 16) t ≡ true → 1 ≤ length (rows 128 t)
+  pub answer-none : isRefused 1 (refused 1) ≡ false → refused 1 ≡ admission (limits 128 16 16 24) t
+  answer-none e = absurd (true≢false e)
+
+  some-rows : admitted (limits 128 16 16 24) t ≡ true → 1 ≤ length (rows 128 t)
   unfolding admitted admittedRows rowsFormed wholeRows
   some-rows e = leb-true _ _ (both-true _ _ (both-true _ _ (both-true _ _ e .0) .0) .0)
 
-  module _ (n : ℕ) (h : 1 ≤ length t) (l : length t ≤ 4992) (e : n ≡ rowCount (limits 4992 128 16 16) t) where
-    pub answer-not : n ≡ 0 → refused 2 ≡ tableReport (limits 4992 128 16 16) t
-    unfolding tableReport tableFits rowCount
-    answer-not z = rw (le-leb 1 (length t) h, le-leb (length t) 4992 l) (go (admitted (limits 4992 128 16 16) t) refl)
+  module _ (h : 1 ≤ length t) (l : length t ≤ 4992) where
+    fits : tableFits 4992 t ≡ true
+    unfolding tableFits
+    fits = rw (le-leb 1 (length t) h, le-leb (length t) 4992 l)
+
+    pub size-other : isRefused 1 (refused 2) ≡ no (tableFits 4992 t)
+    size-other = ap no (sym fits)
+
+    pub size-rows : (n : ℕ) → isRefused 1 (admits n) ≡ no (tableFits 4992 t)
+    size-rows n = ap no (sym fits)
+
+  module _ (n : ℕ) (e : n ≡ rowCount (limits 128 16 16 24) t) where
+    pub answer-not : n ≡ 0 → isRefused 1 (refused 2) ≡ false → refused 2 ≡ admission (limits 128 16 16 24) t
+    unfolding admission rowCount
+    answer-not z _ = go (admitted (limits 128 16 16 24) t) refl
       where
-        go : (x : Bool) → admitted (limits 4992 128 16 16) t ≡ x → refused 2 ≡ pick x (admits (length (rows 128 t))) (refused 2)
+        go : (x : Bool) → admitted (limits 128 16 16 24) t ≡ x → refused 2 ≡ pick x (admits (length (rows 128 t))) (refused 2)
         go true q = absurd (let w = some-rows q in let y : n ≡ length (rows 128 t) = (rw q at e) in omega arith)
         go false q = refl
 
-    pub answer-is : (n ≡ 0 → ⊥) → admits n ≡ tableReport (limits 4992 128 16 16) t
-    unfolding tableReport tableFits rowCount
-    answer-is z = rw (le-leb 1 (length t) h, le-leb (length t) 4992 l) (go (admitted (limits 4992 128 16 16) t) refl)
+    pub answer-is : (n ≡ 0 → ⊥) → isRefused 1 (admits n) ≡ false → admits n ≡ admission (limits 128 16 16 24) t
+    unfolding admission rowCount
+    answer-is z _ = go (admitted (limits 128 16 16 24) t) refl
       where
-        go : (x : Bool) → admitted (limits 4992 128 16 16) t ≡ x → admits n ≡ pick x (admits (length (rows 128 t))) (refused 2)
+        go : (x : Bool) → admitted (limits 128 16 16 24) t ≡ x → admits n ≡ pick x (admits (length (rows 128 t))) (refused 2)
         go true q = ap admits (rw q at e)
         go false q = absurd (z (rw q at e))

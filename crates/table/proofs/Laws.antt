@@ -1,10 +1,11 @@
 -- What the layers above use of an admitted table. s below is its list of rows.
-use mathlib.Core.Path.{_≡_}
-use mathlib.Core.Bool.{true}
+use mathlib.Core.Path.{_≡_, refl, ap, _∙_}
+use mathlib.Core.Bool.{Bool, true, false, false≢true}
 use mathlib.Core.List.{List}
 use Prim.Native.Nat.{ℕ, _≤_, _<_, _+_}
-use borrow.Author.Tests.{leb-true}
+use borrow.Author.Tests.{leb-true, eqb-true}
 use lib.ListN.{length}
+use Rattle.octets.specs.Pick.{pick, no}
 use Rattle.octets.proofs.Laws.{both-true, all-at}
 use Rattle.rows.specs.Limits.{Limits}
 use Rattle.rows.specs.Row.{rows, rowAt, kindAt, elementAt, membersAt}
@@ -15,6 +16,8 @@ use Rattle.table.specs.Types.{membersFrom, typed, typeAt}
 use Rattle.table.specs.Begins.{begins, tagsApart}
 use Rattle.table.specs.Admitted.{tagsDiffer, rowsFormed, rowsNamed, membersAgree, typesFit, admittedRows, admitted}
 use Rattle.table.specs.Work.{bitOf, Masked}
+use Rattle.table.specs.Check.{refused, isRefused, tableFits, report, admission, tableReport}
+use Rattle.table.specs.declared.TableCheck.{TableCheck}
 use Rattle.table.proofs.TypeLaws.{step}
 use Rattle.table.proofs.AdmitSteps.{named-points, named-stand}
 
@@ -26,21 +29,21 @@ module _ (l : Limits) (t : List ℕ) (ok : admitted l t ≡ true) where
   unfolding admitted
   whole = ok
 
-  formed : rowsFormed (l .rows) (l .members) t s ≡ true
+  formed : rowsFormed (l .rows) (l .members) (l .name) t s ≡ true
   unfolding admittedRows
-  formed = both-true (rowsFormed (l .rows) (l .members) t s) _ whole .0
+  formed = both-true (rowsFormed (l .rows) (l .members) (l .name) t s) _ whole .0
 
   named : rowsNamed t s ≡ true
   unfolding admittedRows
-  named = both-true (rowsNamed t s) _ (both-true (rowsFormed (l .rows) (l .members) t s) _ whole .1) .0
+  named = both-true (rowsNamed t s) _ (both-true (rowsFormed (l .rows) (l .members) (l .name) t s) _ whole .1) .0
 
   agree : membersAgree t s ≡ true
   unfolding admittedRows
-  agree = both-true (membersAgree t s) _ (both-true (rowsNamed t s) _ (both-true (rowsFormed (l .rows) (l .members) t s) _ whole .1) .1) .0
+  agree = both-true (membersAgree t s) _ (both-true (rowsNamed t s) _ (both-true (rowsFormed (l .rows) (l .members) (l .name) t s) _ whole .1) .1) .0
 
   fit : typesFit (l .chain) t s ≡ true
   unfolding admittedRows
-  fit = both-true (membersAgree t s) _ (both-true (rowsNamed t s) _ (both-true (rowsFormed (l .rows) (l .members) t s) _ whole .1) .1) .1
+  fit = both-true (membersAgree t s) _ (both-true (rowsNamed t s) _ (both-true (rowsFormed (l .rows) (l .members) (l .name) t s) _ whole .1) .1) .1
 
   -- ---- the facts of a row
   -- at least one row, at most as many as the limit
@@ -50,7 +53,7 @@ module _ (l : Limits) (t : List ℕ) (ok : admitted l t ≡ true) where
 
   pub row-0-is-type : isType t s 0 ≡ true
   unfolding rowsFormed firstIsType
-  row-0-is-type = both-true (everyRow (bodyFormed (l .members) t s) s) _ (both-true (wholeRows (l .rows) s) _ formed .1) .1
+  row-0-is-type = both-true (everyRow (bodyFormed (l .members) (l .name) t s) s) _ (both-true (wholeRows (l .rows) s) _ formed .1) .1
 
   points : everyRow (pointsLater t s) s ≡ true
   points = named-points t s named
@@ -67,9 +70,9 @@ module _ (l : Limits) (t : List ℕ) (ok : admitted l t ≡ true) where
   names-later = is-later t s points stands
 
   module _ (i : ℕ) (here : i < length s) where
-    pub body-formed : bodyFormed (l .members) t s i ≡ true
+    pub body-formed : bodyFormed (l .members) (l .name) t s i ≡ true
     unfolding rowsFormed
-    body-formed = all-at (bodyFormed (l .members) t s) (length s) i (both-true (everyRow (bodyFormed (l .members) t s) s) _ (both-true (wholeRows (l .rows) s) _ formed .1) .0) here
+    body-formed = all-at (bodyFormed (l .members) (l .name) t s) (length s) i (both-true (everyRow (bodyFormed (l .members) (l .name) t s) s) _ (both-true (wholeRows (l .rows) s) _ formed .1) .0) here
 
     pub points-later : pointsLater t s i ≡ true
     points-later = all-at (pointsLater t s) (length s) i points here
@@ -114,3 +117,17 @@ module _ (l : Limits) (t : List ℕ) (ok : admitted l t ≡ true) where
     pub begins-with : (m : List ℕ) → Masked (l .chain) t s m → (g : ℕ) → g < 64 → bitOf (rowAt m i) g ≡ begins (typeAt l t i) g
     unfolding typeAt
     begins-with m masked g h = masked .says i here g h
+
+-- ---- the two clauses of the table check are one equation
+pub whole-answer : (bytes : ℕ) (l : Limits) (t : List ℕ) (r : TableCheck) → isRefused 1 (report r) ≡ no (tableFits bytes t)
+    → (isRefused 1 (report r) ≡ false → report r ≡ admission l t) → report r ≡ tableReport bytes l t
+unfolding tableReport
+whole-answer bytes l t r size answer = go (tableFits bytes t) refl
+  where
+    refused-1 : (r : TableCheck) → isRefused 1 (report r) ≡ true → report r ≡ refused 1
+    refused-1 (TableCheck.Admitted n) e = absurd (false≢true e)
+    refused-1 (TableCheck.Refused n) e = ap refused (eqb-true n 1 e)
+
+    go : (x : Bool) → tableFits bytes t ≡ x → report r ≡ pick x (admission l t) (refused 1)
+    go true q = answer (size ∙ ap no q)
+    go false q = refused-1 r (size ∙ ap no q)

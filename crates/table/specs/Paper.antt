@@ -6,8 +6,11 @@ use lib.ListN.{length, take, replicate}
 use Rattle.octets.specs.Octets.{bytes}
 use Rattle.rows.specs.Limits.{Limits}
 
+abbrev pub tableBytes : ℕ
+tableBytes = 4992
+
 abbrev pub tableLimits : Limits
-tableLimits = record { bytes = 4992; rows = 128; chain = 16; members = 16 }
+tableLimits = record { rows = 128; chain = 16; members = 16; name = 24 }
 
 -- n octets, filled with zeros
 abbrev pub fill : ℕ → List ℕ → List ℕ

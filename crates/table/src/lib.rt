@@ -1,6 +1,6 @@
 // The type table: the tags that each row can begin with, and admission.
 ghost use mathlib.Core.Path.{_≡_};
-ghost use mathlib.Core.Bool.{true};
+ghost use mathlib.Core.Bool.{true, false};
 ghost use Prim.Native.Nat.{_≤_, _<_, _+_, _-_, _^_};
 ghost use lib.ListN.{length, take};
 ghost use Rattle.der.specs.Tag.{universal};
@@ -9,7 +9,8 @@ ghost use Rattle.groups.specs.Clauses as clause;
 ghost use Rattle.table.specs.Admitted as admitted;
 ghost use Rattle.rows.specs.Limits.{limits};
 ghost use Rattle.table.specs.Work as work;
-ghost use Rattle.table.specs.Check.{report, tableReport};
+ghost use Rattle.octets.specs.Pick.{no};
+ghost use Rattle.table.specs.Check.{report, isRefused, tableFits, admission};
 
 // The answer of the table check: the number of rows, or a refusal.
 pub enum TableCheck {
@@ -158,7 +159,7 @@ fn tags_differ(t: &[u8], s: &[usize], m: &mut [u64]) -> bool
 
 // ---- admission
 fn rows_formed(t: &[u8], s: &[usize]) -> bool
-    ensures { λ r. do ⌜ r ≡ admitted.rowsFormed (← ⟦rows::Table::MAX_ROWS⟧ .entry) (← ⟦rows::Table::MAX_MEMBERS⟧ .entry) (now (t .entry)) (now (s .entry)) ⌝ }
+    ensures { λ r. do ⌜ r ≡ admitted.rowsFormed (← ⟦rows::Table::MAX_ROWS⟧ .entry) (← ⟦rows::Table::MAX_MEMBERS⟧ .entry) (← ⟦rows::Table::MAX_NAME⟧ .entry) (now (t .entry)) (now (s .entry)) ⌝ }
 {
     if s.len() < 1 {
         return false;
@@ -212,7 +213,7 @@ fn types_fit(t: &[u8], s: &[usize], m: &mut [u64]) -> bool
 fn admit_rows(t: &[u8], s: &[usize], m: &mut [u64]) -> bool
     requires space { do ⌜ length (now m) ≡ (← ⟦rows::Table::MAX_ROWS⟧) ⌝ }
     requires few { do ⌜ length (now s) ≤ (← ⟦rows::Table::MAX_ROWS⟧) ⌝ }
-    ensures told { λ r. do ⌜ r ≡ admitted.admittedRows (limits (← ⟦rows::Table::MAX_BYTES⟧ .entry) (← ⟦rows::Table::MAX_ROWS⟧ .entry) (← ⟦rows::Table::MAX_CHAIN⟧ .entry) (← ⟦rows::Table::MAX_MEMBERS⟧ .entry)) (now (t .entry)) (now (s .entry)) ⌝ }
+    ensures told { λ r. do ⌜ r ≡ admitted.admittedRows (limits (← ⟦rows::Table::MAX_ROWS⟧ .entry) (← ⟦rows::Table::MAX_CHAIN⟧ .entry) (← ⟦rows::Table::MAX_MEMBERS⟧ .entry) (← ⟦rows::Table::MAX_NAME⟧ .entry)) (now (t .entry)) (now (s .entry)) ⌝ }
     ensures sets { λ r. do ⌜ (r ≡ true → work.Masked (← ⟦rows::Table::MAX_CHAIN⟧ .entry) (now (t .entry)) (now (s .entry)) (now (m .exit))) ⌝ }
 {
     if !rows_formed(t, s) {
@@ -231,7 +232,7 @@ fn admit_rows(t: &[u8], s: &[usize], m: &mut [u64]) -> bool
 pub fn admit_table(t: &[u8], starts: &mut [usize], masks: &mut [u64]) -> usize
     requires places { do ⌜ length (now starts) ≡ (← ⟦rows::Table::MAX_ROWS⟧) ⌝ }
     requires sets { do ⌜ length (now masks) ≡ (← ⟦rows::Table::MAX_ROWS⟧) ⌝ }
-    ensures count { λ r. do ⌜ r ≡ admitted.rowCount (limits (← ⟦rows::Table::MAX_BYTES⟧ .entry) (← ⟦rows::Table::MAX_ROWS⟧ .entry) (← ⟦rows::Table::MAX_CHAIN⟧ .entry) (← ⟦rows::Table::MAX_MEMBERS⟧ .entry)) (now (t .entry)) ⌝ }
+    ensures count { λ r. do ⌜ r ≡ admitted.rowCount (limits (← ⟦rows::Table::MAX_ROWS⟧ .entry) (← ⟦rows::Table::MAX_CHAIN⟧ .entry) (← ⟦rows::Table::MAX_MEMBERS⟧ .entry) (← ⟦rows::Table::MAX_NAME⟧ .entry)) (now (t .entry)) ⌝ }
     ensures leaves { λ r. do ⌜ work.Admits (← ⟦rows::Table::MAX_ROWS⟧ .entry) (← ⟦rows::Table::MAX_CHAIN⟧ .entry) (now (t .entry)) r (now (starts .exit)) (now (masks .exit)) ⌝ }
 {
     let n = rows::scan(t, starts);
@@ -243,7 +244,8 @@ pub fn admit_table(t: &[u8], starts: &mut [usize], masks: &mut [u64]) -> usize
 
 // The table check: any octets.
 pub fn check_table(table: &[u8]) -> TableCheck
-    ensures { λ r. do ⌜ report r ≡ tableReport (limits (← ⟦rows::Table::MAX_BYTES⟧ .entry) (← ⟦rows::Table::MAX_ROWS⟧ .entry) (← ⟦rows::Table::MAX_CHAIN⟧ .entry) (← ⟦rows::Table::MAX_MEMBERS⟧ .entry)) (now (table .entry)) ⌝ }
+    ensures size { λ r. do ⌜ isRefused 1 (report r) ≡ no (tableFits (← ⟦rows::Table::MAX_BYTES⟧ .entry) (now (table .entry))) ⌝ }
+    ensures answer { λ r. do ⌜ (isRefused 1 (report r) ≡ false → report r ≡ admission (limits (← ⟦rows::Table::MAX_ROWS⟧ .entry) (← ⟦rows::Table::MAX_CHAIN⟧ .entry) (← ⟦rows::Table::MAX_MEMBERS⟧ .entry) (← ⟦rows::Table::MAX_NAME⟧ .entry)) (now (table .entry))) ⌝ }
 {
     if table.len() < 1 {
         return TableCheck::Refused(1);

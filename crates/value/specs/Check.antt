@@ -30,10 +30,13 @@ valueFits l v = within (l .least) (l .most) (length v)
 unfoldable pub isStored : table.Limits → List ℕ → List ℕ → Bool
 isStored l t v = isSome (storedValue (typeAt l t 0) v)
 
-unfoldable pub valueReport : table.Limits → Limits → List ℕ → List ℕ → ValueReport
-valueReport tl vl t v =
-    pick (both (tableFits tl t) (valueFits vl v))
-    (pick (admitted tl t)
-    (pick (isStored tl t v) good (refused 4))
-    (refused 2))
-    (refused 1)
+-- refusal 2, then 4
+unfoldable pub storage : table.Limits → List ℕ → List ℕ → ValueReport
+storage tl t v = pick (admitted tl t) (pick (isStored tl t v) good (refused 4)) (refused 2)
+
+-- the sizes of a table, of at most so many octets, and of a value
+unfoldable pub sizesFit : ℕ → Limits → List ℕ → List ℕ → Bool
+sizesFit bytes vl t v = both (tableFits bytes t) (valueFits vl v)
+
+unfoldable pub valueReport : ℕ → table.Limits → Limits → List ℕ → List ℕ → ValueReport
+valueReport bytes tl vl t v = pick (sizesFit bytes vl t v) (storage tl t v) (refused 1)

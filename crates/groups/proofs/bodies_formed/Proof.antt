@@ -11,7 +11,7 @@ use Rattle.groups.proofs.bodies_formed.Statement.{statement}
 use Rattle.groups.proofs.bodies_formed.Tie as tie
 
 abbrev Inv-loop : tie.InvT-loop
-Inv-loop t s i₀ i = (i ≤ length s) × (all (bodyFormed 16 t s) i ≡ true)
+Inv-loop t s i₀ i = (i ≤ length s) × (all (bodyFormed 16 24 t s) i ≡ true)
 
 abbrev μ-loop : tie.MeasureT-loop
 μ-loop t s i₀ i = length s - i
@@ -22,7 +22,7 @@ bodies-formed-spec =
     (tie.spec
     Inv-loop
     μ-loop
-    (λ c. (search needs, all-none (bodyFormed 16 _ _)))  -- loop-holds
+    (λ c. (search needs, all-none (bodyFormed 16 24 _ _)))  -- loop-holds
     (λ c κs. search needs)  -- body-formed-requires
     (λ c. search all-bad)  -- returns
     (λ c. search needs)  -- add-i
