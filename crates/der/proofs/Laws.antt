@@ -2,15 +2,15 @@
 use mathlib.Core.Path.{_≡_, refl, sym, ap, _∙_}
 use mathlib.Core.Bool.{Bool, true, false, false≢true}
 use mathlib.Core.List.{List}
-use Prim.Native.Nat.{ℕ, _≤_, _<_, _+_, _-_}
+use Prim.Native.Nat.{ℕ, _≤_, _<_, _+_, _-_, _%_}
 use native.Mathlib.Omega.{arith}
 use borrow.Author.Tests.{ltb-false, leb-true, leb-false, eqb-true, eqb-false, eq-eqb}
 use lib.Dec.{ltb, leb, eqb}
 use lib.ListN.{length}
 use Rattle.octets.specs.Octets.{octet}
-use Rattle.octets.specs.Pick.{both}
+use Rattle.octets.specs.Pick.{pick, both}
 use Rattle.octets.proofs.Laws.{pick-cases}
-use Rattle.der.specs.Tag.{number}
+use Rattle.der.specs.Tag.{class, number, tagOf}
 use Rattle.der.specs.Header.{longLength, lengthAt, sized, headerAt, tagged, insideAt, anyTag}
 use Rattle.der.specs.Kind as kind
 use Rattle.der.specs.Contents.{legalBoolean, legalInteger, legalOid, legalBits, legalText, legal}
@@ -23,6 +23,15 @@ use Rattle.der.specs.declared.Length.{Length}
 pub number-small : (o : ℕ) → number o < 32
 unfolding number
 number-small o = omega arith
+
+pub tag-small : (o : ℕ) → tagOf o < 64
+unfolding tagOf number
+tag-small o = go (eqb (class o) 0) (eqb (class o) 2)
+  where
+    go : (x y : Bool) → pick x (o % 32) (pick y (32 + o % 32) 31) < 64
+    go true y = omega arith
+    go false true = omega arith
+    go false false = omega arith
 
 -- ---- lengths
 -- the place after a length lies after the length's own place, and within the end

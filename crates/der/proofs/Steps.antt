@@ -36,7 +36,7 @@ module _ (o k : ℕ) (read : k ≡ class o) where
     unfolding tagOf
     tag-context k' n read' g e = rw (ne-eqb (class o) 0 (λ z. h (read ∙ z)), eq-eqb (class o) 2 (sym read' ∙ g)) e
 
-    pub tag-other : (k' : ℕ) → k' ≡ class o → (k' ≡ 2 → ⊥) → 64 ≡ tagOf o
+    pub tag-other : (k' : ℕ) → k' ≡ class o → (k' ≡ 2 → ⊥) → 31 ≡ tagOf o
     unfolding tagOf
     tag-other k' read' g = rw (ne-eqb (class o) 0 (λ z. h (read ∙ z)), ne-eqb (class o) 2 (λ z. g (read' ∙ z)))
 

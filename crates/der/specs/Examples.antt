@@ -20,7 +20,7 @@ use Rattle.der.specs.Computing.{derComputes}
 
 -- 30 and A0 and 9E, by class, constructed and number
 tags : map class (hex "30A09E") ++ map constructed (hex "30A09E") ++ map number (hex "30A09E") ++ map tagOf (hex "30A09E41C1")
-    ≡ 0 ∷ 2 ∷ 2 ∷ 1 ∷ 1 ∷ 0 ∷ 16 ∷ 0 ∷ 30 ∷ 16 ∷ 32 ∷ 62 ∷ 64 ∷ 64 ∷ []
+    ≡ 0 ∷ 2 ∷ 2 ∷ 1 ∷ 1 ∷ 0 ∷ 16 ∷ 0 ∷ 30 ∷ 16 ∷ 32 ∷ 62 ∷ 31 ∷ 31 ∷ []
 unfolding derComputes
 tags = refl
 

@@ -14,14 +14,14 @@ constructed o = o / 32 % 2
 unfoldable pub number : ℕ → ℕ
 number o = o % 32
 
--- A tag by class and number, as types are told apart: n for universal n, 32 + n for context n, 64 for any other
+-- A tag by class and number, as types are told apart: n for universal n, 32 + n for context n, and for any other 31, which is not used
 abbrev pub context : ℕ → ℕ
 context n = 32 + n
 
 unfoldable pub tagOf : ℕ → ℕ
 tagOf o =
     pick (eqb (class o) 0) (number o)
-    (pick (eqb (class o) 2) (context (number o)) 64)
+    (pick (eqb (class o) 2) (context (number o)) 31)
 
 -- the universal tag of a kind (X.680); 16 for SEQUENCE and SEQUENCE OF. A CHOICE has none of its own, and none is asked of it
 unfoldable pub universalText : ℕ → ℕ

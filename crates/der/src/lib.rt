@@ -85,7 +85,7 @@ pub fn tag_of(o: u8) -> u8
     if class(o) == 2 {
         return context_of(o);
     }
-    64
+    31
 }
 
 fn universal_text(kind: u8) -> u8

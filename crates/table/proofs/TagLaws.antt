@@ -38,7 +38,7 @@ context-small : (n : ℕ) → contextBit n < 2 ^ 64
 unfolding contextBit
 context-small n = pick-small (ltb n 32) (2 ^ (32 + n)) 0 (2 ^ 64) (λ e. let l = ltb-true n 32 e in let h : 32 + n < 64 = omega arith in pow-lt h) (λ e. omega arith)
 
-context-bits : (n g : ℕ) → g < 64 → bitOf (contextBit n) g ≡ eqb g (context n)
+pub context-bits : (n g : ℕ) → g < 64 → bitOf (contextBit n) g ≡ eqb g (context n)
 unfolding contextBit
 context-bits n g h = go (ltb n 32) refl
   where
@@ -47,7 +47,7 @@ context-bits n g h = go (ltb n 32) refl
     go false e = let l = ltb-false n 32 e in bit-none g ∙ sym (ne-eqb g (32 + n) (λ z. omega arith))
 
 -- ---- members as the table has them
-tagged-as : (mode n g : ℕ) (own : Bool) → asTagged (taggingOf mode n) own g ≡ pick (eqb mode 0) own (eqb g (context n))
+pub tagged-as : (mode n g : ℕ) (own : Bool) → asTagged (taggingOf mode n) own g ≡ pick (eqb mode 0) own (eqb g (context n))
 unfolding taggingOf
 tagged-as mode n g own = go (eqb mode 0) (eqb mode 1)
   where

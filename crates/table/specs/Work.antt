@@ -10,9 +10,10 @@ use lib.Bits.{bitAnd, bitOr}
 use Rattle.octets.specs.Pick.{pick, both, either}
 use Rattle.der.specs.Kind as kind
 use Rattle.der.specs.Tag.{universal}
-use Rattle.rows.specs.Row.{kindAt, modeAt, numberAt, typeRowAt, rows, rowAt, membersAt}
-use Rattle.groups.specs.Clauses.{memberPlace, mandatoryAt}
-use Rattle.table.specs.Types.{typeFrom}
+use Rattle.rows.specs.Row.{kindAt, elementAt, modeAt, numberAt, typeRowAt, rows, rowAt, membersAt}
+use Rattle.groups.specs.Clauses.{memberPlace, mandatoryAt, defaultLegal}
+use Rattle.groups.specs.Work.{Later}
+use Rattle.table.specs.Types.{membersFrom, typed, typeFrom}
 use Rattle.table.specs.Begins.{begins}
 
 -- bit g of n is set
@@ -67,6 +68,16 @@ masksDiffer m t s i = differFrom m t s i (membersAt t (rowAt s i)) 0
 -- the array m has the set of tags of each row
 pub record Masked (chain : ℕ) (t s m : List ℕ) : Type 0 where
   pub says : (j : ℕ) → j < length s → (g : ℕ) → g < 64 → bitOf (rowAt m j) g ≡ begins (typeFrom chain t s j) g
+
+-- what the layers above use of an admitted table, its rows s and the sets m: the rows that rows name, the types of rows by the types of those,
+-- members after their rows, defaults, and the sets of tags
+pub record Sound (chain : ℕ) (t s m : List ℕ) : Type 0 where
+  pub later : Later t s
+  pub step : (i : ℕ) → i < length s → typeFrom chain t s i ≡ typed (kindAt t (rowAt s i)) (typeFrom chain t s (elementAt t (rowAt s i))) (membersFrom (typeFrom chain t s) t s (i + 1) (membersAt t (rowAt s i)))
+  pub stands : (i : ℕ) → i < length s → (j : ℕ) → j < membersAt t (rowAt s i) → i + 1 + j < length s
+  pub members : (i : ℕ) → i < length s → (j : ℕ) → j < membersAt t (rowAt s i) → kindAt t (memberPlace s i j) ≡ kind.member
+  pub defaults : (i : ℕ) → i < length s → defaultLegal t s i ≡ true
+  pub masked : Masked chain t s m
 
 -- what the check of a table leaves for the layers above, where it has n rows: the places of the rows, and their sets of tags
 pub record Admits (most chain : ℕ) (t : List ℕ) (n : ℕ) (starts masks : List ℕ) : Type 0 where

@@ -3,7 +3,7 @@ ghost use mathlib.Core.Path.{_≡_};
 ghost use mathlib.Core.Bool.{true, false};
 ghost use Prim.Native.Nat.{_≤_, _<_, _+_, _-_, _^_};
 ghost use lib.ListN.{length, take};
-ghost use Rattle.der.specs.Tag.{universal};
+ghost use Rattle.der.specs.Tag.{tagOf, universal};
 ghost use Rattle.rows.specs.Row as row;
 ghost use Rattle.groups.specs.Clauses as clause;
 ghost use Rattle.table.specs.Admitted as admitted;
@@ -51,6 +51,15 @@ fn member_mask(m: &[u64], t: &[u8], p: usize) -> u64
         return kept(m, rows::type_row_at(t, p));
     }
     context_bit(rows::number_at(t, p))
+}
+
+// Whether a member can begin with the tag of an octet: that tag's bit of its set.
+pub fn member_begins(m: &[u64], t: &[u8], p: usize, o: u8) -> bool
+    ensures { λ r. ⌜ r ≡ work.bitOf (work.memberMask (now (m .entry)) (now (t .entry)) p) (tagOf o) ⌝ }
+{
+    let set = member_mask(m, t, p);
+    let tag = der::tag_of(o);
+    (set >> tag) & 1 == 1
 }
 
 fn group_mask(m: &[u64], t: &[u8], s: &[usize], i: usize, n: usize) -> u64

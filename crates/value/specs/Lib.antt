@@ -2,6 +2,8 @@ pub mod Limits
 pub mod Value
 pub mod Order
 pub mod Decode
+pub mod Lies
+pub mod Work
 pub mod Check
 pub mod Part
 pub mod Computing

@@ -1,0 +1,135 @@
+-- The functions outside the cycle: one lemma for each return and each turn of a loop; its premises are the facts as the code has them.
+use mathlib.Core.Path.{_≡_, refl, sym, ap, ap₂, _∙_}
+use mathlib.Core.Bool.{Bool, true, false, not}
+use mathlib.Core.List.{List}
+use Prim.Native.Nat.{ℕ, zero, suc, _≤_, _<_, _+_, _-_}
+use native.Mathlib.Omega.{arith}
+use borrow.Author.Tests.{eq-eqb, ne-eqb, lt-ltb, le-ltb}
+use lib.Dec.{ltb, eqb}
+use Rattle.octets.specs.Pick.{pick}
+use Rattle.octets.specs.Octets.{octet, part, same}
+use Rattle.der.specs.Tag.{tagOf, ownOctet, implicitOctet, wrapperOctet}
+use Rattle.der.specs.Header.{insideAt}
+use Rattle.der.specs.Contents.{legal}
+use Rattle.der.specs.Order.{notAbove}
+use Rattle.der.specs.declared.Inside.{Inside}
+use Rattle.der.proofs.Laws.{inside-within}
+use Rattle.groups.specs.Clauses.{memberPlace}
+use Rattle.table.specs.Types.{Tagging, untagged, explicit, implicit, taggingOf}
+use Rattle.table.specs.Work.{bitOf, memberMask}
+use Rattle.value.specs.Decode.{tagOctet}
+use Rattle.value.specs.Work.{upTo, first, marked, markedOf, contentsAt, holds, neighbours}
+use Rattle.value.specs.declared.Checked.{Checked}
+
+-- ---- tags
+module _ (mode n k : ℕ) where
+  pub octet-none : (r : ℕ) → mode ≡ 0 → r ≡ ownOctet k → r ≡ tagOctet (taggingOf mode n) k
+  unfolding taggingOf
+  octet-none r h e = rw (eq-eqb mode 0 h) e
+
+  module _ (h : mode ≡ 0 → ⊥) where
+    pub octet-explicit : (r : ℕ) → mode ≡ 1 → r ≡ ownOctet k → r ≡ tagOctet (taggingOf mode n) k
+    unfolding taggingOf
+    octet-explicit r g e = rw (ne-eqb mode 0 h, eq-eqb mode 1 g) e
+
+    pub octet-implicit : (r : ℕ) → (mode ≡ 1 → ⊥) → r ≡ implicitOctet n k → r ≡ tagOctet (taggingOf mode n) k
+    unfolding taggingOf
+    octet-implicit r g e = rw (ne-eqb mode 0 h, ne-eqb mode 1 g) e
+
+  -- ---- contents under a tag mode
+  module _ (v : List ℕ) (at end : ℕ) where
+    pub contents-plain : (o : ℕ) (r : Inside) → (mode ≡ 1 → ⊥) → o ≡ tagOctet (taggingOf mode n) k → r ≡ insideAt o v at end → r ≡ contentsAt (taggingOf mode n) k v at end
+    unfolding contentsAt taggingOf
+    contents-plain o r g e q = go (eqb mode 0) (e' ∙ refl)
+      where
+        e' : o ≡ tagOctet (pick (eqb mode 0) untagged (pick (eqb mode 1) (explicit n) (implicit n))) k
+        e' = e
+
+        off : eqb mode 1 ≡ false
+        off = ne-eqb mode 1 g
+
+        go : (x : Bool) → o ≡ tagOctet (pick x untagged (pick (eqb mode 1) (explicit n) (implicit n))) k → r ≡ contentsAt (pick x untagged (pick (eqb mode 1) (explicit n) (implicit n))) k v at end
+        go true f = q ∙ ap (λ (y : ℕ). insideAt y v at end) f
+        go false f = rw off (q ∙ ap (λ (y : ℕ). insideAt y v at end) (rw off at f))
+
+    module _ (w : ℕ) (h : Inside) (g : mode ≡ 1) (e : w ≡ wrapperOctet n) (told : h ≡ insideAt w v at end) where
+      is-explicit : taggingOf mode n ≡ explicit n
+      unfolding taggingOf
+      is-explicit = rw g
+
+      pub contents-misfit : h ≡ Inside.Misfit → Inside.Misfit ≡ contentsAt (taggingOf mode n) k v at end
+      unfolding contentsAt
+      contents-misfit m = rw (is-explicit, ← e, ← told, m)
+
+      pub contents-inside : (start c o : ℕ) (r : Inside) → h ≡ Inside.Of start c → o ≡ ownOctet k → r ≡ insideAt o v start (start + c) → r ≡ contentsAt (taggingOf mode n) k v at end
+      unfolding contentsAt
+      contents-inside start c o r m f q = rw (is-explicit, ← e, ← told, m) (q ∙ ap (λ (y : ℕ). insideAt y v start (start + c)) f)
+
+-- contents lie within an end, which is one of the language's numbers
+pub inside-fits : (o : ℕ) (v : List ℕ) (at end start n : ℕ) (h : Inside) → h ≡ insideAt o v at end → h ≡ Inside.Of start n → end < 18446744073709551616 → start + n < 18446744073709551616
+inside-fits o v at end start n h e q l = let w = inside-within o v at end start n (sym e ∙ q) in omega arith
+
+-- ---- a default that is stored
+module _ (v d : List ℕ) (g : Tagging) (k at end : ℕ) (h : Inside) (e : h ≡ contentsAt g k v at end) where
+  pub holds-none : h ≡ Inside.Misfit → false ≡ holds v d (contentsAt g k v at end)
+  holds-none m = rw (← e, m)
+
+  pub holds-same : (start n : ℕ) (c : List ℕ) (r : Bool) → h ≡ Inside.Of start n → c ≡ part v start n → r ≡ same c d → r ≡ holds v d (contentsAt g k v at end)
+  holds-same start n c r m f q = rw (← e, m) (q ∙ ap (λ (x : List ℕ). same x d) f)
+
+-- ---- neighbours
+module _ (k : ℕ) (v : List ℕ) (before i next : ℕ) where
+  pub order-any : k ≡ 14 → true ≡ neighbours k v before i next
+  unfolding neighbours
+  order-any h = rw (eq-eqb k 14 h)
+
+  pub order-is : (a b : List ℕ) (r : Bool) → (k ≡ 14 → ⊥) → a ≡ part v before (i - before) → b ≡ part v i (next - i) → r ≡ notAbove a b → r ≡ neighbours k v before i next
+  unfolding neighbours
+  order-is a b r h e f q = rw (ne-eqb k 14 h) (q ∙ ap₂ notAbove e f)
+
+-- ---- contents of a basic kind
+module _ (stop : ℕ) (r x : Bool) (e : r ≡ x) where
+  pub up-to : r ≡ true → Checked.At stop ≡ upTo stop x
+  up-to h = rw (sym e ∙ h)
+
+  pub up-not : r ≡ false → Checked.Bad ≡ upTo stop x
+  up-not h = rw (sym e ∙ h)
+
+-- ---- members by their sets of tags
+module _ (m t : List ℕ) (p : ℕ) (v : List ℕ) (stop i : ℕ) where
+  pub marked-past : stop ≤ i → false ≡ marked m t p v stop i
+  unfolding marked
+  marked-past h = rw (le-ltb i stop h)
+
+  pub marked-is : (o : ℕ) (r : Bool) → i < stop → o ≡ octet v i → r ≡ bitOf (memberMask m t p) (tagOf o) → r ≡ marked m t p v stop i
+  unfolding marked
+  marked-is o r h e q = rw (lt-ltb i stop h) (q ∙ ap (λ (x : ℕ). bitOf (memberMask m t p) (tagOf x)) e)
+
+pub first-none : (f : ℕ → Bool) (a : ℕ) → a ≡ first f 0 a
+unfolding first
+first-none f a = refl
+
+first-step : (f : ℕ → Bool) (k a : ℕ) → first f (suc k) a ≡ pick (f a) a (first f k (a + 1))
+unfolding first
+first-step f k a = refl
+
+module _ (m t s : List ℕ) (row : ℕ) (v : List ℕ) (stop i n j : ℕ) (inv : first (markedOf m t s row v stop i) n 0 ≡ first (markedOf m t s row v stop i) (n - j) j) where
+  abbrev f : ℕ → Bool
+  f = markedOf m t s row v stop i
+
+  opens : j < n → first f (n - j) j ≡ pick (f j) j (first f (n - (j + 1)) (j + 1))
+  opens l = let q : n - j ≡ suc (n - (j + 1)) = omega arith in ap (λ (x : ℕ). first f x j) q ∙ first-step f (n - (j + 1)) j
+
+  module _ (l : j < n) (p : ℕ) (r : Bool) (placed : p ≡ memberPlace s row j) (told : r ≡ marked m t p v stop i) where
+    here : r ≡ f j
+    unfolding markedOf
+    here = told ∙ ap (λ (x : ℕ). marked m t x v stop i) placed
+
+    pub first-found : r ≡ true → j ≡ first f n 0
+    first-found h = sym (inv ∙ opens l ∙ ap (λ (x : Bool). pick x j (first f (n - (j + 1)) (j + 1))) (sym here ∙ h))
+
+    pub first-again : r ≡ false → first f n 0 ≡ first f (n - (j + 1)) (j + 1)
+    first-again h = inv ∙ opens l ∙ ap (λ (x : Bool). pick x j (first f (n - (j + 1)) (j + 1))) (sym here ∙ h)
+
+  pub first-done : n ≤ j → j ≡ first f n 0
+  first-done h = let q : n - j ≡ 0 = omega arith in first-none f j ∙ ap (λ (x : ℕ). first f x j) (sym q) ∙ sym inv

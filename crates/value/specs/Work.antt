@@ -1,0 +1,77 @@
+-- What the functions of the check answer, by the definitions: the place after a value that is as its row says, or none.
+use Prim.Native.Nat.{ℕ, zero, suc, _+_, _-_}
+use mathlib.Core.Bool.{Bool, false}
+use mathlib.Core.Option.{Option, none, some}
+use mathlib.Core.List.{List}
+use lib.Dec.{ltb, eqb}
+use Rattle.octets.specs.Pick.{pick, both, either, bind, isSome}
+use Rattle.octets.specs.Octets.{octet, part, same}
+use Rattle.der.specs.Kind as kind
+use Rattle.der.specs.Tag.{tagOf, ownOctet, wrapperOctet}
+use Rattle.der.specs.Header.{insideAt}
+use Rattle.der.specs.Order.{notAbove}
+use Rattle.der.specs.declared.Inside.{Inside}
+use Rattle.groups.specs.Clauses.{memberPlace}
+use Rattle.table.specs.Types.{Tagging, untagged, explicit, implicit, Member, Ty, Members}
+use Rattle.table.specs.Begins.{isMandatory}
+use Rattle.table.specs.Work.{bitOf, memberMask}
+use Rattle.value.specs.Value.{Values}
+use Rattle.value.specs.Order.{rising}
+use Rattle.value.specs.Decode.{Decoded, tagOctet, startsHere, unlessDefault, many, unwrapped, fieldsFrom, decode}
+use Rattle.value.specs.declared.Checked.{Checked}
+
+-- the place after a value, where there is one
+abbrev pub told : Option Decoded → Checked
+told none = Checked.Bad
+told (some d) = Checked.At (d .after)
+
+-- up to a place, where a test holds
+abbrev pub upTo : ℕ → Bool → Checked
+upTo stop ok = pick ok (Checked.At stop) Checked.Bad
+
+-- ---- the first number, of k from a on, for which a test holds; a + k where there is none
+unfoldable pub first : (ℕ → Bool) → ℕ → ℕ → ℕ
+first f zero a = a
+first f (suc k) a = let r = first f k (a + 1) in pick (f a) a r
+
+-- the set of the member row at p has the tag of the octet at i, which lies before stop
+unfoldable pub marked : List ℕ → List ℕ → ℕ → List ℕ → ℕ → ℕ → Bool
+marked m t p v stop i = both (ltb i stop) (bitOf (memberMask m t p) (tagOf (octet v i)))
+
+unfoldable pub markedOf : List ℕ → List ℕ → List ℕ → ℕ → List ℕ → ℕ → ℕ → ℕ → Bool
+markedOf m t s row v stop i j = marked m t (memberPlace s row j) v stop i
+
+-- ---- a default that is stored: the contents of a basic value under a tag mode
+abbrev pub within : (ℕ → ℕ → Inside) → Inside → Inside
+within f Inside.Misfit = Inside.Misfit
+within f (Inside.Of start n) = f start (start + n)
+
+unfoldable pub contentsAt : Tagging → ℕ → List ℕ → ℕ → ℕ → Inside
+contentsAt untagged k v at end = insideAt (tagOctet untagged k) v at end
+contentsAt (implicit n) k v at end = insideAt (tagOctet (implicit n) k) v at end
+contentsAt (explicit n) k v at end = within (insideAt (tagOctet (explicit n) k) v) (insideAt (wrapperOctet n) v at end)
+
+abbrev pub holds : List ℕ → List ℕ → Inside → Bool
+holds v c Inside.Misfit = false
+holds v c (Inside.Of start n) = same (part v start n) c
+
+-- ---- members and elements
+-- one member: the place after it, or its own where it is not there and may be absent
+unfoldable pub memberTold : Member → Ty → List ℕ → ℕ → ℕ → Checked
+memberTold m ty v stop i =
+    let there = told (bind (decode ty (m .tagging) v i stop) (unlessDefault m)) in
+    pick (startsHere m ty v stop i) there (pick (isMandatory (m .presence)) Checked.Bad (Checked.At i))
+
+unfoldable pub fieldsTold : Members → List ℕ → ℕ → ℕ → Checked
+fieldsTold ms v stop i = upTo stop (isSome (fieldsFrom ms v stop i))
+
+abbrev pub inOrder : ℕ → List ℕ → Option Values → Bool
+inOrder k v none = false
+inOrder k v (some xs) = either (eqb k kind.sequenceOf) (rising v xs)
+
+unfoldable pub elementsTold : ℕ → Ty → List ℕ → ℕ → ℕ → Checked
+elementsTold k ty v stop i = upTo stop (inOrder k v (many (λ i stop. unwrapped ty untagged v i stop) (stop - i) stop i))
+
+-- the octets from before to i, and from i to next, as neighbours in a list of kind k
+unfoldable pub neighbours : ℕ → List ℕ → ℕ → ℕ → ℕ → Bool
+neighbours k v before i next = either (eqb k kind.sequenceOf) (notAbove (part v before (i - before)) (part v i (next - i)))
