@@ -9,6 +9,7 @@ use Rattle.octets.specs.Pick.{pick, no}
 use Rattle.octets.proofs.Laws.{both-true, all-at}
 use Rattle.rows.specs.Limits.{Limits}
 use Rattle.rows.specs.Row.{rows, rowAt, kindAt, elementAt, membersAt}
+use Rattle.rows.proofs.Laws.{MemberFacts, member-facts}
 use Rattle.groups.specs.Clauses.{everyRow, wholeRows, bodyFormed, isType, firstIsType, pointsLater, membersStand, memberPlace, namesDiffer, alternativesMandatory, noImplicitChoice, defaultLegal, chainFits}
 use Rattle.groups.specs.Work.{Later}
 use Rattle.groups.proofs.LaterSteps.{is-later, member-follows}
@@ -73,6 +74,10 @@ module _ (l : Limits) (t : List ℕ) (ok : admitted l t ≡ true) where
     pub body-formed : bodyFormed (l .members) (l .name) t s i ≡ true
     unfolding rowsFormed
     body-formed = all-at (bodyFormed (l .members) (l .name) t s) (length s) i (both-true (everyRow (bodyFormed (l .members) (l .name) t s) s) _ (both-true (wholeRows (l .rows) s) _ formed .1) .0) here
+
+    pub member-formed : kindAt t (rowAt s i) ≡ 16 → MemberFacts (l .name) t (rowAt s i)
+    unfolding bodyFormed
+    member-formed k = member-facts (l .members) (l .name) t (rowAt s i) body-formed k
 
     pub points-later : pointsLater t s i ≡ true
     points-later = all-at (pointsLater t s) (length s) i points here

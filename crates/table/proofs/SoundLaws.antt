@@ -17,7 +17,7 @@ use Rattle.table.specs.Admitted.{admitted}
 use Rattle.table.specs.Work.{bitOf, contextBit, memberMask, Masked, Sound}
 use Rattle.table.proofs.BitSets.{bit-is}
 use Rattle.table.proofs.TagLaws.{tagged-as, context-bits}
-use Rattle.table.proofs.Laws.{names-later, type-step, member-stands, default-legal}
+use Rattle.table.proofs.Laws.{names-later, type-step, member-stands, member-formed, default-legal}
 
 pub sound : (l : Limits) (t m : List ℕ) → admitted l t ≡ true → Masked (l .chain) t (rows (l .rows) t) m → Sound (l .chain) t (rows (l .rows) t) m
 unfolding typeAt
@@ -26,6 +26,7 @@ sound l t m ok masked = record {
   step = type-step l t ok;
   stands = λ i h j g. member-stands l t ok i h j g .0;
   members = λ i h j g. member-stands l t ok i h j g .1;
+  presence = λ i h k. member-formed l t ok i h k .presence;
   defaults = default-legal l t ok;
   masked = masked;
 }

@@ -56,7 +56,7 @@ tagged-as mode n g own = go (eqb mode 0) (eqb mode 1)
     go false true = refl
     go false false = refl
 
-mandatory-as : (presence : ℕ) (c : List ℕ) → isMandatory (presenceOf presence c) ≡ eqb presence 0
+pub mandatory-as : (presence : ℕ) (c : List ℕ) → isMandatory (presenceOf presence c) ≡ eqb presence 0
 unfolding presenceOf
 mandatory-as presence c = go (eqb presence 0) (eqb presence 1)
   where

@@ -1,6 +1,6 @@
 -- What the pass over the rows computes, from the last row to the first, by the array m that it fills: for each row the set of tags that its type can
 -- begin with, as the bits of a number.
-use Prim.Native.Nat.{ℕ, zero, suc, _+_, _/_, _%_, _^_, _<_}
+use Prim.Native.Nat.{ℕ, zero, suc, _+_, _/_, _%_, _^_, _<_, _≤_}
 use mathlib.Core.Path.{_≡_}
 use lib.ListN.{length, take}
 use mathlib.Core.Bool.{Bool, true}
@@ -10,7 +10,7 @@ use lib.Bits.{bitAnd, bitOr}
 use Rattle.octets.specs.Pick.{pick, both, either}
 use Rattle.der.specs.Kind as kind
 use Rattle.der.specs.Tag.{universal}
-use Rattle.rows.specs.Row.{kindAt, elementAt, modeAt, numberAt, typeRowAt, rows, rowAt, membersAt}
+use Rattle.rows.specs.Row.{kindAt, elementAt, presenceAt, modeAt, numberAt, typeRowAt, rows, rowAt, membersAt}
 use Rattle.groups.specs.Clauses.{memberPlace, mandatoryAt, defaultLegal}
 use Rattle.groups.specs.Work.{Later}
 use Rattle.table.specs.Types.{membersFrom, typed, typeFrom}
@@ -76,6 +76,7 @@ pub record Sound (chain : ℕ) (t s m : List ℕ) : Type 0 where
   pub step : (i : ℕ) → i < length s → typeFrom chain t s i ≡ typed (kindAt t (rowAt s i)) (typeFrom chain t s (elementAt t (rowAt s i))) (membersFrom (typeFrom chain t s) t s (i + 1) (membersAt t (rowAt s i)))
   pub stands : (i : ℕ) → i < length s → (j : ℕ) → j < membersAt t (rowAt s i) → i + 1 + j < length s
   pub members : (i : ℕ) → i < length s → (j : ℕ) → j < membersAt t (rowAt s i) → kindAt t (memberPlace s i j) ≡ kind.member
+  pub presence : (i : ℕ) → i < length s → kindAt t (rowAt s i) ≡ kind.member → presenceAt t (rowAt s i) ≤ 2
   pub defaults : (i : ℕ) → i < length s → defaultLegal t s i ≡ true
   pub masked : Masked chain t s m
 

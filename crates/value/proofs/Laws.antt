@@ -39,7 +39,7 @@ pub record Own (v : List ℕ) (at end : ℕ) (d : Decoded) : Type 0 where
   pub ends : start + n ≡ d .after
   pub spot : spotAt v at start n ≡ spotOf (d .value)
 
-framed : (v : List ℕ) (at end : ℕ) (d : Decoded) → Own v at end d → Framed v at end d
+pub framed : (v : List ℕ) (at end : ℕ) (d : Decoded) → Own v at end d → Framed v at end d
 framed v at end d w = record { octet = w .octet; start = w .start; n = w .n; header = w .header; ends = w .ends }
 
 by-inside : (g : ℕ) (v : List ℕ) (at end start n : ℕ) (x : Value) (d : Decoded) → insideAt g v at end ≡ Inside.Of start n → spotAt v at start n ≡ spotOf x → record { value = x; after = start + n } ≡ d → Own v at end d
@@ -62,6 +62,7 @@ framed-by (explicit n) f v at end d own e = wrapped v at end d n f e
 
 mutual
   unfolding unwrapped
+
   pub own : (ty : Ty) (g : Tagging) (v : List ℕ) (at end : ℕ) (d : Decoded) → unwrapped ty g v at end ≡ some d → Own v at end d
   own (basic k) g v at end d e =
       let w = leaf-view v at end d k g e in by-inside (tagOctet g k) v at end (w .0) (w .1) (leaf k (spotAt v at (w .0) (w .1))) d (w .2) refl (w .4)
@@ -76,11 +77,11 @@ mutual
   own-choice (more m ty ms) v at end d e =
       pick-cases (λ (o : Option Decoded). o ≡ some d → Own v at end d) (startsHere m ty v end at) (choiceOf m v at end (inWrapper afterOf (m .tagging) (λ a e. unwrapped ty (m .tagging) v a e) v at end)) (alternativeFrom ms v at end)
       (λ t f.
-          let w = choice-view v at end d m (inWrapper afterOf (m .tagging) (λ a e. unwrapped ty (m .tagging) v a e) v at end) f in
-          let h = any-view v at end (w .1) (w .2) (w .4) in
-          let r = framed-by (m .tagging) (λ a e. unwrapped ty (m .tagging) v a e) v at end (w .0) (λ q. own ty (m .tagging) v at end (w .0) q) (w .3) in
-          let q = found-same (octet v at) (w .1) (w .2) (r .octet) (r .start) (r .n) (sym h ∙ r .header) in
-          record { octet = octet v at; start = w .1; n = w .2; header = h; ends = q ∙ r .ends ∙ ap afterOf (w .5); spot = ap (λ (y : Decoded). spotOf (y .value)) (w .5) })
+      let w = choice-view v at end d m (inWrapper afterOf (m .tagging) (λ a e. unwrapped ty (m .tagging) v a e) v at end) f in
+      let h = any-view v at end (w .1) (w .2) (w .4) in
+      let r = framed-by (m .tagging) (λ a e. unwrapped ty (m .tagging) v a e) v at end (w .0) (λ q. own ty (m .tagging) v at end (w .0) q) (w .3) in
+      let q = found-same (octet v at) (w .1) (w .2) (r .octet) (r .start) (r .n) (sym h ∙ r .header) in
+      record { octet = octet v at; start = w .1; n = w .2; header = h; ends = q ∙ r .ends ∙ ap afterOf (w .5); spot = ap (λ (y : Decoded). spotOf (y .value)) (w .5) })
       (λ t f. own-choice ms v at end d f) e
 
 -- ---- a decoded value lies from its place on, within its end, and takes at least two octets
@@ -249,6 +250,7 @@ absent-view m rest fs e = go (isMandatory (m .presence)) refl e
 
 mutual
   unfolding unwrapped Lies spotAt
+
   lies : (ty : Ty) (g : Tagging) (v : List ℕ) (at end : ℕ) (d : Decoded) → unwrapped ty g v at end ≡ some d → Lies at (d .after) (d .value)
   lies (basic k) g v at end d e =
       let w = leaf-view v at end d k g e in subst (λ (y : Decoded). Lies at (y .after) (y .value)) (w .4) (in-spot (tagOctet g k) v at end (w .0) (w .1) (w .2))
@@ -263,7 +265,7 @@ mutual
       let w = elements-view v at end d k ty g e in
       let l = inside-long (tagOctet g k) v at end (w .0) (w .1) (w .3) in
       let xs = turn-wider (at + 2) (w .0) (w .0 + w .1) (w .2) (omega arith)
-              (turn-lies (λ i stop. unwrapped ty untagged v i stop) (λ i stop x q. placed-own v i stop x (own ty untagged v i stop x q) (lies ty untagged v i stop x q)) (w .1) (w .0 + w .1) (w .0) (w .2) (omega arith) (w .4)) in
+      (turn-lies (λ i stop. unwrapped ty untagged v i stop) (λ i stop x q. placed-own v i stop x (own ty untagged v i stop x q) (lies ty untagged v i stop x q)) (w .1) (w .0 + w .1) (w .0) (w .2) (omega arith) (w .4)) in
       subst (λ (y : Decoded). Lies at (y .after) (y .value)) (w .6)
       (in-spot (tagOctet g k) v at end (w .0) (w .1) (w .3), subst (λ (x : ℕ). LieInTurn (at + 2) x (w .2)) (sym (spot-end v at (w .0) (w .1) l)) xs)
 
@@ -272,15 +274,15 @@ mutual
   choice-lies (more m ty ms) v at end d e =
       pick-cases (λ (o : Option Decoded). o ≡ some d → Lies at (d .after) (d .value)) (startsHere m ty v end at) (choiceOf m v at end (inWrapper afterOf (m .tagging) (λ a e. unwrapped ty (m .tagging) v a e) v at end)) (alternativeFrom ms v at end)
       (λ t f.
-          let w = choice-view v at end d m (inWrapper afterOf (m .tagging) (λ a e. unwrapped ty (m .tagging) v a e) v at end) f in
-          let p = placed-by (m .tagging) (λ a e. unwrapped ty (m .tagging) v a e) v at end (w .0) (λ a e q. placed-own v a e (w .0) (own ty (m .tagging) v a e (w .0) q) (lies ty (m .tagging) v a e (w .0) q)) (w .3) in
-          let h = any-view v at end (w .1) (w .2) (w .4) in
-          let r = framed-by (m .tagging) (λ a e. unwrapped ty (m .tagging) v a e) v at end (w .0) (λ q. own ty (m .tagging) v at end (w .0) q) (w .3) in
-          let q = found-same (octet v at) (w .1) (w .2) (r .octet) (r .start) (r .n) (sym h ∙ r .header) in
-          let l = header-long v at end (octet v at) (w .1) (w .2) h in
-          let last : w .1 + w .2 ≡ w .0 .after = q ∙ r .ends in
-          subst (λ (y : Decoded). Lies at (y .after) (y .value)) (w .5)
-          (in-header v at end (octet v at) (w .1) (w .2) (w .0 .after) h last, subst (λ (x : ℕ). Lies at x (w .0 .value)) (sym (spot-end v at (w .1) (w .2) l ∙ last)) (p .lies)))
+      let w = choice-view v at end d m (inWrapper afterOf (m .tagging) (λ a e. unwrapped ty (m .tagging) v a e) v at end) f in
+      let p = placed-by (m .tagging) (λ a e. unwrapped ty (m .tagging) v a e) v at end (w .0) (λ a e q. placed-own v a e (w .0) (own ty (m .tagging) v a e (w .0) q) (lies ty (m .tagging) v a e (w .0) q)) (w .3) in
+      let h = any-view v at end (w .1) (w .2) (w .4) in
+      let r = framed-by (m .tagging) (λ a e. unwrapped ty (m .tagging) v a e) v at end (w .0) (λ q. own ty (m .tagging) v at end (w .0) q) (w .3) in
+      let q = found-same (octet v at) (w .1) (w .2) (r .octet) (r .start) (r .n) (sym h ∙ r .header) in
+      let l = header-long v at end (octet v at) (w .1) (w .2) h in
+      let last : w .1 + w .2 ≡ w .0 .after = q ∙ r .ends in
+      subst (λ (y : Decoded). Lies at (y .after) (y .value)) (w .5)
+      (in-header v at end (octet v at) (w .1) (w .2) (w .0 .after) h last, subst (λ (x : ℕ). Lies at x (w .0 .value)) (sym (spot-end v at (w .1) (w .2) l ∙ last)) (p .lies)))
       (λ t f. choice-lies ms v at end d f) e
 
   fields-lie : (ms : Members) (v : List ℕ) (stop i : ℕ) (fs : Fields) → fieldsFrom ms v stop i ≡ some fs → LieInFields i stop fs
@@ -292,9 +294,9 @@ mutual
       pick-cases (λ (o : Option Fields). o ≡ some fs → LieInFields i stop fs) (startsHere m ty v stop i)
       (presentThen m (λ i. fieldsFrom ms v stop i) (inWrapper afterOf (m .tagging) (λ a e. unwrapped ty (m .tagging) v a e) v i stop)) (absentThen m (fieldsFrom ms v stop i))
       (λ t f.
-          let w = present-view m (λ i. fieldsFrom ms v stop i) (inWrapper afterOf (m .tagging) (λ a e. unwrapped ty (m .tagging) v a e) v i stop) fs f in
-          let p = placed-by (m .tagging) (λ a e. unwrapped ty (m .tagging) v a e) v i stop (w .0) (λ a e q. placed-own v a e (w .0) (own ty (m .tagging) v a e (w .0) q) (lies ty (m .tagging) v a e (w .0) q)) (w .2) in
-          let x = lies-wider i stop i (w .0 .after) (w .0 .value) (omega arith) (p .within) (p .lies) in
-          let a : endOf (w .0 .value) ≤ w .0 .after = (let l = p .last in omega arith) in
-          subst (LieInFields i stop) (w .5) (x, fields-wider (endOf (w .0 .value)) (w .0 .after) stop (w .1) a (fields-lie ms v stop (w .0 .after) (w .1) (w .4))))
+      let w = present-view m (λ i. fieldsFrom ms v stop i) (inWrapper afterOf (m .tagging) (λ a e. unwrapped ty (m .tagging) v a e) v i stop) fs f in
+      let p = placed-by (m .tagging) (λ a e. unwrapped ty (m .tagging) v a e) v i stop (w .0) (λ a e q. placed-own v a e (w .0) (own ty (m .tagging) v a e (w .0) q) (lies ty (m .tagging) v a e (w .0) q)) (w .2) in
+      let x = lies-wider i stop i (w .0 .after) (w .0 .value) (omega arith) (p .within) (p .lies) in
+      let a : endOf (w .0 .value) ≤ w .0 .after = (let l = p .last in omega arith) in
+      subst (LieInFields i stop) (w .5) (x, fields-wider (endOf (w .0 .value)) (w .0 .after) stop (w .1) a (fields-lie ms v stop (w .0 .after) (w .1) (w .4))))
       (λ t f. let w = absent-view m (fieldsFrom ms v stop i) fs f in subst (LieInFields i stop) (w .3) (fields-lie ms v stop i (w .0) (w .2))) e

@@ -8,6 +8,7 @@ use borrow.Author.Tests.{eq-eqb, ne-eqb, lt-ltb, le-ltb}
 use lib.Dec.{ltb, eqb}
 use Rattle.octets.specs.Pick.{pick}
 use Rattle.octets.specs.Octets.{octet, part, same}
+use Rattle.rows.specs.Row.{rowAt, kindAt, typeRowAt, modeAt, numberAt, presenceAt, defaultAt}
 use Rattle.der.specs.Tag.{tagOf, ownOctet, implicitOctet, wrapperOctet}
 use Rattle.der.specs.Header.{insideAt}
 use Rattle.der.specs.Contents.{legal}
@@ -18,7 +19,7 @@ use Rattle.groups.specs.Clauses.{memberPlace}
 use Rattle.table.specs.Types.{Tagging, untagged, explicit, implicit, taggingOf}
 use Rattle.table.specs.Work.{bitOf, memberMask}
 use Rattle.value.specs.Decode.{tagOctet}
-use Rattle.value.specs.Work.{upTo, first, marked, markedOf, contentsAt, holds, neighbours}
+use Rattle.value.specs.Work.{upTo, first, marked, markedOf, contentsAt, holds, storedDefault, absentTold, neighbours}
 use Rattle.value.specs.declared.Checked.{Checked}
 
 -- ---- tags
@@ -77,6 +78,26 @@ module _ (v d : List ℕ) (g : Tagging) (k at end : ℕ) (h : Inside) (e : h ≡
   pub holds-same : (start n : ℕ) (c : List ℕ) (r : Bool) → h ≡ Inside.Of start n → c ≡ part v start n → r ≡ same c d → r ≡ holds v d (contentsAt g k v at end)
   holds-same start n c r m f q = rw (← e, m) (q ∙ ap (λ (x : List ℕ). same x d) f)
 
+module _ (t s : List ℕ) (p : ℕ) (v : List ℕ) (at end pr : ℕ) (read : pr ≡ presenceAt t p) where
+  pub stored-not : (pr ≡ 2 → ⊥) → false ≡ storedDefault t s p v at end
+  unfolding storedDefault
+  stored-not h = rw (← read, ne-eqb pr 2 h)
+
+  pub stored-is : (j q k mode n : ℕ) (c : List ℕ) (r : Bool) → pr ≡ 2 → j ≡ typeRowAt t p → q ≡ rowAt s j → k ≡ kindAt t q → c ≡ defaultAt t p → mode ≡ modeAt t p → n ≡ numberAt t p
+      → r ≡ holds v c (contentsAt (taggingOf mode n) k v at end) → r ≡ storedDefault t s p v at end
+  unfolding storedDefault
+  stored-is j q k mode n c r h ej eq ek ec em en told = rw (← read, eq-eqb pr 2 h, ← ej, ← eq, ← ek, ← ec, ← em, ← en) told
+
+-- a member that is not there
+module _ (t : List ℕ) (p i pr : ℕ) (read : pr ≡ presenceAt t p) where
+  pub absent-bad : pr ≡ 0 → Checked.Bad ≡ absentTold t p i
+  unfolding absentTold
+  absent-bad h = rw (← read, eq-eqb pr 0 h)
+
+  pub absent-is : (pr ≡ 0 → ⊥) → Checked.At i ≡ absentTold t p i
+  unfolding absentTold
+  absent-is h = rw (← read, ne-eqb pr 0 h)
+
 -- ---- neighbours
 module _ (k : ℕ) (v : List ℕ) (before i next : ℕ) where
   pub order-any : k ≡ 14 → true ≡ neighbours k v before i next
@@ -109,7 +130,10 @@ pub first-none : (f : ℕ → Bool) (a : ℕ) → a ≡ first f 0 a
 unfolding first
 first-none f a = refl
 
-first-step : (f : ℕ → Bool) (k a : ℕ) → first f (suc k) a ≡ pick (f a) a (first f k (a + 1))
+pub first-start : (f : ℕ → Bool) (n : ℕ) → first f n 0 ≡ first f (n - 0) 0
+first-start f n = let q : n ≡ n - 0 = omega arith in ap (λ (x : ℕ). first f x 0) q
+
+pub first-step : (f : ℕ → Bool) (k a : ℕ) → first f (suc k) a ≡ pick (f a) a (first f k (a + 1))
 unfolding first
 first-step f k a = refl
 

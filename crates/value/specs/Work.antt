@@ -1,6 +1,6 @@
 -- What the functions of the check answer, by the definitions: the place after a value that is as its row says, or none.
 use Prim.Native.Nat.{ℕ, zero, suc, _+_, _-_}
-use mathlib.Core.Bool.{Bool, false}
+use mathlib.Core.Bool.{Bool, true, false}
 use mathlib.Core.Option.{Option, none, some}
 use mathlib.Core.List.{List}
 use lib.Dec.{ltb, eqb}
@@ -11,11 +11,12 @@ use Rattle.der.specs.Tag.{tagOf, ownOctet, wrapperOctet}
 use Rattle.der.specs.Header.{insideAt}
 use Rattle.der.specs.Order.{notAbove}
 use Rattle.der.specs.declared.Inside.{Inside}
+use Rattle.rows.specs.Row.{rowAt, kindAt, typeRowAt, modeAt, numberAt, presenceAt, defaultAt}
 use Rattle.groups.specs.Clauses.{memberPlace}
-use Rattle.table.specs.Types.{Tagging, untagged, explicit, implicit, Member, Ty, Members}
+use Rattle.table.specs.Types.{Tagging, untagged, explicit, implicit, taggingOf, Member, Ty, Members}
 use Rattle.table.specs.Begins.{isMandatory}
 use Rattle.table.specs.Work.{bitOf, memberMask}
-use Rattle.value.specs.Value.{Values}
+use Rattle.value.specs.Value.{Values, endValues, next, encoding}
 use Rattle.value.specs.Order.{rising}
 use Rattle.value.specs.Decode.{Decoded, tagOctet, startsHere, unlessDefault, many, unwrapped, fieldsFrom, decode}
 use Rattle.value.specs.declared.Checked.{Checked}
@@ -55,7 +56,15 @@ abbrev pub holds : List ℕ → List ℕ → Inside → Bool
 holds v c Inside.Misfit = false
 holds v c (Inside.Of start n) = same (part v start n) c
 
+-- the member row at p has a default, and its contents stand at a place
+unfoldable pub storedDefault : List ℕ → List ℕ → ℕ → List ℕ → ℕ → ℕ → Bool
+storedDefault t s p v at end = both (eqb (presenceAt t p) 2) (holds v (defaultAt t p) (contentsAt (taggingOf (modeAt t p) (numberAt t p)) (kindAt t (rowAt s (typeRowAt t p))) v at end))
+
 -- ---- members and elements
+-- the member row at p, where it is not there
+unfoldable pub absentTold : List ℕ → ℕ → ℕ → Checked
+absentTold t p i = pick (eqb (presenceAt t p) 0) Checked.Bad (Checked.At i)
+
 -- one member: the place after it, or its own where it is not there and may be absent
 unfoldable pub memberTold : Member → Ty → List ℕ → ℕ → ℕ → Checked
 memberTold m ty v stop i =
@@ -72,6 +81,15 @@ inOrder k v (some xs) = either (eqb k kind.sequenceOf) (rising v xs)
 unfoldable pub elementsTold : ℕ → Ty → List ℕ → ℕ → ℕ → Checked
 elementsTold k ty v stop i = upTo stop (inOrder k v (many (λ i stop. unwrapped ty untagged v i stop) (stop - i) stop i))
 
--- the octets from before to i, and from i to next, as neighbours in a list of kind k
+-- elements after one whose encoding is p
+unfoldable pub risingAfter : List ℕ → List ℕ → Values → Bool
+risingAfter v p endValues = true
+risingAfter v p (next x xs) = let r = risingAfter v (encoding v x) xs in both (notAbove p (encoding v x)) r
+
+abbrev pub orderAfter : ℕ → List ℕ → List ℕ → Option Values → Bool
+orderAfter k v p none = false
+orderAfter k v p (some xs) = either (eqb k kind.sequenceOf) (risingAfter v p xs)
+
+-- the octets from before to i, and from i to after, as neighbours in a list of kind k
 unfoldable pub neighbours : ℕ → List ℕ → ℕ → ℕ → ℕ → Bool
-neighbours k v before i next = either (eqb k kind.sequenceOf) (notAbove (part v before (i - before)) (part v i (next - i)))
+neighbours k v before i after = either (eqb k kind.sequenceOf) (notAbove (part v before (i - before)) (part v i (after - i)))

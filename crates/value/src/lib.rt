@@ -44,7 +44,16 @@ pub fn starts_here(t: &[u8], m: &[u64], p: usize, v: &[u8], stop: usize, i: usiz
 }
 
 // The first of n alternatives that can begin with the octet at a place; n where none can.
-pub fn find_alternative(t: &[u8], s: &[usize], m: &[u64], v: &[u8], row: usize, n: usize, at: usize, end: usize) -> usize
+pub fn find_alternative(
+    t: &[u8],
+    s: &[usize],
+    m: &[u64],
+    v: &[u8],
+    row: usize,
+    n: usize,
+    at: usize,
+    end: usize,
+) -> usize
     ensures { λ r. ⌜ r ≡ work.first (work.markedOf (now (m .entry)) (now (t .entry)) (now (s .entry)) row (now (v .entry)) end at) n 0 ⌝ }
 {
     let mut j = 0;
@@ -81,6 +90,35 @@ fn holds(c: &[u8], mode: u8, number: u8, kind: u8, v: &[u8], at: usize, end: usi
     octets::same(octets::part(v, start, n), c)
 }
 
+// Whether the member row at p has a default, whose contents stand at a place.
+fn stored_default(t: &[u8], s: &[usize], p: usize, v: &[u8], at: usize, end: usize) -> bool
+    ensures { λ r. ⌜ r ≡ work.storedDefault (now (t .entry)) (now (s .entry)) p (now (v .entry)) at end ⌝ }
+{
+    if rows::presence_at(t, p) != 2 {
+        return false;
+    }
+    let kind = rows::kind_at(t, rows::row_at(s, rows::type_row_at(t, p)));
+    holds(
+        rows::default_at(t, p),
+        rows::mode_at(t, p),
+        rows::number_at(t, p),
+        kind,
+        v,
+        at,
+        end,
+    )
+}
+
+// The member row at p where it is not there: a mandatory one has to be.
+fn absent(t: &[u8], p: usize, i: usize) -> Checked
+    ensures { λ r. ⌜ r ≡ work.absentTold (now (t .entry)) p i ⌝ }
+{
+    if rows::presence_at(t, p) == 0 {
+        return Checked::Bad;
+    }
+    Checked::At(i)
+}
+
 // Whether neighbours in a list are in order: those of a SET OF, each not above the next.
 fn in_order(kind: u8, v: &[u8], before: usize, i: usize, next: usize) -> bool
     requires { ⌜ before ≤ i ⌝ }
@@ -90,7 +128,10 @@ fn in_order(kind: u8, v: &[u8], before: usize, i: usize, next: usize) -> bool
     if kind == 14 {
         return true;
     }
-    der::not_above(octets::part(v, before, i - before), octets::part(v, i, next - i))
+    der::not_above(
+        octets::part(v, before, i - before),
+        octets::part(v, i, next - i),
+    )
 }
 
 // ---- values of one header
@@ -101,4 +142,202 @@ fn check_basic(kind: u8, v: &[u8], start: usize, stop: usize) -> Checked
         return Checked::At(stop);
     }
     Checked::Bad
+}
+
+// ---- "a nested value is checked as its row says, one level deeper"
+// The elements of the list of a row, from start up to stop.
+fn check_elements(
+    t: &[u8],
+    s: &[usize],
+    m: &[u64],
+    v: &[u8],
+    row: usize,
+    start: usize,
+    stop: usize,
+) -> Checked
+    requires sound { do ⌜ Sound (← ⟦rows::Table::MAX_CHAIN⟧) (now t) (now s) (now m) ⌝ }
+    requires here { ⌜ row < length (now s) ⌝ }
+    requires list { ⌜ isList (kindAt (now t) (rowAt (now s) row)) ≡ true ⌝ }
+    requires ordered { ⌜ start ≤ stop ⌝ }
+    ensures { λ r. do ⌜ r ≡ work.elementsTold (kindAt (now (t .entry)) (rowAt (now (s .entry)) row)) (typeFrom (← ⟦rows::Table::MAX_CHAIN⟧ .entry) (now (t .entry)) (now (s .entry)) (elementAt (now (t .entry)) (rowAt (now (s .entry)) row))) (now (v .entry)) stop start ⌝ }
+{
+    let p = rows::row_at(s, row);
+    let kind = rows::kind_at(t, p);
+    let element = rows::element_at(t, p);
+    let mut before = start;
+    let mut i = start;
+    while i < stop {
+        let Checked::At(next) = check(t, s, m, v, element, 0, 0, i, stop) else {
+            return Checked::Bad;
+        };
+        if !in_order(kind, v, before, i, next) {
+            return Checked::Bad;
+        }
+        before = i;
+        i = next;
+    }
+    Checked::At(stop)
+}
+
+// The members of the SEQUENCE of a row, from start up to stop.
+fn check_fields(
+    t: &[u8],
+    s: &[usize],
+    m: &[u64],
+    v: &[u8],
+    row: usize,
+    start: usize,
+    stop: usize,
+) -> Checked
+    requires sound { do ⌜ Sound (← ⟦rows::Table::MAX_CHAIN⟧) (now t) (now s) (now m) ⌝ }
+    requires here { ⌜ row < length (now s) ⌝ }
+    ensures { λ r. do ⌜ r ≡ work.fieldsTold (membersFrom (typeFrom (← ⟦rows::Table::MAX_CHAIN⟧ .entry) (now (t .entry)) (now (s .entry))) (now (t .entry)) (now (s .entry)) (row + 1) (membersAt (now (t .entry)) (rowAt (now (s .entry)) row))) (now (v .entry)) stop start ⌝ }
+{
+    let n = rows::members_at(t, rows::row_at(s, row));
+    let mut i = start;
+    let mut j = 0;
+    while j < n {
+        let Checked::At(next) = check_member(t, s, m, v, row + 1 + j, i, stop) else {
+            return Checked::Bad;
+        };
+        i = next;
+        j += 1;
+    }
+    if i != stop {
+        return Checked::Bad;
+    }
+    Checked::At(stop)
+}
+
+// The member of a row at a place, before stop: where it is there it has to be a value of its type, and not its default.
+fn check_member(
+    t: &[u8],
+    s: &[usize],
+    m: &[u64],
+    v: &[u8],
+    row: usize,
+    i: usize,
+    stop: usize,
+) -> Checked
+    requires sound { do ⌜ Sound (← ⟦rows::Table::MAX_CHAIN⟧) (now t) (now s) (now m) ⌝ }
+    requires here { ⌜ row < length (now s) ⌝ }
+    requires member { ⌜ kindAt (now t) (rowAt (now s) row) ≡ 16 ⌝ }
+    requires target { ⌜ typeRowAt (now t) (rowAt (now s) row) < length (now s) ⌝ }
+    ensures { λ r. do ⌜ r ≡ work.memberTold (memberOf (now (t .entry)) row (rowAt (now (s .entry)) row)) (typeFrom (← ⟦rows::Table::MAX_CHAIN⟧ .entry) (now (t .entry)) (now (s .entry)) (typeRowAt (now (t .entry)) (rowAt (now (s .entry)) row))) (now (v .entry)) stop i ⌝ }
+{
+    let p = rows::row_at(s, row);
+    if !starts_here(t, m, p, v, stop, i) {
+        return absent(t, p, i);
+    }
+    if stored_default(t, s, p, v, i, stop) {
+        return Checked::Bad;
+    }
+    check_tagged(t, s, m, v, row, i, stop)
+}
+
+// A value of the type of a member row, under its tag mode.
+fn check_tagged(
+    t: &[u8],
+    s: &[usize],
+    m: &[u64],
+    v: &[u8],
+    row: usize,
+    at: usize,
+    end: usize,
+) -> Checked
+    requires sound { do ⌜ Sound (← ⟦rows::Table::MAX_CHAIN⟧) (now t) (now s) (now m) ⌝ }
+    requires target { ⌜ typeRowAt (now t) (rowAt (now s) row) < length (now s) ⌝ }
+    ensures { λ r. do ⌜ r ≡ work.told (decode (typeFrom (← ⟦rows::Table::MAX_CHAIN⟧ .entry) (now (t .entry)) (now (s .entry)) (typeRowAt (now (t .entry)) (rowAt (now (s .entry)) row))) (taggingOf (modeAt (now (t .entry)) (rowAt (now (s .entry)) row)) (numberAt (now (t .entry)) (rowAt (now (s .entry)) row))) (now (v .entry)) at end) ⌝ }
+{
+    let p = rows::row_at(s, row);
+    let mode = rows::mode_at(t, p);
+    let number = rows::number_at(t, p);
+    let target = rows::type_row_at(t, p);
+    if mode == 1 {
+        return check_wrapped(t, s, m, v, target, number, at, end);
+    }
+    check(t, s, m, v, target, mode, number, at, end)
+}
+
+// A value of the type of a row in an explicit wrapper, which it fills.
+fn check_wrapped(
+    t: &[u8],
+    s: &[usize],
+    m: &[u64],
+    v: &[u8],
+    row: usize,
+    number: u8,
+    at: usize,
+    end: usize,
+) -> Checked
+    requires sound { do ⌜ Sound (← ⟦rows::Table::MAX_CHAIN⟧) (now t) (now s) (now m) ⌝ }
+    requires here { ⌜ row < length (now s) ⌝ }
+    ensures { λ r. do ⌜ r ≡ work.told (decode (typeFrom (← ⟦rows::Table::MAX_CHAIN⟧ .entry) (now (t .entry)) (now (s .entry)) row) (taggingOf 1 number) (now (v .entry)) at end) ⌝ }
+{
+    let Inside::Of(start, n) = der::open(der::wrapper_octet(number), v, at, end) else {
+        return Checked::Bad;
+    };
+    let stop = start + n;
+    let Checked::At(next) = check(t, s, m, v, row, 1, number, start, stop) else {
+        return Checked::Bad;
+    };
+    if next != stop {
+        return Checked::Bad;
+    }
+    Checked::At(next)
+}
+
+// The alternative of the CHOICE of a row that can begin here.
+fn check_choice(
+    t: &[u8],
+    s: &[usize],
+    m: &[u64],
+    v: &[u8],
+    row: usize,
+    at: usize,
+    end: usize,
+) -> Checked
+    requires sound { do ⌜ Sound (← ⟦rows::Table::MAX_CHAIN⟧) (now t) (now s) (now m) ⌝ }
+    requires here { ⌜ row < length (now s) ⌝ }
+    ensures { λ r. do ⌜ r ≡ work.told (alternativeFrom (membersFrom (typeFrom (← ⟦rows::Table::MAX_CHAIN⟧ .entry) (now (t .entry)) (now (s .entry))) (now (t .entry)) (now (s .entry)) (row + 1) (membersAt (now (t .entry)) (rowAt (now (s .entry)) row))) (now (v .entry)) at end) ⌝ }
+{
+    let n = rows::members_at(t, rows::row_at(s, row));
+    let j = find_alternative(t, s, m, v, row, n, at, end);
+    if n <= j {
+        return Checked::Bad;
+    }
+    check_tagged(t, s, m, v, row + 1 + j, at, end)
+}
+
+// The value of the type of a row at a place, before an end, behind the tag octet of a tag mode.
+pub fn check(
+    t: &[u8],
+    s: &[usize],
+    m: &[u64],
+    v: &[u8],
+    row: usize,
+    mode: u8,
+    number: u8,
+    at: usize,
+    end: usize,
+) -> Checked
+    requires sound { do ⌜ Sound (← ⟦rows::Table::MAX_CHAIN⟧) (now t) (now s) (now m) ⌝ }
+    requires here { ⌜ row < length (now s) ⌝ }
+    ensures { λ r. do ⌜ r ≡ work.told (unwrapped (typeFrom (← ⟦rows::Table::MAX_CHAIN⟧ .entry) (now (t .entry)) (now (s .entry)) row) (taggingOf mode number) (now (v .entry)) at end) ⌝ }
+{
+    let kind = rows::kind_at(t, rows::row_at(s, row));
+    if kind == 13 {
+        return check_choice(t, s, m, v, row, at, end);
+    }
+    let Inside::Of(start, n) = der::open(tag_octet(mode, number, kind), v, at, end) else {
+        return Checked::Bad;
+    };
+    let stop = start + n;
+    if kind == 12 {
+        return check_fields(t, s, m, v, row, start, stop);
+    }
+    if rows::is_list(kind) {
+        return check_elements(t, s, m, v, row, start, stop);
+    }
+    check_basic(kind, v, start, stop)
 }

@@ -5,9 +5,9 @@ use Rattle.table.proofs.member_begins.Tie as tie
 
 pub member-begins-spec : {M : Type 1} → statement M
 member-begins-spec =
-    tie.close (tie.spec 
-    (λ c κs. search needs)                      -- member-mask-requires
-    (λ c κs. search needs)                      -- tag-of-requires
-    (λ c. search needs)                         -- cast-result
-    (λ c. search tag-fits)                         -- shr-result
-    (λ c. search set-begins))                        -- returns
+    tie.close (tie.spec
+    (λ c κs. search needs)  -- member-mask-requires
+    (λ c κs. search needs)  -- tag-of-requires
+    (λ c. search needs)  -- cast-result
+    (λ c. search tag-fits)  -- shr-result
+    (λ c. search set-begins))  -- returns

@@ -2,7 +2,7 @@ use Prim.Native.Nat.{_-_, _≤_}
 use mathlib.Core.Path.{_≡_, refl}
 use native.Mathlib.Omega.{arith}
 use Rattle.value.specs.Work.{first, markedOf}
-use Rattle.value.proofs.LeafSteps.{first-found, first-again, first-done}
+use Rattle.value.proofs.LeafSteps.{first-start, first-found, first-again, first-done}
 use borrow.Author.Needs.{needs}
 use Rattle.value.proofs.find_alternative.Statement.{statement}
 use Rattle.value.proofs.find_alternative.Tie as tie
@@ -19,11 +19,11 @@ find-alternative-spec =
     (tie.spec
     Inv-loop
     μ-loop
-    (λ c. (search needs, refl))                         -- loop-holds
-    (λ c κs. search needs)                      -- member-place-requires
-    (λ c κs. search needs)                      -- starts-here-requires
-    (λ c. search first-found)                         -- returns
-    (λ c. search needs)                         -- add-j
-    (λ c. search needs)                         -- loop-less
-    (λ c. (omega arith, search first-again))                         -- loop-again
-    (λ c. search first-done))                        -- returns-2
+    (λ c. (search needs, first-start _ _))  -- loop-holds
+    (λ c κs. search needs)  -- member-place-requires
+    (λ c κs. search needs)  -- starts-here-requires
+    (λ c. search first-found)  -- returns
+    (λ c. search needs)  -- add-j
+    (λ c. search needs)  -- loop-less
+    (λ c. (omega arith, search first-again))  -- loop-again
+    (λ c. search first-done))  -- returns-2

@@ -7,10 +7,10 @@ pub in-order-spec : {M : Type 1} → statement M
 in-order-spec =
     tie.close
     (tie.spec
-    (λ c. search order-any)                         -- returns
-    (λ c. search needs)                         -- sub-part
-    (λ c κs. search needs)                      -- part-requires
-    (λ c. search needs)                         -- sub-part-2
-    (λ c κs. search needs)                      -- part-requires-2
-    (λ c κs. search needs)                      -- not-above-requires
-    (λ c. search order-is))                        -- returns-2
+    (λ c. search order-any)  -- returns
+    (λ c. search needs)  -- sub-part
+    (λ c κs. search needs)  -- part-requires
+    (λ c. search needs)  -- sub-part-2
+    (λ c κs. search needs)  -- part-requires-2
+    (λ c κs. search needs)  -- not-above-requires
+    (λ c. search order-is))  -- returns-2

@@ -1,0 +1,248 @@
+-- Members and alternatives: one lemma for each return and each turn of a loop; its premises are the facts as the code has them.
+use mathlib.Core.Path.{_≡_, refl, sym, ap, ap₂, _∙_}
+use mathlib.Core.Bool.{Bool, true, false, not, true≢false, false≢true}
+use mathlib.Core.Option.{Option, none, some}
+use mathlib.Core.List.{List}
+use Prim.Native.Nat.{ℕ, zero, suc, _≤_, _<_, _+_, _-_, _*_}
+use native.Mathlib.Omega.{arith}
+use borrow.Author.Tests.{not-true, not-false, eq-eqb, ne-eqb, eqb-true, eqb-false, leb-true, ltb-true, ltb-false, lt-ltb, le-ltb}
+use lib.ListN.{length}
+use lib.Dec.{ltb, leb, eqb}
+use Rattle.octets.specs.Pick.{pick, both, either, no, bind, isSome}
+use Rattle.octets.specs.Octets.{octet, part, same}
+use Rattle.octets.proofs.Laws.{both-true}
+use Rattle.der.specs.Kind as kind
+use Rattle.der.specs.Tag.{tagOf}
+use Rattle.der.specs.Header.{headerAt, insideAt, anyTag, opened}
+use Rattle.der.specs.declared.Header.{Header}
+use Rattle.der.specs.declared.Inside.{Inside}
+use Rattle.der.proofs.Laws.{tag-small}
+use Rattle.rows.specs.Row.{rowAt, kindAt, elementAt, typeRowAt, membersAt, isList, modeAt, numberAt, presenceAt, defaultLengthAt, defaultAt}
+use Rattle.groups.specs.Clauses.{memberPlace, typeKind, defaultAllowed, defaultLegal}
+use Rattle.groups.specs.Work.{memberType}
+use Rattle.table.specs.Types.{Tagging, untagged, explicit, implicit, Presence, mandatory, optional, default, taggingOf, presenceOf, Member, memberOf, Ty, basic, Members, noMore, more, membersFrom, typed, typeFrom}
+use Rattle.table.specs.Begins.{memberBegins, isMandatory}
+use Rattle.table.specs.Work.{bitOf, memberMask, Sound}
+use Rattle.table.proofs.TagLaws.{mandatory-as}
+use Rattle.table.proofs.SoundLaws.{member-tags}
+use Rattle.value.specs.Value.{spotAt, spotOf, Value, leaf, Fields, endFields, present, absent}
+use Rattle.value.specs.Decode.{Decoded, decoded, afterOf, tagOctet, inWrapper, startsHere, choiceOf, chosenOf, isDefault, unlessDefault, presentThen, absentThen, unwrapped, fieldsFrom, alternativeFrom, decode}
+use Rattle.value.specs.Work.{told, upTo, first, marked, markedOf, within, contentsAt, holds, storedDefault, absentTold, memberTold, fieldsTold}
+use Rattle.value.specs.declared.Checked.{Checked}
+use Rattle.value.proofs.Views.{none-some, some-same, leaf-view, wrapper-view}
+use Rattle.value.proofs.Laws.{Framed, Own, own, framed-by}
+use Rattle.value.proofs.LeafSteps.{first-none}
+
+-- ---- a default that is stored: the contents of a basic value under a tag mode
+contents-are : (g : Tagging) (k : ℕ) (v : List ℕ) (at end : ℕ) (d : Decoded) → decode (basic k) g v at end ≡ some d → (start : ℕ) × (n : ℕ) × (contentsAt g k v at end ≡ Inside.Of start n) × (spotOf (d .value) .contents ≡ part v start n)
+unfolding decode inWrapper contentsAt spotAt
+contents-are untagged k v at end d e = let w = leaf-view v at end d k untagged e in (w .0, w .1, w .2, ap (λ (y : Decoded). spotOf (y .value) .contents) (sym (w .4)))
+contents-are (implicit n) k v at end d e = let w = leaf-view v at end d k (implicit n) e in (w .0, w .1, w .2, ap (λ (y : Decoded). spotOf (y .value) .contents) (sym (w .4)))
+contents-are (explicit n) k v at end d e =
+    let u = wrapper-view v at end d n (unwrapped (basic k) (explicit n) v) e in
+    let w = leaf-view v (u .0) (u .0 + u .1) d k (explicit n) (u .3) in
+    (w .0, w .1, ap (within (insideAt (tagOctet (explicit n) k) v)) (u .2) ∙ w .2, ap (λ (y : Decoded). spotOf (y .value) .contents) (sym (w .4)))
+
+few : (n : ℕ) → n ≤ 2 → (n ≡ 0 → ⊥) → (n ≡ 1 → ⊥) → (n ≡ 2 → ⊥) → ⊥
+few n h a b c = omega arith
+
+-- where a default is one of BOOLEAN, INTEGER, ENUMERATED, its type is basic
+small-basic : (k : ℕ) (e : Ty) (ms : Members) → leb 1 k ≡ true → leb k 3 ≡ true → typed k e ms ≡ basic k
+unfolding isList
+small-basic k e ms a b =
+    let l = leb-true k 3 b in
+    rw (ne-eqb k 12 (λ z. omega arith), ne-eqb k 13 (λ z. omega arith), ne-eqb k 14 (λ z. omega arith), ne-eqb k 15 (λ z. omega arith))
+
+module _ (chain : ℕ) (t s m : List ℕ) (row : ℕ) (ok : Sound chain t s m) (here : row < length s) (member : kindAt t (rowAt s row) ≡ 16) (target : typeRowAt t (rowAt s row) < length s) where
+  abbrev place : ℕ
+  place = rowAt s row
+
+  abbrev target-row : ℕ
+  target-row = typeRowAt t (rowAt s row)
+
+  abbrev target-type : Ty
+  target-type = typeFrom chain t s (typeRowAt t (rowAt s row))
+
+  abbrev the-member : Member
+  the-member = memberOf t row (rowAt s row)
+
+  abbrev tagging : Tagging
+  tagging = taggingOf (modeAt t (rowAt s row)) (numberAt t (rowAt s row))
+
+  -- a default is one of a basic type
+  default-kind : presenceAt t place ≡ 2 → target-type ≡ basic (kindAt t (rowAt s target-row))
+  unfolding defaultLegal defaultAllowed
+  default-kind e =
+      let legal = rw (member, e) at (ok .defaults row here) in
+      let w = both-true _ _ legal in
+      let b = both-true _ _ (w .0) in
+      ok .step target-row target ∙ small-basic (kindAt t (rowAt s target-row)) _ _ (b .0) (b .1)
+
+  pub member-falls : (z : ℕ) → 5 * (length s - typeRowAt t (rowAt s row)) + 6 ≡ z → 5 * (length s - typeRowAt t (rowAt s row)) + 5 < z
+  member-falls z e = omega arith
+
+  module _ (v : List ℕ) (i stop : ℕ) where
+    is-default : (d : Decoded) → decode target-type tagging v i stop ≡ some d → isDefault (presenceOf (presenceAt t place) (defaultAt t place)) (spotOf (d .value) .contents) ≡ storedDefault t s place v i stop
+    unfolding presenceOf storedDefault
+    is-default d e = go (eqb (presenceAt t place) 0) refl (eqb (presenceAt t place) 1) refl (eqb (presenceAt t place) 2) refl
+      where
+        go : (x : Bool) → eqb (presenceAt t place) 0 ≡ x → (y : Bool) → eqb (presenceAt t place) 1 ≡ y → (z : Bool) → eqb (presenceAt t place) 2 ≡ z
+            → isDefault (pick x mandatory (pick y optional (default (defaultAt t place)))) (spotOf (d .value) .contents)
+            ≡ both z (holds v (defaultAt t place) (contentsAt tagging (kindAt t (rowAt s target-row)) v i stop))
+        go true p y q false u = refl
+        go true p y q true u = absurd (let a = eqb-true (presenceAt t place) 0 p in let b = eqb-true (presenceAt t place) 2 u in omega arith)
+        go false p true q false u = refl
+        go false p true q true u = absurd (let a = eqb-true (presenceAt t place) 1 q in let b = eqb-true (presenceAt t place) 2 u in omega arith)
+        go false p false q true u =
+            let f : decode (basic (kindAt t (rowAt s target-row))) tagging v i stop ≡ some d = ap (λ (ty : Ty). decode ty tagging v i stop) (sym (default-kind (eqb-true (presenceAt t place) 2 u))) ∙ e in
+            let w = contents-are tagging (kindAt t (rowAt s target-row)) v i stop d f in
+            ap (λ (x : List ℕ). same x (defaultAt t place)) (w .3) ∙ ap (holds v (defaultAt t place)) (sym (w .2))
+        go false p false q false u = absurd (few (presenceAt t place) (ok .presence row here member) (eqb-false (presenceAt t place) 0 p) (eqb-false (presenceAt t place) 1 q) (eqb-false (presenceAt t place) 2 u))
+
+    -- the member can begin here, as its set says
+    pub starts-as : marked m t place v stop i ≡ startsHere the-member target-type v stop i
+    unfolding marked startsHere
+    starts-as = ap (both (ltb i stop)) (member-tags chain t s m row ok target (tagOf (octet v i)) (tag-small (octet v i)))
+
+    module _ (p : ℕ) (x : Bool) (placed : p ≡ rowAt s row) (begins : x ≡ marked m t p v stop i) where
+      starting : x ≡ startsHere the-member target-type v stop i
+      starting = begins ∙ ap (λ (y : ℕ). marked m t y v stop i) placed ∙ starts-as
+
+      pub member-absent : (r : Checked) → not x ≡ true → r ≡ absentTold t p i → r ≡ memberTold the-member target-type v stop i
+      unfolding memberTold absentTold memberOf
+      member-absent r h e =
+          let off : startsHere the-member target-type v stop i ≡ false = sym starting ∙ not-true x h in
+          rw off (e ∙ ap (λ (y : ℕ). pick (eqb (presenceAt t y) 0) Checked.Bad (Checked.At i)) placed
+          ∙ ap (λ (y : Bool). pick y Checked.Bad (Checked.At i)) (sym (mandatory-as (presenceAt t place) (defaultAt t place))))
+
+      module _ (on : not x ≡ false) (y : Bool) (stored : y ≡ storedDefault t s p v i stop) where
+        there : memberTold the-member target-type v stop i ≡ told (bind (decode target-type tagging v i stop) (λ d. pick (isDefault (presenceOf (presenceAt t place) (defaultAt t place)) (spotOf (d .value) .contents)) none (some d)))
+        unfolding memberTold memberOf
+        there = let h : startsHere the-member target-type v stop i ≡ true = sym starting ∙ not-false x on in rw h
+
+        is-stored : y ≡ storedDefault t s place v i stop
+        is-stored = stored ∙ ap (λ (z : ℕ). storedDefault t s z v i stop) placed
+
+        by-default : (o : Option Decoded) → decode target-type tagging v i stop ≡ o
+            → told (bind o (λ d. pick (isDefault (presenceOf (presenceAt t place) (defaultAt t place)) (spotOf (d .value) .contents)) none (some d))) ≡ pick y Checked.Bad (told o)
+        by-default none q = go y
+          where
+            go : (z : Bool) → Checked.Bad ≡ pick z Checked.Bad Checked.Bad
+            go true = refl
+            go false = refl
+        by-default (some d) q = ap (λ (z : Bool). told (pick z none (some d))) (is-default d q ∙ sym is-stored) ∙ go y
+          where
+            go : (z : Bool) → told (pick z none (some d)) ≡ pick z Checked.Bad (Checked.At (d .after))
+            go true = refl
+            go false = refl
+
+        pub member-default : y ≡ true → Checked.Bad ≡ memberTold the-member target-type v stop i
+        member-default h = sym (there ∙ by-default (decode target-type tagging v i stop) refl ∙ ap (λ (z : Bool). pick z Checked.Bad (told (decode target-type tagging v i stop))) h)
+
+        pub member-is : (r : Checked) → y ≡ false → r ≡ told (decode target-type tagging v i stop) → r ≡ memberTold the-member target-type v stop i
+        member-is r h e = e ∙ sym (there ∙ by-default (decode target-type tagging v i stop) refl ∙ ap (λ (z : Bool). pick z Checked.Bad (told (decode target-type tagging v i stop))) h)
+
+-- ---- members in turn
+abbrev thenFields : Members → List ℕ → ℕ → Checked → Bool
+thenFields ms v stop Checked.Bad = false
+thenFields ms v stop (Checked.At x) = isSome (fieldsFrom ms v stop x)
+
+fields-next : (mem : Member) (ty : Ty) (ms : Members) (v : List ℕ) (stop i : ℕ) → isSome (fieldsFrom (more mem ty ms) v stop i) ≡ thenFields ms v stop (memberTold mem ty v stop i)
+unfolding unwrapped memberTold decode
+fields-next mem ty ms v stop i = go (startsHere mem ty v stop i) (inWrapper afterOf (mem .tagging) (λ a e. unwrapped ty (mem .tagging) v a e) v i stop)
+  where
+    found : (x : Bool) (d : Decoded) → isSome (bind (pick x none (some d)) (λ d. bind (fieldsFrom ms v stop (d .after)) (λ fs. some (present mem (d .value) fs)))) ≡ thenFields ms v stop (told (pick x none (some d)))
+    found true d = refl
+    found false d = rest (fieldsFrom ms v stop (d .after))
+      where
+        rest : (o : Option Fields) → isSome (bind o (λ fs. some (present mem (d .value) fs))) ≡ isSome o
+        rest none = refl
+        rest (some fs) = refl
+
+    missing : (x : Bool) → isSome (pick x none (bind (fieldsFrom ms v stop i) (λ fs. some (absent mem fs)))) ≡ thenFields ms v stop (pick x Checked.Bad (Checked.At i))
+    missing true = refl
+    missing false = rest (fieldsFrom ms v stop i)
+      where
+        rest : (o : Option Fields) → isSome (bind o (λ fs. some (absent mem fs))) ≡ isSome o
+        rest none = refl
+        rest (some fs) = refl
+
+    go : (x : Bool) (o : Option Decoded) → isSome (pick x (presentThen mem (λ i. fieldsFrom ms v stop i) o) (absentThen mem (fieldsFrom ms v stop i)))
+        ≡ thenFields ms v stop (pick x (told (bind o (unlessDefault mem))) (pick (isMandatory (mem .presence)) Checked.Bad (Checked.At i)))
+    go true none = refl
+    go true (some d) = found (isDefault (mem .presence) (spotOf (d .value) .contents)) d
+    go false o = missing (isMandatory (mem .presence))
+
+-- ---- the loop over the members of a SEQUENCE
+-- the members from j on at i, of n in all, have the answer of all of them
+pub record Fielded (chain : ℕ) (t s : List ℕ) (row : ℕ) (v : List ℕ) (start stop n i j : ℕ) : Type 0 where
+  pub count : n ≡ membersAt t (rowAt s row)
+  pub few : j ≤ n
+  pub same : isSome (fieldsFrom (membersFrom (typeFrom chain t s) t s (row + 1 + j) (n - j)) v stop i) ≡ isSome (fieldsFrom (membersFrom (typeFrom chain t s) t s (row + 1) n) v stop start)
+
+module _ (chain : ℕ) (t s m : List ℕ) (row : ℕ) (ok : Sound chain t s m) (here : row < length s) (v : List ℕ) (start stop : ℕ) where
+  pub fields-start : (p n : ℕ) → p ≡ rowAt s row → n ≡ membersAt t p → Fielded chain t s row v start stop n start 0
+  fields-start p n e q =
+      let a : row + 1 + 0 ≡ row + 1 = omega arith in
+      let b : n - 0 ≡ n = omega arith in
+      record { count = q ∙ ap (membersAt t) e; few = omega arith; same = ap₂ (λ (x y : ℕ). isSome (fieldsFrom (membersFrom (typeFrom chain t s) t s x y) v stop start)) a b }
+
+  module _ (n i j : ℕ) (w : Fielded chain t s row v start stop n i j) where
+    whole : upTo stop (isSome (fieldsFrom (membersFrom (typeFrom chain t s) t s (row + 1 + j) (n - j)) v stop i)) ≡ fieldsTold (membersFrom (typeFrom chain t s) t s (row + 1) (membersAt t (rowAt s row))) v stop start
+    unfolding fieldsTold
+    whole = ap (upTo stop) (w .same ∙ ap (λ (x : ℕ). isSome (fieldsFrom (membersFrom (typeFrom chain t s) t s (row + 1) x) v stop start)) (w .count))
+
+    module _ (l : j < n) where
+      in-row : j < membersAt t (rowAt s row)
+      in-row = rw (← (w .count)) l
+
+      pub field-here : row + 1 + j < length s
+      field-here = ok .stands row here j in-row
+
+      pub field-fits : length s < 18446744073709551616 → row + 1 + j < 18446744073709551616
+      field-fits h = let q = field-here in omega arith
+
+      pub field-row-fits : length s < 18446744073709551616 → row + 1 < 18446744073709551616
+      field-row-fits h = omega arith
+
+      pub field-member : kindAt t (rowAt s (row + 1 + j)) ≡ 16
+      field-member = ok .members row here j in-row
+
+      pub field-target : typeRowAt t (rowAt s (row + 1 + j)) < length s
+      field-target = ok .later .of-member row here j in-row .1
+
+      pub field-falls : (k : ℕ) → 5 * (length s - row) + 2 ≡ k → 5 * (length s - typeRowAt t (rowAt s (row + 1 + j))) + 6 < k
+      field-falls k e = let a = ok .later .of-member row here j in-row in let b = a .0 in let d = a .1 in omega arith
+
+      opens : isSome (fieldsFrom (membersFrom (typeFrom chain t s) t s (row + 1 + j) (n - j)) v stop i)
+          ≡ thenFields (membersFrom (typeFrom chain t s) t s (row + 1 + j + 1) (n - (j + 1))) v stop (memberTold (memberOf t (row + 1 + j) (rowAt s (row + 1 + j))) (typeFrom chain t s (typeRowAt t (rowAt s (row + 1 + j)))) v stop i)
+      unfolding membersFrom
+      opens =
+          let q : n - j ≡ suc (n - (j + 1)) = omega arith in
+          ap (λ (x : ℕ). isSome (fieldsFrom (membersFrom (typeFrom chain t s) t s (row + 1 + j) x) v stop i)) q
+          ∙ fields-next (memberOf t (row + 1 + j) (rowAt s (row + 1 + j))) (typeFrom chain t s (typeRowAt t (rowAt s (row + 1 + j)))) (membersFrom (typeFrom chain t s) t s (row + 1 + j + 1) (n - (j + 1))) v stop i
+
+      module _ (c : Checked) (told-member : c ≡ memberTold (memberOf t (row + 1 + j) (rowAt s (row + 1 + j))) (typeFrom chain t s (typeRowAt t (rowAt s (row + 1 + j)))) v stop i) where
+        pub fields-bad : c ≡ Checked.Bad → Checked.Bad ≡ fieldsTold (membersFrom (typeFrom chain t s) t s (row + 1) (membersAt t (rowAt s row))) v stop start
+        fields-bad e = ap (upTo stop) (sym (opens ∙ ap (thenFields (membersFrom (typeFrom chain t s) t s (row + 1 + j + 1) (n - (j + 1))) v stop) (sym told-member ∙ e))) ∙ whole
+
+        pub fields-again : (next : ℕ) → c ≡ Checked.At next → Fielded chain t s row v start stop n next (j + 1)
+        fields-again next e =
+            let a : row + 1 + (j + 1) ≡ row + 1 + j + 1 = omega arith in
+            record {
+              count = w .count;
+              few = omega arith;
+              same = ap (λ (x : ℕ). isSome (fieldsFrom (membersFrom (typeFrom chain t s) t s x (n - (j + 1))) v stop next)) a
+                  ∙ sym (opens ∙ ap (thenFields (membersFrom (typeFrom chain t s) t s (row + 1 + j + 1) (n - (j + 1))) v stop) (sym told-member ∙ e)) ∙ w .same;
+            }
+
+    module _ (l : n ≤ j) where
+      ending : isSome (fieldsFrom (membersFrom (typeFrom chain t s) t s (row + 1 + j) (n - j)) v stop i) ≡ isSome (pick (eqb i stop) (some endFields) none)
+      unfolding membersFrom unwrapped
+      ending = let q : n - j ≡ 0 = omega arith in ap (λ (x : ℕ). isSome (fieldsFrom (membersFrom (typeFrom chain t s) t s (row + 1 + j) x) v stop i)) q
+
+      pub fields-short : (i ≡ stop → ⊥) → Checked.Bad ≡ fieldsTold (membersFrom (typeFrom chain t s) t s (row + 1) (membersAt t (rowAt s row))) v stop start
+      fields-short h = ap (upTo stop) (sym (ending ∙ ap (λ (x : Bool). isSome (pick x (some endFields) none)) (ne-eqb i stop h))) ∙ whole
+
+      pub fields-done : i ≡ stop → Checked.At stop ≡ fieldsTold (membersFrom (typeFrom chain t s) t s (row + 1) (membersAt t (rowAt s row))) v stop start
+      fields-done h = ap (upTo stop) (sym (ending ∙ ap (λ (x : Bool). isSome (pick x (some endFields) none)) (eq-eqb i stop h))) ∙ whole
