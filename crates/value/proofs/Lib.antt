@@ -5,3 +5,4 @@ pub mod CheckSteps
 pub mod MemberSteps
 pub mod ChoiceSteps
 pub mod ElementSteps
+pub mod EntrySteps

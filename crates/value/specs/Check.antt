@@ -3,6 +3,7 @@ use Prim.Native.Nat.{ℕ}
 use mathlib.Core.Bool.{Bool}
 use mathlib.Core.List.{List}
 use lib.ListN.{length}
+use lib.Dec.{eqb}
 use Rattle.octets.specs.Pick.{pick, both, isSome}
 use Rattle.octets.specs.Text.{within}
 use Rattle.rows.specs.Limits as table
@@ -11,6 +12,7 @@ use Rattle.table.specs.Admitted.{admitted}
 use Rattle.table.specs.Check.{tableFits}
 use Rattle.value.specs.Limits.{Limits}
 use Rattle.value.specs.Decode.{storedValue}
+use Rattle.value.specs.declared.ValueCheck.{ValueCheck}
 
 -- a refusal number, 0 for none
 pub record ValueReport : Type 0 where
@@ -21,6 +23,15 @@ refused n = record { refusal = n }
 
 abbrev pub good : ValueReport
 good = record { refusal = 0 }
+
+-- what the code's answer says
+abbrev pub report : ValueCheck → ValueReport
+report ValueCheck.Good = good
+report (ValueCheck.Refused n) = refused n
+
+-- refused, with this number
+abbrev pub isRefused : ℕ → ValueReport → Bool
+isRefused n r = eqb (r .refusal) n
 
 -- refusal 1: the value's size
 unfoldable pub valueFits : Limits → List ℕ → Bool

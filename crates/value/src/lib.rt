@@ -1,17 +1,43 @@
 // The check of a stored value: whether the octets are one value of the type of row 0, and the octets of a part of it.
 use der::Inside;
 ghost use mathlib.Core.Path.{_≡_};
-ghost use mathlib.Core.Bool.{true};
+ghost use mathlib.Core.Bool.{true, false};
 ghost use Prim.Native.Nat.{_≤_, _<_, _+_, _-_};
 ghost use lib.ListN.{length};
-ghost use Rattle.octets.specs.Pick.{pick};
+ghost use Rattle.octets.specs.Pick.{no, isSome};
 ghost use Rattle.octets.specs.Octets.{part};
 ghost use Rattle.der.specs.Contents.{legal};
 ghost use Rattle.rows.specs.Row.{rowAt, kindAt, elementAt, typeRowAt, membersAt, isList, modeAt, numberAt, presenceAt, defaultAt};
 ghost use Rattle.table.specs.Types.{taggingOf, memberOf, membersFrom, typeFrom};
 ghost use Rattle.table.specs.Work.{Sound};
-ghost use Rattle.value.specs.Decode.{tagOctet, unwrapped, alternativeFrom, decode};
+ghost use Rattle.value.specs.Decode.{tagOctet, unwrapped, alternativeFrom, decode, storedValue};
+ghost use Rattle.rows.specs.Limits.{limits as tableLimits};
+ghost use Rattle.value.specs.Limits.{limits as valueLimits};
+ghost use Rattle.value.specs.Check.{report, isRefused, valueFits, sizesFit, storage};
 ghost use Rattle.value.specs.Work as work;
+
+// A stored value: how many octets it has, and the limits of every one.
+pub struct Value {
+    pub size: usize,
+}
+
+impl Value {
+    pub const MIN_BYTES: usize = 2;
+
+    pub const MAX_BYTES: usize = 4096;
+
+    pub fn of(size: usize) -> Self
+        ensures { λ r. ⌜ r .size ≡ size ⌝ }
+    {
+        Self { size }
+    }
+}
+
+// The answer of the value check: good, or a refusal.
+pub enum ValueCheck {
+    Good,
+    Refused(u8),
+}
 
 // The answer of the check of one value: the place after it, or none.
 pub enum Checked {
@@ -340,4 +366,59 @@ pub fn check(
         return check_elements(t, s, m, v, row, start, stop);
     }
     check_basic(kind, v, start, stop)
+}
+
+// ---- the value check
+// Whether the whole buffer is one value of the type of row 0.
+pub fn is_stored(t: &[u8], s: &[usize], m: &[u64], v: &[u8]) -> bool
+    requires sound { do ⌜ Sound (← ⟦rows::Table::MAX_CHAIN⟧) (now t) (now s) (now m) ⌝ }
+    requires here { ⌜ 0 < length (now s) ⌝ }
+    ensures { λ r. do ⌜ r ≡ isSome (storedValue (typeFrom (← ⟦rows::Table::MAX_CHAIN⟧ .entry) (now (t .entry)) (now (s .entry)) 0) (now (v .entry))) ⌝ }
+{
+    let Checked::At(next) = check(t, s, m, v, 0, 0, 0, 0, v.len()) else {
+        return false;
+    };
+    next == v.len()
+}
+
+pub fn value_fits(value: &[u8]) -> bool
+    ensures { λ r. do ⌜ r ≡ valueFits (valueLimits (← ⟦Value::MIN_BYTES⟧ .entry) (← ⟦Value::MAX_BYTES⟧ .entry)) (now (value .entry)) ⌝ }
+{
+    if value.len() < Value::MIN_BYTES {
+        return false;
+    }
+    value.len() <= Value::MAX_BYTES
+}
+
+// The check of a table and a value of admitted sizes.
+fn check_storage(table: &[u8], value: &[u8]) -> ValueCheck
+    ensures { λ r. do ⌜ report r ≡ storage (tableLimits (← ⟦rows::Table::MAX_ROWS⟧ .entry) (← ⟦rows::Table::MAX_CHAIN⟧ .entry) (← ⟦rows::Table::MAX_MEMBERS⟧ .entry) (← ⟦rows::Table::MAX_NAME⟧ .entry)) (now (table .entry)) (now (value .entry)) ⌝ }
+{
+    let mut starts = [0usize; rows::Table::MAX_ROWS];
+    let mut masks = [0u64; rows::Table::MAX_ROWS];
+    let n = table::admit_table(table, &mut starts, &mut masks);
+    if n == 0 {
+        return ValueCheck::Refused(2);
+    }
+    if !is_stored(table, &starts[..n], &masks, value) {
+        return ValueCheck::Refused(4);
+    }
+    ValueCheck::Good
+}
+
+// The value check: any octets for both.
+pub fn check_value(table: &[u8], value: &[u8]) -> ValueCheck
+    ensures size { λ r. do ⌜ isRefused 1 (report r) ≡ no (sizesFit (← ⟦rows::Table::MAX_BYTES⟧ .entry) (valueLimits (← ⟦Value::MIN_BYTES⟧ .entry) (← ⟦Value::MAX_BYTES⟧ .entry)) (now (table .entry)) (now (value .entry))) ⌝ }
+    ensures answer { λ r. do ⌜ (isRefused 1 (report r) ≡ false → report r ≡ storage (tableLimits (← ⟦rows::Table::MAX_ROWS⟧ .entry) (← ⟦rows::Table::MAX_CHAIN⟧ .entry) (← ⟦rows::Table::MAX_MEMBERS⟧ .entry) (← ⟦rows::Table::MAX_NAME⟧ .entry)) (now (table .entry)) (now (value .entry))) ⌝ }
+{
+    if table.len() < 1 {
+        return ValueCheck::Refused(1);
+    }
+    if rows::Table::MAX_BYTES < table.len() {
+        return ValueCheck::Refused(1);
+    }
+    if !value_fits(value) {
+        return ValueCheck::Refused(1);
+    }
+    check_storage(table, value)
 }
