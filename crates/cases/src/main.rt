@@ -3,6 +3,8 @@ use libc::STDIN_FILENO;
 use libc::STDOUT_FILENO;
 use rows::Table;
 use table::TableCheck;
+use value::Value;
+use value::ValueCheck;
 ghost use Prim.Native.Nat.{_≤_};
 ghost use Rattle.io.specs.Counts.{Counts};
 
@@ -21,6 +23,10 @@ fn wide(b: u8) -> usize
     ensures { λ r. ⌜ r ≤ 255 ⌝ }
 {
     b as usize
+}
+
+fn print_word(word: &[u8]) {
+    io::write_all(STDOUT_FILENO, word);
 }
 
 fn print_line(word: &[u8], n: u64) {
@@ -51,6 +57,19 @@ fn table_case() {
     }
 }
 
+fn value_case() {
+    let mut table = [0u8; Table::MAX_BYTES + 1];
+    let mut value = [0u8; Value::MAX_BYTES + 1];
+    let n = read_length();
+    let t = read_part(&mut table, n);
+    let k = read_length();
+    let v = read_part(&mut value, k);
+    match value::check_value(&table[..t], &value[..v]) {
+        ValueCheck::Good => print_word(b"good\n"),
+        ValueCheck::Refused(refusal) => print_line(b"refused ", refusal as u64),
+    }
+}
+
 // One case; false at the end of the input and at a kind of case that there is not.
 fn one() -> bool {
     let mut kind = [0u8; 1];
@@ -58,11 +77,15 @@ fn one() -> bool {
     if got < 1 {
         return false;
     }
-    if kind[0] != b't' {
-        return false;
+    if kind[0] == b't' {
+        table_case();
+        return true;
     }
-    table_case();
-    true
+    if kind[0] == b'v' {
+        value_case();
+        return true;
+    }
+    false
 }
 
 fn main() {

@@ -1,0 +1,169 @@
+"""The cases of crates/cases: what its program is run on, and what it must print.
+
+    python3 second/corpus.py            writes crates/cases/stdin and crates/cases/stdout
+    python3 second/corpus.py --check    fails if they are not what is drawn and answered here
+
+docs/CASES.md describes both files.
+"""
+
+import pathlib
+import random
+import sys
+
+import draw
+import engine
+import written
+from samples import choice, member, of, sequence, tlv
+
+FOLDER = pathlib.Path(__file__).resolve().parent.parent / "crates" / "cases"
+EDGES, SMALL, LARGE, LOOSE = 2400, 2700, 60, 200
+VALUE_EDGES, VALUES, BROKEN, LARGE_VALUES = 1200, 900, 3200, 40
+LONGEST, LONGEST_VALUE = 4993, 4097
+
+
+def layered(depth, width, owner, tag):
+    """`depth` groups of `width` members, each member of a group of the type of the next group."""
+    table = b""
+    for level in range(depth):
+        after = (level + 1) * (width + 1)
+        table += owner(*[member("m%d" % at, after, *tag(level, at)) for at in range(width)])
+    return table + b"\2"
+
+
+def long_names(last):
+    """Seven groups of 16 members, whose names differ in the last octet only, or not at all."""
+    table = b""
+    for _ in range(7):
+        table += sequence(*[member("a" * 23 + (chr(97 + at) if last else "a"), 7 * 17, 2, at)
+                            for at in range(16)])
+    return table + b"\2"
+
+
+def hostile():
+    """Tables as large as they come that a check by plain recursion would take long for, by name."""
+    return {
+        "chains of 16 rows, SEQUENCEs of 7 members of one type":
+            layered(15, 7, sequence, lambda level, at: (1, at)),
+        "chains of 17 rows, SEQUENCEs of 6 members of one type":
+            layered(16, 6, sequence, lambda level, at: (1, at)),
+        "chains of 16 rows, CHOICEs of 7 members of one type":
+            layered(15, 7, choice, lambda level, at: (1, at)),
+        "chains of 16 rows, CHOICEs with an untagged CHOICE":
+            layered(15, 2, choice, lambda level, at: (0, 0) if at else (1, level)),
+        "chains of 16 rows, CHOICEs of 7 untagged CHOICEs":
+            layered(15, 7, choice, lambda level, at: (0, 0)),
+        "names that differ in the last octet": long_names(True),
+        "equal names": long_names(False),
+        "lists of lists, 127 deep": b"".join(of(14, at + 1) for at in range(127)) + b"\2",
+        "128 rows": b"\2" * 128,
+        "129 rows": b"\2" * 129,
+        "4,992 octets": member("a", 0) * 128,
+        "4,993 octets": b"\2" * 4993,
+    }
+
+
+def tables():
+    """All tables, each once."""
+    found = dict.fromkeys(hostile().values())
+    found.update(dict.fromkeys(case.inputs[0] for case in written.cases(LONGEST) if case.entry == "table"))
+    for count, drawer, way in ((EDGES, draw.CaseDrawer(41), "edge"), (SMALL, draw.CaseDrawer(42), "of"),
+                               (LARGE, draw.CaseDrawer(43, draw.LARGE), "of")):
+        most = len(found) + count
+        while len(found) < most:
+            case = drawer.edge() if way == "edge" else drawer.of("table")
+            if len(case.inputs[0]) <= LONGEST:
+                found.setdefault(case.inputs[0])
+    dice = random.Random(44)
+    for _ in range(LOOSE):
+        found.setdefault(bytes(dice.choice([dice.randrange(17), dice.randrange(256)])
+                               for _ in range(dice.randint(1, 60))))
+    return list(found)
+
+
+def spread_choices(levels):
+    """A list of CHOICEs, each of one tagged alternative and an untagged CHOICE; an INTEGER is the last of all."""
+    last = 1 + 3 * levels
+    table = of(14, 1)
+    for level in range(levels):
+        table += choice(member("a", last + 1, 2, level), member("z", last if level == levels - 1 else 1 + 3 * (level + 1)))
+    return table + b"\2" + b"\4"
+
+
+def hostile_values():
+    """Tables and values of full length that a careless check would take long for, by name."""
+    nulls = (4096 - 4) // 2
+    deep = b"\5\0"
+    for _ in range(15):
+        deep = tlv(0x30, deep)
+    lists = b"".join(of(14, at + 1) for at in range(15)) + b"\4"
+    octets = tlv(4, b"a" * 1018)
+    return {
+        "SEQUENCE OF, 2,046 elements": (of(14, 1) + b"\4", tlv(0x30, b"\5\0" * nulls)),
+        "SEQUENCE OF, the last of 2,046 elements wrong": (of(14, 1) + b"\4", tlv(0x30, b"\5\0" * (nulls - 1), b"\1\0")),
+        "SET OF, 2,046 equal elements": (of(15, 1) + b"\4", tlv(0x31, b"\5\0" * nulls)),
+        "SET OF, four elements alike in 1,018 octets": (of(15, 1) + b"\6", tlv(0x31, octets * 4)),
+        "SET OF, the last two in the wrong order": (of(15, 1) + b"\6", tlv(0x31, octets * 2, tlv(4, b"a" * 1017 + b"b"), octets)),
+        "lists of lists, 16 deep": (lists, tlv(0x30, deep[2:] * ((4096 - 4) // len(deep[2:])))),
+        "lists of lists, 17 deep": (lists, tlv(0x30, deep)),
+        "all tags wrong": (of(14, 1) + sequence(*[member("m%d" % at, 18, 2, at, 1) for at in range(16)]) + b"\2",
+                           tlv(0x30, *[tlv(0x30, b"\x90\1\1")] * 800)),
+        "SEQUENCEs of 16 absent members": (of(14, 1) + sequence(*[member("m%d" % at, 18, 2, at, 1) for at in range(16)]) + b"\2",
+                                           tlv(0x30, b"\x30\0" * nulls)),
+        "CHOICEs of 15 levels": (spread_choices(14), tlv(0x30, b"\2\1\1" * ((4096 - 4) // 3))),
+        "octets after the value": (b"\4", b"\5\0" + b"\0" * 4094),
+        "4,096 octets": (b"\6", tlv(4, b"\0" * 4092)),
+        "4,097 octets": (b"\6", tlv(4, b"\0" * 4093)),
+    }
+
+
+def value_cases():
+    """Tables and values, each pair once."""
+    found = dict.fromkeys(hostile_values().values())
+    found.update(dict.fromkeys(case.inputs for case in written.cases(LONGEST_VALUE) if case.entry == "value"))
+    edges, drawer = draw.CaseDrawer(51), draw.CaseDrawer(52)
+    large = draw.CaseDrawer(53, draw.LARGE)
+
+    def edge():
+        case = edges.edge()
+        return case.inputs if case.entry == "value" else None
+
+    for count, one in ((VALUE_EDGES, edge), (VALUES, lambda: drawer.of("value").inputs),
+                       (BROKEN, lambda: drawer.value("value")), (LARGE_VALUES, lambda: large.of("value").inputs)):
+        most = len(found) + count
+        while len(found) < most:
+            inputs = one()
+            if inputs and len(inputs[0]) <= LONGEST and len(inputs[1]) <= LONGEST_VALUE:
+                found.setdefault(inputs)
+    return list(found)
+
+
+def given(octets):
+    """An input of octets: its length and they."""
+    return len(octets).to_bytes(2, "big") + octets
+
+
+def files():
+    """The program's input and its output."""
+    asked, told = [], []
+    for table in tables():
+        asked.append(b"t" + given(table))
+        told.append("%s %d\n" % engine.check_table(table))
+    for table, value in value_cases():
+        asked.append(b"v" + given(table) + given(value))
+        told.append(" ".join(str(word) for word in engine.check_value(table, value)) + "\n")
+    return {"stdin": b"".join(asked), "stdout": "".join(told).encode()}
+
+
+def main():
+    """Write the files, or compare them."""
+    for name, octets in files().items():
+        path = FOLDER / name
+        if sys.argv[1:] == ["--check"]:
+            if path.read_bytes() != octets:
+                sys.exit("crates/cases/%s is not what second/corpus.py draws and answers" % name)
+        else:
+            path.write_bytes(octets)
+
+
+if __name__ == "__main__":
+    main()
