@@ -4,10 +4,10 @@ use mathlib.Core.Bool.{Bool, true, false, false≢true}
 use mathlib.Core.List.{List}
 use Prim.Native.Nat.{ℕ, _≤_, _<_, _+_, _-_, _%_}
 use native.Mathlib.Omega.{arith}
-use borrow.Author.Tests.{ltb-false, leb-true, leb-false, eqb-true, eqb-false, eq-eqb}
+use borrow.Author.Tests.{ltb-false, leb-true, leb-false, eqb-true, eqb-false, eq-eqb, le-ltb, lt-leb}
 use lib.Dec.{ltb, leb, eqb}
 use lib.ListN.{length}
-use Rattle.octets.specs.Octets.{octet}
+use Rattle.octets.specs.Octets.{octet, two}
 use Rattle.octets.specs.Pick.{pick, both}
 use Rattle.octets.proofs.Laws.{pick-cases}
 use Rattle.der.specs.Tag.{class, number, tagOf}
@@ -178,3 +178,57 @@ module _ (c : List ℕ) where
   pub legal-time : legal kind.generalizedTime c ≡ legalTime c
   unfolding legal legalText
   legal-time = refl
+
+-- ---- what is read before one end is read before any end that it lies within
+long-before : (n least next end other m after : ℕ) → longLength n least next end ≡ Length.Of m after → after ≤ other → longLength n least next other ≡ Length.Of m after
+unfolding longLength
+long-before n least next end other m after =
+    pick-cases P (ltb end next) _ _ (λ t. refused) (λ t₁. pick-cases P (ltb n least) _ _ (λ t. refused)
+    (λ t e h. let q : next ≡ after = cc in rw (le-ltb other next (omega arith), t) e))
+  where
+    P : Length → Type 0
+    P x = x ≡ Length.Of m after → after ≤ other → pick (ltb other next) Length.Unusable (pick (ltb n least) Length.Unusable (Length.Of n next)) ≡ Length.Of m after
+
+    refused : P Length.Unusable
+    refused e = absurd (let z : _≡_ {A = ℕ} 0 1 = cc in omega arith)
+
+length-before : (s : List ℕ) (at end other n after : ℕ) → lengthAt s at end ≡ Length.Of n after → after ≤ other → lengthAt s at other ≡ Length.Of n after
+unfolding lengthAt
+length-before s at end other n after e h =
+    let w = length-within s at end n after e in
+    let a = w .0 in
+    let b = w .1 in
+    rw (lt-leb other at (omega arith)) (go (ltb (octet s at) 128) (eqb (octet s at) 129) (eqb (octet s at) 130) (rw (lt-leb end at (omega arith)) at e))
+  where
+    go : (x y z : Bool)
+        → pick x (Length.Of (octet s at) (at + 1)) (pick y (longLength (octet s (at + 1)) 128 (at + 2) end) (pick z (longLength (two s (at + 1)) 256 (at + 3) end) Length.Unusable)) ≡ Length.Of n after
+        → pick x (Length.Of (octet s at) (at + 1)) (pick y (longLength (octet s (at + 1)) 128 (at + 2) other) (pick z (longLength (two s (at + 1)) 256 (at + 3) other) Length.Unusable)) ≡ Length.Of n after
+    go true y z e = e
+    go false true z e = long-before (octet s (at + 1)) 128 (at + 2) end other n after e h
+    go false false true e = long-before (two s (at + 1)) 256 (at + 3) end other n after e h
+    go false false false e = e
+
+pub header-before : (s : List ℕ) (at end other o start n : ℕ) → headerAt s at end ≡ Header.Found o start n → start + n ≤ other → headerAt s at other ≡ Header.Found o start n
+unfolding headerAt
+header-before s at end other o start n e h =
+    let l = header-long s at end o start n e in
+    let w = header-within s at end o start n e in
+    rw (lt-leb other at (omega arith)) (go (eqb (number (octet s at)) 31) (rw (lt-leb end at (omega arith)) at e))
+  where
+    sizes : (l : Length) → lengthAt s (at + 1) end ≡ l → sized (octet s at) end l ≡ Header.Found o start n → sized (octet s at) other (lengthAt s (at + 1) other) ≡ Header.Found o start n
+    sizes Length.Unusable q = λ f. absurd (let z : _≡_ {A = ℕ} 0 1 = cc in omega arith)
+    sizes (Length.Of m next) q = pick-cases P (ltb (end - next) m) _ _ (λ u f. absurd (let z : _≡_ {A = ℕ} 0 1 = cc in omega arith)) (λ u f.
+        let b : next ≡ start = cc in
+        let c : m ≡ n = cc in
+        rw (length-before s (at + 1) end other m next q (omega arith), le-ltb (other - next) m (omega arith)) f)
+      where
+        P : Header → Type 0
+        P x = x ≡ Header.Found o start n → sized (octet s at) other (lengthAt s (at + 1) other) ≡ Header.Found o start n
+
+    go : (x : Bool) → pick x Header.Misfit (sized (octet s at) end (lengthAt s (at + 1) end)) ≡ Header.Found o start n → pick x Header.Misfit (sized (octet s at) other (lengthAt s (at + 1) other)) ≡ Header.Found o start n
+    go true f = absurd (let z : _≡_ {A = ℕ} 0 1 = cc in omega arith)
+    go false f = sizes (lengthAt s (at + 1) end) refl f
+
+pub inside-before : (g : ℕ) (s : List ℕ) (at end other start n : ℕ) → insideAt g s at end ≡ Inside.Of start n → start + n ≤ other → insideAt g s at other ≡ Inside.Of start n
+unfolding insideAt
+inside-before g s at end other start n e h = rw (header-before s at end other g start n (inside-view g s at end start n e) h, eq-eqb g g refl)

@@ -45,7 +45,7 @@ framed v at end d w = record { octet = w .octet; start = w .start; n = w .n; hea
 by-inside : (g : ℕ) (v : List ℕ) (at end start n : ℕ) (x : Value) (d : Decoded) → insideAt g v at end ≡ Inside.Of start n → spotAt v at start n ≡ spotOf x → record { value = x; after = start + n } ≡ d → Own v at end d
 by-inside g v at end start n x d e q r = record { octet = g; start = start; n = n; header = inside-view g v at end start n e; ends = ap afterOf r; spot = q ∙ ap (λ (y : Decoded). spotOf (y .value)) r }
 
-found-same : (a b c x y z : ℕ) → _≡_ {A = Header} (Header.Found a b c) (Header.Found x y z) → b + c ≡ y + z
+pub found-same : (a b c x y z : ℕ) → _≡_ {A = Header} (Header.Found a b c) (Header.Found x y z) → b + c ≡ y + z
 found-same a b c x y z e = let p : b ≡ y = cc in let q : c ≡ z = cc in ap₂ _+_ p q
 
 wrapped : (v : List ℕ) (at end : ℕ) (d : Decoded) (n : ℕ) (f : ℕ → ℕ → Option Decoded) → inWrapper afterOf (explicit n) f v at end ≡ some d → Framed v at end d
@@ -72,7 +72,7 @@ mutual
   own (listOf k ty) g v at end d e =
       let w = elements-view v at end d k ty g e in by-inside (tagOctet g k) v at end (w .0) (w .1) (elements (spotAt v at (w .0) (w .1)) (w .2)) d (w .3) refl (w .6)
 
-  own-choice : (ms : Members) (v : List ℕ) (at end : ℕ) (d : Decoded) → alternativeFrom ms v at end ≡ some d → Own v at end d
+  pub own-choice : (ms : Members) (v : List ℕ) (at end : ℕ) (d : Decoded) → alternativeFrom ms v at end ≡ some d → Own v at end d
   own-choice noMore v at end d e = none-some d e
   own-choice (more m ty ms) v at end d e =
       pick-cases (λ (o : Option Decoded). o ≡ some d → Own v at end d) (startsHere m ty v end at) (choiceOf m v at end (inWrapper afterOf (m .tagging) (λ a e. unwrapped ty (m .tagging) v a e) v at end)) (alternativeFrom ms v at end)

@@ -1,5 +1,6 @@
 pub mod Views
 pub mod Laws
+pub mod Before
 pub mod LeafSteps
 pub mod CheckSteps
 pub mod MemberSteps
