@@ -29,6 +29,8 @@ pub record Stands (ty : Ty) (v : List ℕ) (o : Opened) (x : Value) : Type 0 whe
   pub tagging : Tagging
   pub end : ℕ
   pub decoded : unwrapped ty tagging v (o .place) end ≡ some (record { value = x; after = after o })
+  pub octet : ℕ
+  pub header : headerAt v (o .place) end ≡ Header.Found octet (o .start) (o .span)
   pub spot : openedSpot v o ≡ spotOf x
 
 found-start : (a b c x y z : ℕ) → _≡_ {A = Header} (Header.Found a b c) (Header.Found x y z) → b ≡ y
@@ -36,6 +38,14 @@ found-start a b c x y z e = cc
 
 found-span : (a b c x y z : ℕ) → _≡_ {A = Header} (Header.Found a b c) (Header.Found x y z) → c ≡ z
 found-span a b c x y z e = cc
+
+-- contents behind the header of a value that stands are where it was opened
+module _ (ty : Ty) (v : List ℕ) (o : Opened) (x : Value) (s : Stands ty v o x) (g start n : ℕ) (e : insideAt g v (o .place) (s .end) ≡ Inside.Of start n) where
+  pub stands-start : start ≡ o .start
+  stands-start = found-start g start n (s .octet) (o .start) (o .span) (sym (inside-view g v (o .place) (s .end) start n e) ∙ s .header)
+
+  pub stands-span : n ≡ o .span
+  stands-span = found-span g start n (s .octet) (o .start) (o .span) (sym (inside-view g v (o .place) (s .end) start n e) ∙ s .header)
 
 -- a CHOICE can begin with the tag of its alternative
 begins-chosen : (ms : Members) (v : List ℕ) (at end : ℕ) (d : Decoded) → alternativeFrom ms v at end ≡ some d → someBegins ms (tagOf (octet v at)) ≡ true
@@ -91,7 +101,7 @@ open-inner ty g v at end d e =
     let o : Opened = record { place = at; start = w .start; span = w .n } in (
       o,
       ap (λ (i : Inside). opened i (openedAs at)) (own-opened ty g v at end d e w),
-      record { tagging = g; end = end; decoded = e ∙ ap (λ (x : ℕ). some (record { value = d .value; after = x })) (sym (w .ends)); spot = w .spot },
+      record { tagging = g; end = end; decoded = e ∙ ap (λ (x : ℕ). some (record { value = d .value; after = x })) (sym (w .ends)); octet = w .octet; header = w .header; spot = w .spot },
       w .ends,
     )
 
