@@ -300,3 +300,8 @@ mutual
       let a : endOf (w .0 .value) ≤ w .0 .after = (let l = p .last in omega arith) in
       subst (LieInFields i stop) (w .5) (x, fields-wider (endOf (w .0 .value)) (w .0 .after) stop (w .1) a (fields-lie ms v stop (w .0 .after) (w .1) (w .4))))
       (λ t f. let w = absent-view m (fieldsFrom ms v stop i) fs f in subst (LieInFields i stop) (w .3) (fields-lie ms v stop i (w .0) (w .2))) e
+
+-- a value of a type under any tag mode
+pub placed : (ty : Ty) (g : Tagging) (v : List ℕ) (at end : ℕ) (d : Decoded) → decode ty g v at end ≡ some d → Placed at end d
+unfolding decode
+placed ty g v at end d e = placed-by g (unwrapped ty g v) v at end d (λ a z q. placed-own v a z d (own ty g v a z d q) (lies ty g v a z d q)) e
