@@ -1,8 +1,5 @@
 pub mod Limits
 pub mod Filter
-pub mod Spaces
-pub mod ValueText
-pub mod Assertion
 pub mod Parse
 pub mod Computing
 pub mod Paper

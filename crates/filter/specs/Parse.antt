@@ -11,8 +11,8 @@ use Rattle.octets.specs.Text.{within as inRange, starts, skip}
 use Rattle.octets.specs.Utf8.{utf8}
 use Rattle.filter.specs.Limits.{Limits}
 use Rattle.filter.specs.Filter.{Join, and, or, Filter, Filters, item, list, inverse, endFilters, next, depth, items}
-use Rattle.filter.specs.Spaces.{markAt, comma, openBrace, closeBrace}
-use Rattle.filter.specs.Assertion.{Read, readTo, assertionAt}
+use Rattle.assertion.specs.Spaces.{markAt, comma, openBrace, closeBrace}
+use Rattle.assertion.specs.Assertion.{Read, readTo, assertionAt}
 
 -- what a filter begins with: an assertion at a place, an empty list that ends at a place, a list whose first filter is at a place, a filter
 -- under `not:`, or nothing that a filter begins with
