@@ -12,14 +12,18 @@ use lib.Seq.{take-take}
 use Rattle.octets.specs.Pick.{pick, both, no, bind}
 use Rattle.octets.specs.Octets.{octet, part}
 use Rattle.octets.specs.Text.{starts, lead, skip, trimmed}
-use Rattle.octets.specs.Quoted.{closing, closingAt}
+use Rattle.octets.specs.Quoted.{closing, closingAt, undoubled, characters}
 use Rattle.octets.specs.Answers.{told}
 use Rattle.octets.specs.declared.Place.{Place}
 use Rattle.octets.proofs.Laws.{both-true, rest-length, octet-inside}
 use Rattle.assertion.specs.Spaces.{labelAt, markAt, openBrace, closeBrace, comma}
 use Rattle.assertion.specs.ValueText.{ValueText, braceFrom, braceAt, notEmpty, valueTextAt}
 use Rattle.assertion.specs.Assertion.{Read, readTo, followed, ifLabelled, quotedPart, componentAt, truthPart, defaultsAt, isRule, commaFrom, ruleAt, valueAt, assertionAt}
-use Rattle.assertion.specs.Places.{wordAt, between}
+use Rattle.assertion.specs.Item.{Item}
+use Rattle.assertion.specs.Places.{wordAt, between, withinQuotes, componentOf, itemOf, assertionTold}
+use Rattle.assertion.specs.declared.Component.{Component}
+use Rattle.assertion.specs.declared.Parts.{Parts}
+use Rattle.assertion.specs.declared.Assertion.{Assertion}
 
 -- ---- what there is, or nothing
 pub some-is : {A : Type 0} {a b : A} → some a ≡ some b → a ≡ b
@@ -180,3 +184,22 @@ module _ (s : List ℕ) (at b : ℕ) where
       go : (t : Bool) → pick t (closing (drop (at + 1) s) (at + 1)) none ≡ some b → (at < b) × (b < length s)
       go true f = let r = closing-from (drop (at + 1) s) (at + 1) b f in (omega arith, omega (arith, rest-length s (at + 1)))
       go false f = absurd (none-not f)
+
+-- ---- from places to contents
+-- the reader's places are those of the item that the definition reads
+module _ (s : List ℕ) (at : ℕ) (a : Assertion) (e : assertionTold s a ≡ assertionAt s at) where
+  pub good-parts : (p : Parts) → a ≡ Assertion.Good p → assertionAt s at ≡ readTo (itemOf s p) (p .after)
+  good-parts p q = sym e ∙ ap (assertionTold s) q
+
+  pub good-item : (p : Parts) (i : Read Item) → a ≡ Assertion.Good p → assertionAt s at ≡ some i → (i .is ≡ itemOf s p) × (i .after ≡ p .after)
+  good-item p i q r =
+      let z = some-is (sym r ∙ good-parts p q) in
+      (ap (λ (x : Read Item). x .is) z, ap (λ (x : Read Item). x .after) z)
+
+  pub bad-parts : a ≡ Assertion.Bad → assertionAt s at ≡ none
+  bad-parts q = sym e ∙ ap (assertionTold s) q
+
+-- the reference is between its quotes, with one quote for two
+pub component-quoted : (s : List ℕ) (a b : ℕ) → componentOf s (Component.Quoted a b) ≡ some (undoubled (withinQuotes s a b))
+unfolding characters
+component-quoted s a b = refl

@@ -20,7 +20,7 @@ use Rattle.assertion.specs.Spaces.{labelAt, markAt}
 use Rattle.assertion.specs.ValueText.{ValueText, braceFrom, braceAt, valueTextAt}
 use Rattle.assertion.specs.Assertion.{readTo, followed, quotedPart, componentAt, truthPart, defaultsAt, commaFrom, isNameLetter, isRuleName, isRule, ruleAt, valueAt, assertionAt}
 use Rattle.assertion.specs.Work.{ruleFrom, valuesAt, partsAt}
-use Rattle.assertion.specs.Places.{wordAt, between, componentOf, componentTold, defaultsTold, ruleTold, valueTold, assertionTold}
+use Rattle.assertion.specs.Places.{wordAt, between, withinQuotes, componentOf, componentTold, defaultsTold, ruleTold, valueTold, assertionTold}
 use Rattle.assertion.specs.declared.ComponentPart.{ComponentPart}
 use Rattle.assertion.specs.declared.DefaultsPart.{DefaultsPart}
 use Rattle.assertion.specs.declared.RulePart.{RulePart}
@@ -30,6 +30,13 @@ use Rattle.assertion.specs.declared.Parts.{Parts}
 use Rattle.assertion.specs.declared.Assertion.{Assertion}
 use Rattle.assertion.proofs.Laws.{at-place, at-none, starts-fits, word-there, word-not, trimmed-space, trimmed-other, trimmed-part, brace-within, comma-within, closing-within}
 use Rattle.assertion.proofs.Progress.{value-onward, assertion-steps}
+
+-- ---- parts of a text
+pub between-none : (s t : List ℕ) (a b : ℕ) → t ≡ part s a 0 → b ≤ a → t ≡ between s a b
+between-none s t a b e h = let z : 0 ≡ b - a = omega arith in e ∙ ap (part s a) z
+
+pub quotes-none : (s t : List ℕ) (a b : ℕ) → t ≡ part s a 0 → b ≤ a → t ≡ withinQuotes s a b
+quotes-none s t a b e h = let z : 0 ≡ b - (a + 1) = omega arith in e ∙ ap (part s (a + 1)) z
 
 -- ---- words, labels and marks
 module _ (w s : List ℕ) (at : ℕ) where

@@ -5,3 +5,4 @@ pub mod Assertion
 pub mod Work
 pub mod Places
 pub mod Computing
+pub mod Examples

@@ -29,6 +29,10 @@ wordAt w s at = pick (starts w (drop at s)) (some (at + length w)) none
 abbrev pub between : List ℕ → ℕ → ℕ → List ℕ
 between s a b = part s a (b - a)
 
+-- between two quotes
+abbrev pub withinQuotes : List ℕ → ℕ → ℕ → List ℕ
+withinQuotes s a b = between s (a + 1) b
+
 -- ---- `component`: missing, or between its quotes
 abbrev pub componentOf : List ℕ → Component → Option (List ℕ)
 componentOf s Missing = none

@@ -58,6 +58,27 @@ pub enum Assertion {
     Bad,
 }
 
+// ---- parts of a text
+// From a place to another, nothing where the second is not further on.
+pub fn between(s: &[u8], a: usize, b: usize) -> &[u8]
+    ensures { λ r. ⌜ now r ≡ places.between (now (s .entry)) a b ⌝ }
+{
+    if b <= a {
+        return octets::part(s, a, 0);
+    }
+    octets::part(s, a, b - a)
+}
+
+// What stands between two quotes, doubled quotes as they are.
+pub fn within_quotes(s: &[u8], a: usize, b: usize) -> &[u8]
+    ensures { λ r. ⌜ now r ≡ places.withinQuotes (now (s .entry)) a b ⌝ }
+{
+    if b <= a {
+        return octets::part(s, a, 0);
+    }
+    between(s, a + 1, b)
+}
+
 // ---- words, labels and marks
 // The place after a word that stands at a place.
 pub fn word_at(s: &[u8], at: usize, w: &[u8]) -> Place
@@ -76,7 +97,7 @@ pub fn label_at(s: &[u8], at: usize, w: &[u8]) -> Place
     let Place::At(p) = word_at(s, at, w) else {
         return Place::Nowhere;
     };
-    if octets::octet(s, p) != 32 {
+    if octets::octet(s, p) != b' ' {
         return Place::Nowhere;
     }
     Place::At(octets::skip(s, p))
@@ -105,15 +126,15 @@ fn brace_at(s: &[u8], at: usize) -> Place
     let mut inner: usize = 0;
     let mut quoted = false;
     while i < s.len() {
-        if s[i] == 34 {
+        if s[i] == b'"' {
             quoted = !quoted;
             i += 1;
         } else if quoted {
             i += 1;
-        } else if s[i] == 123 {
+        } else if s[i] == b'{' {
             inner += 1;
             i += 1;
-        } else if s[i] != 125 {
+        } else if s[i] != b'}' {
             i += 1;
         } else if inner == 0 {
             return Place::At(i);
@@ -131,7 +152,7 @@ fn trimmed_length(t: &[u8]) -> usize
 {
     let mut n = t.len();
     while 0 < n {
-        if t[n - 1] != 32 {
+        if t[n - 1] != b' ' {
             return n;
         }
         n -= 1;
@@ -146,7 +167,7 @@ fn comma_at(s: &[u8], at: usize) -> Place
 {
     let mut i = at;
     while i < s.len() {
-        if s[i] == 44 {
+        if s[i] == b',' {
             return Place::At(i);
         }
         i += 1;
@@ -160,7 +181,7 @@ fn is_name_letter(b: u8) -> bool
     if octets::is_alnum(b) {
         return true;
     }
-    b == 45
+    b == b'-'
 }
 
 fn all_name_letters(t: &[u8]) -> bool
@@ -193,7 +214,7 @@ fn quoted_part(s: &[u8], at: usize) -> ComponentPart
     let Place::At(close) = octets::closing_at(s, at) else {
         return ComponentPart::Bad;
     };
-    let Place::At(p) = mark_at(s, close + 1, 44) else {
+    let Place::At(p) = mark_at(s, close + 1, b',') else {
         return ComponentPart::Bad;
     };
     ComponentPart::Of(Component::Quoted(at, close), p)
@@ -212,7 +233,7 @@ fn component_part(s: &[u8], at: usize) -> ComponentPart
 fn truth_followed(s: &[u8], at: usize, d: bool) -> DefaultsPart
     ensures { λ r. ⌜ places.defaultsTold r ≡ assertion.followed (now (s .entry)) at d ⌝ }
 {
-    let Place::At(p) = mark_at(s, at, 44) else {
+    let Place::At(p) = mark_at(s, at, b',') else {
         return DefaultsPart::Bad;
     };
     DefaultsPart::Of(d, p)
@@ -282,7 +303,7 @@ fn rule_from(s: &[u8], at: usize) -> RulePart
     if !is_rule(octets::part(s, at, end - at)) {
         return RulePart::Bad;
     }
-    let Place::At(p) = mark_at(s, end, 44) else {
+    let Place::At(p) = mark_at(s, end, b',') else {
         return RulePart::Bad;
     };
     RulePart::Of(at, end, p)
@@ -336,7 +357,7 @@ fn read_parts(s: &[u8], at: usize) -> Assertion
 pub fn read_assertion(s: &[u8], at: usize) -> Assertion
     ensures { λ r. ⌜ places.assertionTold (now (s .entry)) r ≡ assertion.assertionAt (now (s .entry)) at ⌝ }
 {
-    let Place::At(p) = mark_at(s, at, 123) else {
+    let Place::At(p) = mark_at(s, at, b'{') else {
         return Assertion::Bad;
     };
     read_parts(s, p)

@@ -1,0 +1,5 @@
+pub mod Tests
+pub mod Progress
+pub mod Laws
+pub mod Bounds
+pub mod Steps
