@@ -3,22 +3,22 @@ use mathlib.Core.Path.{_≡_, refl, sym, ap, _∙_}
 use mathlib.Core.Bool.{Bool, true, false, false≢true}
 use mathlib.Core.List.{List, [], _∷_, _++_}
 use mathlib.Core.Option.{Option, none, some}
-use Prim.Native.Nat.{ℕ, zero, suc, _≤_, _<_, _+_, _-_}
+use Prim.Native.Nat.{ℕ, suc, _≤_, _<_, _+_, _-_}
 use native.Mathlib.Omega.{arith}
-use borrow.Author.Tests.{eq-eqb, ne-eqb, eqb-true}
+use borrow.Author.Tests.{ne-eqb}
 use lib.Dec.{eqb}
-use lib.ListN.{length, take, drop, length-drop, length-take, length-append}
+use lib.ListN.{length, take, drop, length-take, length-append}
 use lib.Seq.{take-take}
-use Rattle.octets.specs.Pick.{pick, both, no, bind}
+use Rattle.octets.specs.Pick.{pick, no, bind}
 use Rattle.octets.specs.Octets.{octet, part}
-use Rattle.octets.specs.Text.{starts, lead, skip, trimmed}
+use Rattle.octets.specs.Text.{starts, trimmed}
 use Rattle.octets.specs.Quoted.{closing, closingAt, undoubled, characters}
 use Rattle.octets.specs.Answers.{told}
 use Rattle.octets.specs.declared.Place.{Place}
-use Rattle.octets.proofs.Laws.{both-true, rest-length, octet-inside}
-use Rattle.assertion.specs.Spaces.{labelAt, markAt, openBrace, closeBrace, comma}
-use Rattle.assertion.specs.ValueText.{ValueText, braceFrom, braceAt, notEmpty, valueTextAt}
-use Rattle.assertion.specs.Assertion.{Read, readTo, followed, ifLabelled, quotedPart, componentAt, truthPart, defaultsAt, isRule, commaFrom, ruleAt, valueAt, assertionAt}
+use Rattle.octets.proofs.Laws.{both-true, rest-length}
+use Rattle.assertion.specs.Spaces.{openBrace, closeBrace, comma}
+use Rattle.assertion.specs.ValueText.{braceFrom, braceAt}
+use Rattle.assertion.specs.Assertion.{Read, readTo, commaFrom, assertionAt}
 use Rattle.assertion.specs.Item.{Item}
 use Rattle.assertion.specs.Places.{wordAt, between, withinQuotes, componentOf, itemOf, assertionTold}
 use Rattle.assertion.specs.declared.Component.{Component}

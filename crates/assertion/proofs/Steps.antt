@@ -2,14 +2,13 @@
 use mathlib.Core.Path.{_≡_, refl, sym, ap, _∙_}
 use mathlib.Core.Bool.{Bool, true, false, not, false≢true}
 use mathlib.Core.List.{List, [], _∷_, _++_}
-use mathlib.Core.Option.{Option, none, some}
-use Prim.Native.Nat.{ℕ, zero, suc, _≤_, _<_, _+_, _-_}
+use mathlib.Core.Option.{none, some}
+use Prim.Native.Nat.{ℕ, suc, _≤_, _<_, _+_, _-_}
 use native.Mathlib.Omega.{arith}
 use borrow.Author.Tests.{eq-eqb, ne-eqb, not-true, not-false}
-use lib.Dec.{eqb}
 use lib.ListN.{length, take, drop}
 use lib.Seq.{take-suc, take-length, length-take-le}
-use Rattle.octets.specs.Pick.{pick, no}
+use Rattle.octets.specs.Pick.{no}
 use Rattle.octets.specs.Octets.{octet, part, every, bytes}
 use Rattle.octets.specs.Text.{isLower, isUpper, isLetter, isAlnum, starts, skip, trimmed}
 use Rattle.octets.specs.Quoted.{closingAt, characters}
@@ -17,7 +16,7 @@ use Rattle.octets.specs.Answers.{told}
 use Rattle.octets.specs.declared.Place.{Place}
 use Rattle.octets.proofs.Laws.{octet-past, rest-cons, rest-none}
 use Rattle.assertion.specs.Spaces.{labelAt, markAt}
-use Rattle.assertion.specs.ValueText.{ValueText, braceFrom, braceAt, valueTextAt}
+use Rattle.assertion.specs.ValueText.{braceFrom, braceAt, valueTextAt}
 use Rattle.assertion.specs.Assertion.{readTo, followed, quotedPart, componentAt, truthPart, defaultsAt, commaFrom, isNameLetter, isRuleName, isRule, ruleAt, valueAt, assertionAt}
 use Rattle.assertion.specs.Work.{ruleFrom, valuesAt, partsAt}
 use Rattle.assertion.specs.Places.{wordAt, between, withinQuotes, componentOf, componentTold, defaultsTold, ruleTold, valueTold, assertionTold}
@@ -26,7 +25,6 @@ use Rattle.assertion.specs.declared.DefaultsPart.{DefaultsPart}
 use Rattle.assertion.specs.declared.RulePart.{RulePart}
 use Rattle.assertion.specs.declared.ValuePart.{ValuePart}
 use Rattle.assertion.specs.declared.Component.{Component}
-use Rattle.assertion.specs.declared.Parts.{Parts}
 use Rattle.assertion.specs.declared.Assertion.{Assertion}
 use Rattle.assertion.proofs.Laws.{at-place, at-none, starts-fits, word-there, word-not, trimmed-space, trimmed-other, trimmed-part, brace-within, comma-within, closing-within}
 use Rattle.assertion.proofs.Progress.{value-onward, assertion-steps}

@@ -4,14 +4,13 @@ use mathlib.Core.Bool.{Bool}
 use mathlib.Core.Option.{Option, none, some}
 use mathlib.Core.List.{List}
 use lib.ListN.{length, drop}
-use Rattle.octets.specs.Pick.{pick, bind}
+use Rattle.octets.specs.Pick.{pick}
 use Rattle.octets.specs.Octets.{part}
 use Rattle.octets.specs.Text.{starts}
 use Rattle.octets.specs.Quoted.{characters}
 use Rattle.assertion.specs.Item.{Item}
-use Rattle.assertion.specs.Spaces.{openBrace, markAt}
 use Rattle.assertion.specs.ValueText.{ValueText}
-use Rattle.assertion.specs.Assertion.{Read, readTo, componentAt, defaultsAt, ruleAt, valueAt, assertionAt}
+use Rattle.assertion.specs.Assertion.{Read, readTo}
 use Rattle.assertion.specs.declared.Component.{Component}
 use Rattle.assertion.specs.declared.Component.the-variants.{Missing, Quoted}
 use Rattle.assertion.specs.declared.ComponentPart.{ComponentPart}

@@ -1,7 +1,7 @@
 // The assertion of an item: where each of its parts stands in the text.
 use octets::Place;
 ghost use mathlib.Core.Path.{_≡_};
-ghost use Prim.Native.Nat.{_<_, _+_};
+ghost use Prim.Native.Nat.{_<_};
 ghost use lib.ListN.{length, drop};
 ghost use Rattle.octets.specs.Octets.{every};
 ghost use Rattle.octets.specs.Answers.{told};

@@ -1,4 +1,3 @@
-pub mod Tests
 pub mod Progress
 pub mod Laws
 pub mod Bounds

@@ -1,6 +1,6 @@
 -- What is read ends further on, within the text; so the number that bounds the calls does not matter where it is large enough.
-use mathlib.Core.Path.{_≡_, refl, sym, ap, _∙_, subst}
-use mathlib.Core.Bool.{Bool, true, false}
+use mathlib.Core.Path.{_≡_, refl, ap, _∙_, subst}
+use mathlib.Core.Bool.{true}
 use mathlib.Core.List.{List}
 use mathlib.Core.Option.{Option, none, some}
 use Prim.Native.Nat.{ℕ, zero, suc, _+_, _-_, _<_, _≤_}
@@ -8,17 +8,17 @@ use native.Mathlib.Omega.{arith}
 use borrow.Author.Tests.{eqb-true}
 use lib.Dec.{eqb}
 use lib.ListN.{length, drop}
-use Rattle.octets.specs.Pick.{pick, bind}
+use Rattle.octets.specs.Pick.{bind}
 use Rattle.octets.specs.Octets.{octet, bytes}
 use Rattle.octets.specs.Text.{starts, skip}
 use Rattle.octets.proofs.Laws.{pick-cases, octet-inside}
 use Rattle.assertion.specs.Item.{Item}
 use Rattle.assertion.specs.Spaces.{markAt, comma, openBrace, closeBrace}
-use Rattle.assertion.specs.Assertion.{Read, readTo, assertionAt}
+use Rattle.assertion.specs.Assertion.{Read, assertionAt}
 use Rattle.assertion.proofs.Laws.{some-is, none-not, starts-fits}
 use Rattle.assertion.proofs.Progress.{Further, skip-from, mark-further, assertion-further}
-use Rattle.filter.specs.Filter.{Join, and, or, Filter, Filters, item, list, inverse, endFilters, next}
-use Rattle.filter.specs.Parse.{Head, assertion, emptyList, openList, negation, noHead, inBraces, headAt, Tail, another, closed, noTail, orClosed, tailAt, made, byHead, byTail, afterFirst, filterFrom, filtersFrom, filterAt, filtersAt}
+use Rattle.filter.specs.Filter.{Join, and, or, Filter, Filters, item, list, inverse, next}
+use Rattle.filter.specs.Parse.{Head, assertion, emptyList, openList, negation, noHead, inBraces, headAt, Tail, another, closed, noTail, orClosed, tailAt, made, byHead, byTail, afterFirst, filterFrom, filtersFrom}
 
 -- ---- heads and tails
 abbrev pub HeadOn : ℕ → ℕ → Head → Type 0

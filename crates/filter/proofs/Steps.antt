@@ -3,21 +3,20 @@ use mathlib.Core.Path.{_≡_, refl, sym, ap, _∙_, subst}
 use mathlib.Core.Bool.{Bool, true, false, not}
 use mathlib.Core.List.{List}
 use mathlib.Core.Option.{Option, none, some}
-use Prim.Native.Nat.{ℕ, suc, _+_, _-_, _<_, _≤_}
+use Prim.Native.Nat.{ℕ, _+_, _-_, _<_, _≤_}
 use native.Mathlib.Omega.{arith}
-use native.Mathlib.Nat.{sub-zero}
-use borrow.Author.Tests.{eq-eqb, ne-eqb, le-leb, lt-leb, leb-true, not-true, not-false}
+use borrow.Author.Tests.{eq-eqb, ne-eqb, le-leb, not-true, not-false}
 use lib.Dec.{leb, eqb}
-use lib.ListN.{length, drop}
+use lib.ListN.{length}
 use Rattle.octets.specs.Pick.{pick, both, bind}
 use Rattle.octets.specs.Octets.{octet, bytes}
-use Rattle.octets.specs.Text.{starts, skip}
+use Rattle.octets.specs.Text.{skip}
 use Rattle.octets.specs.Utf8.{utf8}
 use Rattle.octets.specs.Answers.{told}
 use Rattle.octets.specs.declared.Place.{Place}
 use Rattle.octets.proofs.Laws.{octet-past}
 use Rattle.assertion.specs.Spaces.{markAt}
-use Rattle.assertion.specs.Assertion.{Read, readTo, assertionAt}
+use Rattle.assertion.specs.Assertion.{Read, assertionAt}
 use Rattle.assertion.specs.Places.{wordAt, assertionTold}
 use Rattle.assertion.specs.declared.Assertion.{Assertion}
 use Rattle.assertion.specs.declared.Parts.{Parts}
@@ -26,7 +25,7 @@ use Rattle.filter.specs.Filter as filter
 use Rattle.filter.specs.Filter.{Filter, item, depth, items}
 use Rattle.filter.specs.Parse.{inBraces, headAt, tailAt, made, byTail, filterAt, filtersAt, ifWhole, withinLimits, whole, parse, assertion, emptyList, openList, negation, noHead, another, closed, noTail}
 use Rattle.filter.specs.Limits.{Limits}
-use Rattle.filter.specs.Answers.{joinOf, headOf, tailOf, bounded, boundedIn, fitting, limits, counted}
+use Rattle.filter.specs.Answers.{joinOf, headOf, tailOf, bounded, boundedIn, limits, counted}
 use Rattle.filter.proofs.Progress.{TailOn, tail-on}
 use Rattle.filter.proofs.Laws.{filters-step, filter-further, filter-by, filters-by}
 use Rattle.filter.proofs.Bounds.{bounded-none, bounded-item, bounded-empty, bounded-list, bounded-negation, bounded-of, bad-first, bounded-more, bounded-last}

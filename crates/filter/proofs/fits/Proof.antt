@@ -1,6 +1,5 @@
 use Rattle.filter.specs.Parse.{filterFits}
-use Rattle.filter.proofs.Tests.{tests}
-use borrow.Author.Needs.{needs}
+use Rattle.octets.proofs.Tests.{tests}
 use Rattle.filter.proofs.fits.Statement.{statement}
 use Rattle.filter.proofs.fits.Tie as tie
 
