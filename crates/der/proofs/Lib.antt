@@ -1,5 +1,6 @@
 pub mod Tests
 pub mod Laws
+pub mod DottedLaws
 pub mod Steps
 pub mod ContentsSteps
 pub mod SubSteps

@@ -1,18 +1,9 @@
 -- Filters. "`item:` before a braced assertion, `and:` and `or:` before a braced list, `not:` before a filter. So a list holds filters and a
 -- filter may hold a list."
 use Prim.Native.Nat.{ℕ, _+_}
-use mathlib.Core.Bool.{Bool}
-use mathlib.Core.Option.{Option}
-use mathlib.Core.List.{List}
 use lib.Dec.{ltb}
 use Rattle.octets.specs.Pick.{pick}
-
--- an assertion: its reference or none, useDefaultValues, the text of its rule, its value text
-pub record Item : Type 0 where
-  pub component : Option (List ℕ)
-  pub defaults : Bool
-  pub rule : List ℕ
-  pub value : List ℕ
+pub use Rattle.assertion.specs.Item.{Item}
 
 pub data Join : Type 0 where
   and : Join

@@ -1,9 +1,7 @@
 pub mod Limits
 pub mod Filter
-pub mod Spaces
-pub mod ValueText
-pub mod Assertion
 pub mod Parse
+pub mod Answers
 pub mod Computing
 pub mod Paper
 pub mod Examples

@@ -11,8 +11,8 @@ use Rattle.octets.specs.Text.{within as inRange, starts, skip}
 use Rattle.octets.specs.Utf8.{utf8}
 use Rattle.filter.specs.Limits.{Limits}
 use Rattle.filter.specs.Filter.{Join, and, or, Filter, Filters, item, list, inverse, endFilters, next, depth, items}
-use Rattle.filter.specs.Spaces.{markAt, comma, openBrace, closeBrace}
-use Rattle.filter.specs.Assertion.{Read, readTo, assertionAt}
+use Rattle.assertion.specs.Spaces.{markAt, comma, openBrace, closeBrace}
+use Rattle.assertion.specs.Assertion.{Read, readTo, assertionAt}
 
 -- what a filter begins with: an assertion at a place, an empty list that ends at a place, a list whose first filter is at a place, a filter
 -- under `not:`, or nothing that a filter begins with
@@ -82,6 +82,9 @@ unfoldable mutual
 
 unfoldable pub filterAt : List ℕ → ℕ → Option (Read Filter)
 filterAt s at = filterFrom (length s + 1) s at
+
+unfoldable pub filtersAt : List ℕ → ℕ → Option (Read Filters)
+filtersAt s at = filtersFrom (length s + 2) s at
 
 -- ---- the whole text; "Depth at most 16 .., at most 64 items"
 abbrev pub ifWhole : List ℕ → Read Filter → Option Filter

@@ -103,7 +103,7 @@ module _ (size : Size) (n d : ℕ) (e : size ≡ Size.Of n) where
   grow-to h f = grown (grow-is n d h f)
 
 -- one digit more of a clipped number
-grow-clip : (n d : ℕ) → growOf (clip n) d ≡ clip (n * 10 + d)
+pub grow-clip : (n d : ℕ) → growOf (clip n) d ≡ clip (n * 10 + d)
 grow-clip n d = go (ltb n 18446744073709551616) refl
   where
     go : (t : Bool) → ltb n 18446744073709551616 ≡ t → growOf (pick t (Size.Of n) Size.Beyond) d ≡ clip (n * 10 + d)

@@ -11,9 +11,9 @@ use Rattle.octets.specs.Octets.{part, every, bytes}
 use Rattle.octets.specs.Text.{isLetter, isAlnum, starts}
 use Rattle.octets.specs.Quoted.{closingAt, characters}
 use Rattle.der.specs.Dotted.{isDotted}
-use Rattle.filter.specs.Filter.{Item}
-use Rattle.filter.specs.Spaces.{labelAt, markAt, comma, openBrace}
-use Rattle.filter.specs.ValueText.{ValueText, valueTextAt}
+use Rattle.assertion.specs.Item.{Item}
+use Rattle.assertion.specs.Spaces.{labelAt, markAt, comma, openBrace}
+use Rattle.assertion.specs.ValueText.{ValueText, valueTextAt}
 
 -- a part of an assertion, and the place after it
 pub record Read (A : Type 0) : Type 0 where

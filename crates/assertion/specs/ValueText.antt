@@ -9,7 +9,7 @@ use lib.Dec.{eqb}
 use Rattle.octets.specs.Pick.{pick, no, _>>=_}
 use Rattle.octets.specs.Octets.{part}
 use Rattle.octets.specs.Text.{trimmed}
-use Rattle.filter.specs.Spaces.{openBrace, closeBrace}
+use Rattle.assertion.specs.Spaces.{openBrace, closeBrace}
 
 -- the place of the closing brace, in a text that stands at a place, where so many braces are open inside, and in quotes or not
 unfoldable pub braceFrom : List ℕ → ℕ → ℕ → Bool → Option ℕ

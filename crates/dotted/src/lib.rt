@@ -1,0 +1,192 @@
+// OBJECT IDENTIFIERs in dotted form, arc by arc, with arcs of any size.
+use octets::Size;
+ghost use mathlib.Core.Path.{_≡_};
+ghost use Prim.Native.Nat.{_-_};
+ghost use lib.ListN.{drop};
+ghost use Rattle.octets.specs.Text.{pieces};
+ghost use Rattle.der.specs.Dotted.{everyNumber, isDotted};
+ghost use Rattle.dotted.specs.Arcs as arcs;
+
+// What the digits of an arc are so far: none, a single 0, a number without a leading 0, or no number.
+pub enum Form {
+    Empty,
+    Zero,
+    Number,
+    Broken,
+}
+
+// The digits of an arc so far: the number they stand for, and their form.
+pub struct Digits {
+    pub size: Size,
+    pub form: Form,
+}
+
+// Where the next arc starts, if there is one.
+pub enum Dots {
+    At(usize),
+    Over,
+}
+
+// An arc: its number, whether it is written as one, and where the next arc starts.
+pub struct Arc {
+    pub size: Size,
+    pub formed: bool,
+    pub next: Dots,
+}
+
+fn first_digit(b: u8) -> Form
+    ensures { λ r. ⌜ r ≡ arcs.firstDigit b ⌝ }
+{
+    if b == 48 {
+        return Form::Zero;
+    }
+    more_digit(b)
+}
+
+fn more_digit(b: u8) -> Form
+    ensures { λ r. ⌜ r ≡ arcs.moreDigit b ⌝ }
+{
+    if octets::is_digit(b) {
+        return Form::Number;
+    }
+    Form::Broken
+}
+
+fn after_digit(f: Form, b: u8) -> Form
+    ensures { λ r. ⌜ r ≡ arcs.afterDigit f b ⌝ }
+{
+    match f {
+        Form::Empty => first_digit(b),
+        Form::Zero => Form::Broken,
+        Form::Number => more_digit(b),
+        Form::Broken => Form::Broken,
+    }
+}
+
+fn is_formed(f: Form) -> bool
+    ensures { λ r. ⌜ r ≡ arcs.isFormed f ⌝ }
+{
+    match f {
+        Form::Empty => false,
+        Form::Zero => true,
+        Form::Number => true,
+        Form::Broken => false,
+    }
+}
+
+// One digit more.
+fn add_digit(d: Digits, b: u8) -> Digits
+    ensures { λ r. ⌜ r ≡ arcs.addDigit d b ⌝ }
+{
+    let size = d.size;
+    let form = d.form;
+    Digits {
+        size: octets::grow(size, octets::digit(b)),
+        form: after_digit(form, b),
+    }
+}
+
+fn arc_of(d: Digits, next: Dots) -> Arc
+    ensures { λ r. ⌜ r ≡ arcs.arcOf d next ⌝ }
+{
+    let size = d.size;
+    let form = d.form;
+    Arc {
+        size,
+        formed: is_formed(form),
+        next,
+    }
+}
+
+// The arc that starts at a place.
+fn read_arc(t: &[u8], at: usize) -> Arc
+    ensures { λ r. ⌜ r ≡ arcs.arcAt (now (t .entry)) at ⌝ }
+{
+    let mut i = at;
+    let mut d = Digits {
+        size: Size::Of(0),
+        form: Form::Empty,
+    };
+    while i < t.len() {
+        let b = t[i];
+        if b == 46 {
+            return arc_of(d, Dots::At(i + 1));
+        }
+        d = add_digit(d, b);
+        i += 1;
+    }
+    arc_of(d, Dots::Over)
+}
+
+// ---- dotted form
+// Whether the first two arcs are within their bounds.
+fn are_roots(a: Size, b: Size) -> bool
+    ensures { λ r. ⌜ r ≡ arcs.areRoots a b ⌝ }
+{
+    let Size::Of(m) = a else {
+        return false;
+    };
+    if 2 < m {
+        return false;
+    }
+    if m == 2 {
+        return true;
+    }
+    let Size::Of(n) = b else {
+        return false;
+    };
+    n < 40
+}
+
+// Whether each arc from a place on is a number.
+fn all_numbers(t: &[u8], at: usize) -> bool
+    ensures { λ r. ⌜ r ≡ everyNumber (pieces (drop at (now (t .entry)))) ⌝ }
+{
+    let mut i = at;
+    loop {
+        let arc = read_arc(t, i);
+        if !arc.formed {
+            return false;
+        }
+        let next = arc.next;
+        let Dots::At(p) = next else {
+            return true;
+        };
+        i = p;
+    }
+}
+
+// Whether the arcs from a place on are numbers and the first of them may stand under the root a.
+fn dotted_under(t: &[u8], a: Size, at: usize) -> bool
+    ensures { λ r. ⌜ r ≡ arcs.dottedUnder a (pieces (drop at (now (t .entry)))) ⌝ }
+{
+    let arc = read_arc(t, at);
+    if !arc.formed {
+        return false;
+    }
+    let b = arc.size;
+    if !are_roots(a, b) {
+        return false;
+    }
+    let next = arc.next;
+    let Dots::At(p) = next else {
+        return true;
+    };
+    all_numbers(t, p)
+}
+
+// Whether a text is an OBJECT IDENTIFIER in dotted form.
+pub fn is_dotted(t: &[u8]) -> bool
+    ensures { λ r. ⌜ r ≡ isDotted (now (t .entry)) ⌝ }
+{
+    let arc = read_arc(t, 0);
+    if !arc.formed {
+        return false;
+    }
+    let a = arc.size;
+    let next = arc.next;
+    let Dots::At(p) = next else {
+        return false;
+    };
+    dotted_under(t, a, p)
+}

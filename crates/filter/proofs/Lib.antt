@@ -1,0 +1,4 @@
+pub mod Progress
+pub mod Laws
+pub mod Bounds
+pub mod Steps

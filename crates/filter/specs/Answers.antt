@@ -1,0 +1,57 @@
+-- What the code's answers say.
+use Prim.Native.Nat.{ℕ, _-_}
+use mathlib.Core.Option.{Option, none, some}
+use lib.Dec.{leb}
+use Rattle.octets.specs.Pick.{pick, both}
+use Rattle.assertion.specs.Assertion.{Read}
+use Rattle.filter.specs.Limits.{Limits}
+use Rattle.filter.specs.Filter as filter
+use Rattle.filter.specs.Filter.{Filter, Filters, depth, depthIn, items, itemsIn}
+use Rattle.filter.specs.Parse as parsing
+use Rattle.filter.specs.declared.Join.{Join}
+use Rattle.filter.specs.declared.Head.{Head}
+use Rattle.filter.specs.declared.Tail.{Tail}
+use Rattle.filter.specs.declared.Span.{Span}
+use Rattle.filter.specs.declared.Reading.{Reading}
+
+-- ---- heads and tails
+abbrev pub joinOf : Join → filter.Join
+joinOf Join.And = filter.and
+joinOf Join.Or = filter.or
+
+abbrev pub headOf : Head → parsing.Head
+headOf (Head.Assertion p) = parsing.assertion p
+headOf (Head.EmptyList j p) = parsing.emptyList (joinOf j) p
+headOf (Head.OpenList j p) = parsing.openList (joinOf j) p
+headOf (Head.Negation p) = parsing.negation p
+headOf Head.NoHead = parsing.noHead
+
+abbrev pub tailOf : Tail → parsing.Tail
+tailOf (Tail.Another p) = parsing.another p
+tailOf (Tail.Closed p) = parsing.closed p
+tailOf Tail.NoTail = parsing.noTail
+
+-- ---- what is read within a depth d and so many items: the place after it, and the items that are left
+abbrev pub fitting : ℕ → ℕ → ℕ → ℕ → ℕ → Span
+fitting d room deep used after = pick (both (leb deep d) (leb used room)) (Span.Of after (room - used)) Span.Bad
+
+unfoldable pub bounded : ℕ → ℕ → Option (Read Filter) → Span
+bounded d room none = Span.Bad
+bounded d room (some r) = fitting d room (depth (r .is)) (items (r .is)) (r .after)
+
+unfoldable pub boundedIn : ℕ → ℕ → Option (Read Filters) → Span
+boundedIn d room none = Span.Bad
+boundedIn d room (some r) = fitting d room (depthIn (r .is)) (itemsIn (r .is)) (r .after)
+
+-- ---- the whole text
+abbrev pub limits : ℕ → ℕ → ℕ → Limits
+limits most deepest many = record { bytes = most; depth = deepest; items = many }
+
+-- the items of a filter that was read, or a refusal
+abbrev pub report : Reading → Option ℕ
+report (Reading.Good f) = some (f .items)
+report Reading.Bad = none
+
+abbrev pub counted : Option Filter → Option ℕ
+counted none = none
+counted (some f) = some (items f)
