@@ -5,3 +5,4 @@ pub mod TagLaws
 pub mod TagSteps
 pub mod AdmitSteps
 pub mod Laws
+pub mod TypeCases
