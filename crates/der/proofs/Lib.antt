@@ -1,6 +1,8 @@
 pub mod Tests
 pub mod Laws
 pub mod DottedLaws
+pub mod MeaningLaws
+pub mod TimeLaws
 pub mod Steps
 pub mod ContentsSteps
 pub mod SubSteps

@@ -1,14 +1,14 @@
 -- One arc: its digits, and the piece of the text that it stands in.
-use mathlib.Core.Path.{_≡_, refl, sym, ap, ap₂, _∙_}
-use mathlib.Core.Bool.{Bool, true, false, not}
+use mathlib.Core.Path.{_≡_, refl, sym, ap, _∙_}
+use mathlib.Core.Bool.{Bool, true, false}
 use mathlib.Core.List.{List, [], _∷_}
 use Prim.Native.Nat.{ℕ, zero, suc, _≤_, _<_, _+_, _-_, _*_}
 use native.Mathlib.Omega.{arith}
 use native.Mathlib.Numerals.{add-one}
 use borrow.Author.Tests.{eq-eqb, ne-eqb}
-use lib.Dec.{ltb, leb, eqb}
+use lib.Dec.{eqb}
 use lib.ListN.{length, drop}
-use Rattle.octets.specs.Pick.{pick, both}
+use Rattle.octets.specs.Pick.{pick}
 use Rattle.octets.specs.Octets.{octet, every}
 use Rattle.octets.specs.Text.{isDigit, isNumber, decimalFrom, ontoFirst, pieces}
 use Rattle.octets.specs.Answers.{clip, growOf}
@@ -123,9 +123,6 @@ piece-of t n d (b ∷ bs) at c e =
   where
     tail : bs ≡ drop (at + 1) t
     tail = drop-next b bs t at e
-
-    longer : Arc
-    longer = arcFrom (addDigit d b) bs (at + 1)
 
     go : Piece (pieces bs) (n * 10 + (b - 48)) (afterDigit (d .form) b) t (arcFrom (addDigit d b) bs (at + 1)) → (u : Bool)
         → pieces (b ∷ bs) ≡ pick u ([] ∷ pieces bs) (ontoFirst b (pieces bs))

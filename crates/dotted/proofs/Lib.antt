@@ -1,3 +1,4 @@
 pub mod Tests
 pub mod ArcSteps
 pub mod Steps
+pub mod HeldSteps

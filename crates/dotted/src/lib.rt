@@ -1,11 +1,15 @@
 // OBJECT IDENTIFIERs in dotted form, arc by arc, with arcs of any size.
+use der::Sub;
 use octets::Size;
 ghost use mathlib.Core.Path.{_≡_};
 ghost use Prim.Native.Nat.{_-_};
 ghost use lib.ListN.{drop};
+ghost use Rattle.octets.specs.Octets.{same};
 ghost use Rattle.octets.specs.Text.{pieces};
-ghost use Rattle.der.specs.Dotted.{everyNumber, isDotted};
+ghost use Rattle.der.specs.Dotted.{everyNumber, dottedArcs, isDotted};
+ghost use Rattle.der.specs.Meaning.{arcsOf};
 ghost use Rattle.dotted.specs.Arcs as arcs;
+ghost use Rattle.dotted.specs.Held as held;
 
 // What the digits of an arc are so far: none, a single 0, a number without a leading 0, or no number.
 pub enum Form {
@@ -25,6 +29,19 @@ pub struct Digits {
 pub enum Dots {
     At(usize),
     Over,
+}
+
+// Where the next stored arc stands: at the start, in the first subidentifier, whose second arc is left, or at a place.
+pub enum Held {
+    Start,
+    Second(u32, usize),
+    At(usize),
+}
+
+// A stored arc and where the next one stands; or the end, true where the contents end and false where octets are no subidentifier.
+pub enum HeldStep {
+    Next(u32, Held),
+    End(bool),
 }
 
 // An arc: its number, whether it is written as one, and where the next arc starts.
@@ -189,4 +206,92 @@ pub fn is_dotted(t: &[u8]) -> bool
         return false;
     };
     dotted_under(t, a, p)
+}
+
+// ---- stored arcs
+// The first subidentifier gives two arcs.
+fn first_arcs(n: u32, next: usize) -> HeldStep
+    ensures { λ r. ⌜ r ≡ held.firstStep n next ⌝ }
+{
+    if n < 40 {
+        return HeldStep::Next(0, Held::Second(n, next));
+    }
+    if n < 80 {
+        return HeldStep::Next(1, Held::Second(n - 40, next));
+    }
+    HeldStep::Next(2, Held::Second(n - 80, next))
+}
+
+fn held_start(c: &[u8]) -> HeldStep
+    ensures { λ r. ⌜ held.toldHeld (now (c .entry)) r ≡ held.restHeld (now (c .entry)) Held.Start ⌝ }
+{
+    let s = der::read_sub(c, 0);
+    match s {
+        Sub::Value(n, next) => first_arcs(n, next),
+        Sub::End => HeldStep::End(true),
+        Sub::Broken => HeldStep::End(false),
+    }
+}
+
+fn held_at(c: &[u8], at: usize) -> HeldStep
+    ensures { λ r. ⌜ held.toldHeld (now (c .entry)) r ≡ held.restHeld (now (c .entry)) (Held.At at) ⌝ }
+{
+    let s = der::read_sub(c, at);
+    match s {
+        Sub::Value(n, next) => HeldStep::Next(n, Held::At(next)),
+        Sub::End => HeldStep::End(true),
+        Sub::Broken => HeldStep::End(false),
+    }
+}
+
+fn next_held(c: &[u8], h: Held) -> HeldStep
+    ensures { λ r. ⌜ held.toldHeld (now (c .entry)) r ≡ held.restHeld (now (c .entry)) h ⌝ }
+{
+    match h {
+        Held::Start => held_start(c),
+        Held::Second(b, next) => HeldStep::Next(b, Held::At(next)),
+        Held::At(at) => held_at(c, at),
+    }
+}
+
+fn is_over(step: HeldStep) -> bool
+    ensures { λ r. ⌜ r ≡ held.isOver step ⌝ }
+{
+    match step {
+        HeldStep::End(whole) => whole,
+        HeldStep::Next(_, _) => false,
+    }
+}
+
+fn same_arc(size: Size, n: u32) -> bool
+    ensures { λ r. ⌜ r ≡ held.sameArc size n ⌝ }
+{
+    let Size::Of(m) = size else {
+        return false;
+    };
+    m == n as u64
+}
+
+// Whether contents of an OBJECT IDENTIFIER have the arcs of a dotted text, arc by arc.
+pub fn same_arcs(t: &[u8], c: &[u8]) -> bool
+    ensures { λ r. ⌜ r ≡ same (arcsOf (now (c .entry))) (dottedArcs (now (t .entry))) ⌝ }
+{
+    let mut a = Dots::At(0);
+    let mut h = Held::Start;
+    loop {
+        let step = next_held(c, h);
+        let Dots::At(at) = a else {
+            return is_over(step);
+        };
+        let HeldStep::Next(n, after) = step else {
+            return false;
+        };
+        let arc = read_arc(t, at);
+        let size = arc.size;
+        if !same_arc(size, n) {
+            return false;
+        }
+        a = arc.next;
+        h = after;
+    }
 }

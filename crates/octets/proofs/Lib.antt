@@ -1,4 +1,5 @@
 pub mod Tests
 pub mod Laws
 pub mod TextLaws
+pub mod QuotedLaws
 pub mod Steps

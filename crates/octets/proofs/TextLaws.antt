@@ -1,14 +1,16 @@
 -- The definitions of text and lists by their cases, as laws for the layers above.
 use mathlib.Core.Path.{_≡_, refl, sym, _∙_}
-use mathlib.Core.Bool.{Bool, true, false, not}
-use borrow.Author.Tests.{not-true}
+use mathlib.Core.Bool.{Bool, true, false}
 use mathlib.Core.List.{List, [], _∷_}
-use Prim.Native.Nat.{ℕ, _+_, _-_, _*_}
-use lib.Dec.{eqb}
+use Prim.Native.Nat.{ℕ, zero, suc, _≤_, _<_, _+_, _-_, _*_}
+use native.Mathlib.Omega.{arith}
+use borrow.Author.Tests.{leb-true}
+use lib.Dec.{ltb, leb, eqb}
 use lib.ListN.{length}
-use Rattle.octets.specs.Pick.{pick, both}
-use Rattle.octets.specs.Octets.{every}
+use Rattle.octets.specs.Pick.{pick, both, all}
+use Rattle.octets.specs.Octets.{octet, every, same, below, nibble, paired}
 use Rattle.octets.specs.Text.{isDigit, isNumber, decimalFrom, ontoFirst, pieces}
+use Rattle.octets.proofs.Laws.{both-true}
 
 -- ---- choices: r is what the code found of the test t
 module _ {A : Type 0} (r t : Bool) (x a b : A) (told : r ≡ t) where
@@ -17,9 +19,6 @@ module _ {A : Type 0} (r t : Bool) (x a b : A) (told : r ≡ t) where
 
   pub pick-second : r ≡ false → x ≡ b → x ≡ pick t a b
   pick-second h e = rw (sym told ∙ h) e
-
-  pub pick-not : not r ≡ true → x ≡ b → x ≡ pick t a b
-  pick-not h e = pick-second (not-true r h) e
 
 -- ---- a test of every octet
 module _ (f : ℕ → Bool) where
@@ -56,3 +55,70 @@ pieces-nil = refl
 pub pieces-cons : (b : ℕ) (s : List ℕ) → pieces (b ∷ s) ≡ pick (eqb b 46) ([] ∷ pieces s) (ontoFirst b (pieces s))
 unfolding pieces
 pieces-cons b s = refl
+
+pub digit-within : (b : ℕ) → isDigit b ≡ true → (48 ≤ b) × (b ≤ 57)
+unfolding isDigit
+digit-within b e = let w = both-true (leb 48 b) (leb b 57) e in (leb-true _ _ (w .0), leb-true _ _ (w .1))
+
+-- ---- two lists
+pub same-nil : same [] [] ≡ true
+unfolding same
+same-nil = refl
+
+pub same-shorter : (b : ℕ) (s : List ℕ) → same [] (b ∷ s) ≡ false
+unfolding same
+same-shorter b s = refl
+
+pub same-longer : (a : ℕ) (l : List ℕ) → same (a ∷ l) [] ≡ false
+unfolding same
+same-longer a l = refl
+
+pub same-cons : (a b : ℕ) (l s : List ℕ) → same (a ∷ l) (b ∷ s) ≡ both (eqb a b) (same l s)
+unfolding same
+same-cons a b l s = refl
+
+pub below-nil : below [] [] ≡ false
+unfolding below
+below-nil = refl
+
+pub below-shorter : (b : ℕ) (s : List ℕ) → below [] (b ∷ s) ≡ true
+unfolding below
+below-shorter b s = refl
+
+pub below-longer-list : (a : ℕ) (l : List ℕ) → below (a ∷ l) [] ≡ false
+unfolding below
+below-longer-list a l = refl
+
+pub below-cons : (a b : ℕ) (l s : List ℕ) → below (a ∷ l) (b ∷ s) ≡ pick (ltb a b) true (pick (ltb b a) false (below l s))
+unfolding below
+below-cons a b l s = refl
+
+-- ---- pairs of hexadecimal digits
+pub paired-nil : paired [] ≡ []
+unfolding paired
+paired-nil = refl
+
+pub paired-one : (a : ℕ) → paired (a ∷ []) ≡ []
+unfolding paired
+paired-one a = refl
+
+pub paired-two : (a b : ℕ) (s : List ℕ) → paired (a ∷ b ∷ s) ≡ (nibble a * 16 + nibble b) ∷ paired s
+unfolding paired
+paired-two a b s = refl
+
+-- ---- a test of every octet, by places
+pub every-is : (f : ℕ → Bool) (s : List ℕ) → ((i : ℕ) → i < length s → f (octet s i) ≡ true) → every f s ≡ true
+unfolding every
+every-is f [] h = refl
+every-is f (b ∷ s) h = rw (h 0 (omega arith)) (every-is f s (λ i l. h (suc i) (omega arith)))
+
+pub every-at : (f : ℕ → Bool) (s : List ℕ) (i : ℕ) → every f s ≡ true → i < length s → f (octet s i) ≡ true
+unfolding every
+every-at f [] i e h = absurd (omega arith)
+every-at f (b ∷ s) zero e h = both-true (f b) (every f s) e .0
+every-at f (b ∷ s) (suc i) e h = every-at f s i (both-true (f b) (every f s) e .1) (omega arith)
+
+-- ---- a test of all numbers below one
+pub all-suc : (f : ℕ → Bool) (n : ℕ) → all f (suc n) ≡ both (f n) (all f n)
+unfolding all
+all-suc f n = refl

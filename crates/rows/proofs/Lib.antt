@@ -2,3 +2,4 @@ pub mod Tests
 pub mod Steps
 pub mod Laws
 pub mod ScanSteps
+pub mod KindLaws

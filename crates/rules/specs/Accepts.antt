@@ -8,10 +8,12 @@ use Rattle.octets.specs.Octets.{same, below, bytes}
 use Rattle.der.specs.Time.{timeOf, sameTime, earlier}
 use Rattle.der.specs.Meaning.{plus, sameWhole, lessWhole, integerOf, booleanOf, arcsOf, bitsOf}
 use Rattle.der.specs.Dotted.{dottedArcs}
+use Rattle.integers.specs.Asserted.{assertedInteger}
+use Rattle.binary.specs.Asserted.{assertedOctets, assertedBits}
+use Rattle.strings.specs.Asserted.{assertedText}
+use Rattle.strings.specs.Prepared.{prepared}
 use Rattle.reference.specs.Numbers.{Component, stored, defaulted, tallied, contentsOf}
 use Rattle.rules.specs.Rule.{Syntax, booleans, integers, objectIdentifiers, octetStrings, bitStrings, strings, times, Rule, present, equal, less}
-use Rattle.rules.specs.Prepared.{prepared}
-use Rattle.rules.specs.Asserted.{assertedInteger, assertedOctets, assertedBits, assertedText}
 
 -- an equal one; bits "equal in number and bit by bit"
 unfoldable pub isEqual : Syntax → List ℕ → List ℕ → Bool

@@ -3,8 +3,12 @@ use Prim.Native.Nat.{ℕ}
 use Rattle.reference.specs.Computing.{referenceComputes}
 use Rattle.rules.specs.Rule.{sameName, ruleIn, ruleOf}
 use Rattle.rules.specs.Suits.{allStrings, suitsTarget, suits}
-use Rattle.rules.specs.Prepared.{squeezed, folded, prepared}
-use Rattle.rules.specs.Asserted.{isTruth, isInteger, assertedInteger, inQuotes, isHexString, isBitText, isOctets, assertedOctets, isBits, hexBits, textBits, assertedBits, isText, assertedText, isTime, conformsTo, conforms}
+use Rattle.integers.specs.Asserted.{isInteger, assertedInteger}
+use Rattle.binary.specs.Asserted.{inQuotes, isHexString, isBitText, isOctets, assertedOctets, isBits, hexBits, textBits, assertedBits}
+use Rattle.strings.specs.Prepared.{squeezed, folded, prepared}
+use Rattle.strings.specs.Asserted.{isText, assertedText}
+use Rattle.times.specs.Asserted.{isTime}
+use Rattle.rules.specs.Asserted.{isTruth, conformsTo, conforms}
 use Rattle.rules.specs.Accepts.{isEqual, isLess, acceptsContents, acceptsCount, accepts}
 
 unfoldable pub rulesCompute : ℕ

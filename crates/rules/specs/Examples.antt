@@ -13,7 +13,7 @@ use Rattle.reference.specs.Numbers.{Component, stored, tallied}
 use Rattle.rules.specs.Rule.{Rule, ruleOf}
 use Rattle.rules.specs.Suits.{suits}
 use Rattle.rules.specs.Asserted.{conforms}
-use Rattle.rules.specs.Prepared.{prepared}
+use Rattle.strings.specs.Prepared.{prepared}
 use Rattle.rules.specs.Accepts.{accepts}
 use Rattle.rules.specs.Computing.{rulesCompute}
 

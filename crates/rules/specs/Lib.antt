@@ -1,7 +1,7 @@
 pub mod Rule
 pub mod Suits
-pub mod Prepared
 pub mod Asserted
 pub mod Accepts
+pub mod Answers
 pub mod Computing
 pub mod Examples

@@ -1,1 +1,281 @@
-// Matching rules: known rules, asserted values, acceptance. The definitions are in specs/.
+// Matching rules: known rules, which rule is for which type, conforming value texts, acceptance.
+ghost use mathlib.Core.Path.{_≡_};
+ghost use lib.Dec.{eqb};
+ghost use Rattle.octets.specs.Pick.{pick, both, all};
+ghost use Rattle.octets.specs.Octets.{same, bytes};
+ghost use Rattle.octets.specs.Text.{lower};
+ghost use Rattle.der.specs.Kind.{isString};
+ghost use Rattle.der.specs.Meaning.{booleanOf};
+ghost use Rattle.reference.specs.Allowed.{ofCount};
+ghost use Rattle.rules.specs.Rule.{sameName, ruleOf};
+ghost use Rattle.rules.specs.Suits as suiting;
+ghost use Rattle.rules.specs.Asserted as asserted;
+ghost use Rattle.rules.specs.Accepts as accepting;
+ghost use Rattle.rules.specs.Answers as answers;
+
+// What a rule compares; strings with A..Z folded, or exactly.
+pub enum Syntax {
+    Booleans,
+    Integers,
+    ObjectIdentifiers,
+    OctetStrings,
+    BitStrings,
+    Strings(bool),
+    Times,
+}
+
+// presentMatch, an equality rule, an ordering rule.
+pub enum Rule {
+    Present,
+    Equal(Syntax),
+    Less(Syntax),
+}
+
+pub enum Named {
+    Known(Rule),
+    Unknown,
+}
+
+// ---- known rules
+fn same_letter(a: u8, b: u8) -> bool
+    ensures { λ r. ⌜ r ≡ eqb (lower a) (lower b) ⌝ }
+{
+    octets::lower(a) == octets::lower(b)
+}
+
+// Whether two names are the same without regard to case.
+fn same_name(a: &[u8], b: &[u8]) -> bool
+    ensures { λ r. ⌜ r ≡ sameName (now (a .entry)) (now (b .entry)) ⌝ }
+{
+    if a.len() != b.len() {
+        return false;
+    }
+    let mut i = 0;
+    while i < a.len() {
+        if !same_letter(a[i], b[i]) {
+            return false;
+        }
+        i += 1;
+    }
+    true
+}
+
+// A row of the table: its rule if the text is its name or OID, else what the others say.
+fn by_row(name: &[u8], oid: &[u8], rule: Rule, t: &[u8], others: Named) -> Named
+    ensures { λ r. ⌜ answers.toldRule r ≡ answers.byRow (now (name .entry)) (now (oid .entry)) (answers.meant rule) (now (t .entry)) (answers.toldRule others) ⌝ }
+{
+    if same_name(t, name) {
+        return Named::Known(rule);
+    }
+    if octets::same(t, oid) {
+        return Named::Known(rule);
+    }
+    others
+}
+
+// The rule of a name or dotted OID.
+pub fn rule_of(t: &[u8]) -> Named
+    ensures { λ r. ⌜ answers.toldRule r ≡ ruleOf (now (t .entry)) ⌝ }
+{
+    let r = Named::Unknown;
+    let x = Rule::Less(Syntax::Times);
+    let r = by_row(b"generalizedTimeOrderingMatch", b"2.5.13.28", x, t, r);
+    let x = Rule::Equal(Syntax::Times);
+    let r = by_row(b"generalizedTimeMatch", b"2.5.13.27", x, t, r);
+    let x = Rule::Equal(Syntax::Strings(false));
+    let r = by_row(b"caseExactMatch", b"2.5.13.5", x, t, r);
+    let x = Rule::Equal(Syntax::Strings(true));
+    let r = by_row(b"caseIgnoreMatch", b"2.5.13.2", x, t, r);
+    let x = Rule::Equal(Syntax::BitStrings);
+    let r = by_row(b"bitStringMatch", b"2.5.13.16", x, t, r);
+    let x = Rule::Less(Syntax::OctetStrings);
+    let r = by_row(b"octetStringOrderingMatch", b"2.5.13.18", x, t, r);
+    let x = Rule::Equal(Syntax::OctetStrings);
+    let r = by_row(b"octetStringMatch", b"2.5.13.17", x, t, r);
+    let x = Rule::Equal(Syntax::ObjectIdentifiers);
+    let r = by_row(b"objectIdentifierMatch", b"2.5.13.0", x, t, r);
+    let x = Rule::Less(Syntax::Integers);
+    let r = by_row(b"integerOrderingMatch", b"2.5.13.15", x, t, r);
+    let x = Rule::Equal(Syntax::Integers);
+    let r = by_row(b"integerMatch", b"2.5.13.14", x, t, r);
+    let x = Rule::Equal(Syntax::Booleans);
+    let r = by_row(b"booleanMatch", b"2.5.13.13", x, t, r);
+    let x = Rule::Present;
+    let r = by_row(b"presentMatch", b"1.2.36.79672281.1.13.5", x, t, r);
+    r
+}
+
+// ---- conforming
+fn is_truth(t: &[u8]) -> bool
+    ensures { λ r. ⌜ r ≡ asserted.isTruth (now (t .entry)) ⌝ }
+{
+    if octets::same(t, b"TRUE") {
+        return true;
+    }
+    octets::same(t, b"FALSE")
+}
+
+fn conforms_to(x: Syntax, t: &[u8]) -> bool
+    ensures { λ r. ⌜ r ≡ asserted.conformsTo (answers.syntaxOf x) (now (t .entry)) ⌝ }
+{
+    match x {
+        Syntax::Booleans => is_truth(t),
+        Syntax::Integers => integers::is_integer(t),
+        Syntax::ObjectIdentifiers => dotted::is_dotted(t),
+        Syntax::OctetStrings => binary::is_octets(t),
+        Syntax::BitStrings => binary::is_bits(t),
+        Syntax::Strings(_) => strings::is_text(t),
+        Syntax::Times => times::is_time(t),
+    }
+}
+
+// Whether a value text conforms to what a rule asserts.
+pub fn conforms(rule: Rule, t: &[u8]) -> bool
+    ensures { λ r. ⌜ r ≡ asserted.conforms (answers.meant rule) (now (t .entry)) ⌝ }
+{
+    match rule {
+        Rule::Present => octets::same(t, b"NULL"),
+        Rule::Equal(x) => conforms_to(x, t),
+        Rule::Less(x) => conforms_to(x, t),
+    }
+}
+
+// ---- acceptance
+fn same_boolean(t: &[u8], c: &[u8]) -> bool
+    ensures { λ r. ⌜ r ≡ pick (booleanOf (now (c .entry))) (same (now (t .entry)) (bytes "TRUE")) (same (now (t .entry)) (bytes "FALSE")) ⌝ }
+{
+    if der::read_boolean(c) {
+        return octets::same(t, b"TRUE");
+    }
+    octets::same(t, b"FALSE")
+}
+
+fn is_equal(x: Syntax, t: &[u8], c: &[u8]) -> bool
+    ensures { λ r. ⌜ r ≡ both (answers.isRead (answers.syntaxOf x) (now (t .entry)) (now (c .entry))) (accepting.isEqual (answers.syntaxOf x) (now (t .entry)) (now (c .entry))) ⌝ }
+{
+    match x {
+        Syntax::Booleans => same_boolean(t, c),
+        Syntax::Integers => integers::same_contents(t, c),
+        Syntax::ObjectIdentifiers => dotted::same_arcs(t, c),
+        Syntax::OctetStrings => binary::same_octets(t, c),
+        Syntax::BitStrings => binary::same_bits(t, c),
+        Syntax::Strings(fold) => strings::same_prepared(t, c, fold),
+        Syntax::Times => times::same_time(t, c),
+    }
+}
+
+fn is_less(x: Syntax, t: &[u8], c: &[u8]) -> bool
+    ensures { λ r. ⌜ r ≡ both (answers.isRead (answers.syntaxOf x) (now (t .entry)) (now (c .entry))) (accepting.isLess (answers.syntaxOf x) (now (t .entry)) (now (c .entry))) ⌝ }
+{
+    match x {
+        Syntax::Booleans => false,
+        Syntax::Integers => integers::less_contents(t, c),
+        Syntax::ObjectIdentifiers => false,
+        Syntax::OctetStrings => binary::less_octets(t, c),
+        Syntax::BitStrings => false,
+        Syntax::Strings(_) => false,
+        Syntax::Times => times::earlier_time(t, c),
+    }
+}
+
+// Whether a rule accepts contents, stored or a default's.
+pub fn accepts_contents(rule: Rule, t: &[u8], c: &[u8]) -> bool
+    ensures { λ r. ⌜ r ≡ both (answers.isReadBy (answers.meant rule) (now (t .entry)) (now (c .entry))) (accepting.acceptsContents (answers.meant rule) (now (t .entry)) (now (c .entry))) ⌝ }
+{
+    match rule {
+        Rule::Present => true,
+        Rule::Equal(x) => is_equal(x, t, c),
+        Rule::Less(x) => is_less(x, t, c),
+    }
+}
+
+// Whether a rule accepts a count.
+pub fn accepts_count(rule: Rule, t: &[u8], n: u64) -> bool
+    ensures { λ r. ⌜ r ≡ accepting.acceptsCount (answers.meant rule) (now (t .entry)) n ⌝ }
+{
+    match rule {
+        Rule::Present => true,
+        Rule::Equal(_) => integers::same_integer(t, false, n),
+        Rule::Less(_) => integers::less_integer(t, false, n),
+    }
+}
+
+// ---- which rule is for which type
+fn is_string(k: u8) -> bool
+    ensures { λ r. ⌜ r ≡ isString k ⌝ }
+{
+    octets::within(8, 10, k)
+}
+
+fn suits_kind(x: Syntax, k: u8) -> bool
+    ensures { λ r. ⌜ r ≡ suiting.suitsKind (answers.syntaxOf x) k ⌝ }
+{
+    match x {
+        Syntax::Booleans => k == 1,
+        Syntax::Integers => k == 2,
+        Syntax::ObjectIdentifiers => k == 5,
+        Syntax::OctetStrings => k == 6,
+        Syntax::BitStrings => k == 7,
+        Syntax::Strings(_) => is_string(k),
+        Syntax::Times => k == 11,
+    }
+}
+
+// Whether alternative j of row i has no tag and is a string.
+fn is_string_row(t: &[u8], s: &[usize], i: usize, j: usize) -> bool
+    ensures { λ r. ⌜ r ≡ answers.stringRow (now (t .entry)) (now (s .entry)) i j ⌝ }
+{
+    if rows::mode_at(t, groups::member_place(s, i, j)) != 0 {
+        return false;
+    }
+    is_string(rows::kind_at(t, rows::row_at(s, groups::member_type(t, s, i, j))))
+}
+
+fn all_strings(t: &[u8], s: &[usize], i: usize, n: usize) -> bool
+    ensures { λ r. ⌜ r ≡ all (answers.stringRow (now (t .entry)) (now (s .entry)) i) n ⌝ }
+{
+    let mut j = 0;
+    while j < n {
+        if !is_string_row(t, s, i, j) {
+            return false;
+        }
+        j += 1;
+    }
+    true
+}
+
+fn suits_row(x: Syntax, t: &[u8], s: &[usize], i: usize) -> bool
+    ensures { λ r. ⌜ r ≡ answers.suitsRow (answers.syntaxOf x) (now (t .entry)) (now (s .entry)) i ⌝ }
+{
+    let p = rows::row_at(s, i);
+    let k = rows::kind_at(t, p);
+    if k != 13 {
+        return suits_kind(x, k);
+    }
+    if !suits_kind(x, 8) {
+        return false;
+    }
+    all_strings(t, s, i, rows::members_at(t, p))
+}
+
+// Whether a rule is for the type that row i describes; s is the list of the rows' places.
+pub fn suits(rule: Rule, t: &[u8], s: &[usize], i: usize) -> bool
+    ensures { λ r. ⌜ r ≡ answers.ruleSuitsRow (answers.meant rule) (now (t .entry)) (now (s .entry)) i ⌝ }
+{
+    match rule {
+        Rule::Present => true,
+        Rule::Equal(x) => suits_row(x, t, s, i),
+        Rule::Less(x) => suits_row(x, t, s, i),
+    }
+}
+
+// Whether a rule is for a count.
+pub fn suits_count(rule: Rule) -> bool
+    ensures { λ r. ⌜ r ≡ suiting.suits (answers.meant rule) ofCount ⌝ }
+{
+    match rule {
+        Rule::Present => true,
+        Rule::Equal(x) => suits_kind(x, 2),
+        Rule::Less(x) => suits_kind(x, 2),
+    }
+}

@@ -6,3 +6,4 @@ pub mod TagSteps
 pub mod AdmitSteps
 pub mod Laws
 pub mod SoundLaws
+pub mod TypeCases

@@ -6,29 +6,26 @@ use mathlib.Core.List.{List, [], _∷_, map}
 use lib.Dec.{eqb}
 use Rattle.octets.specs.Pick.{pick}
 use Rattle.octets.specs.Text.{lower}
+use Rattle.strings.specs.declared.Before.{Before}
+use Rattle.strings.specs.declared.Before.the-variants.{Nothing, Character, Space}
 
--- what stands before: no character yet, a character, or a space after one
-pub data Before : Type 0 where
-  nothing : Before
-  character : Before
-  space : Before
-
+-- what stands before (`Before`): no character yet, a character, or a space after one
 abbrev pub afterSpace : Before → Before
-afterSpace nothing = nothing
-afterSpace character = space
-afterSpace space = space
+afterSpace Nothing = Nothing
+afterSpace Character = Space
+afterSpace Space = Space
 
 -- a run of spaces becomes one when a character follows it
 abbrev pub spaced : Before → List ℕ → List ℕ
-spaced nothing l = l
-spaced character l = l
-spaced space l = 32 ∷ l
+spaced Nothing l = l
+spaced Character l = l
+spaced Space l = 32 ∷ l
 
 unfoldable pub squeezed : Before → List ℕ → List ℕ
 squeezed p [] = []
 squeezed p (b ∷ bs) =
     let skipped = squeezed (afterSpace p) bs in
-    let taken = squeezed character bs in
+    let taken = squeezed Character bs in
     pick (eqb b 32) skipped (spaced p (b ∷ taken))
 
 unfoldable pub folded : Bool → List ℕ → List ℕ
@@ -37,4 +34,4 @@ folded false s = s
 
 -- a string as prepared
 unfoldable pub prepared : Bool → List ℕ → List ℕ
-prepared fold s = squeezed nothing (folded fold s)
+prepared fold s = squeezed Nothing (folded fold s)

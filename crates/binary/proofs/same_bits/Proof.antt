@@ -1,0 +1,17 @@
+use Rattle.binary.proofs.BitSteps.{bits-of-hex, bits-of-text, bits-too-long}
+use borrow.Author.Needs.{needs}
+use Rattle.binary.proofs.same_bits.Statement.{statement}
+use Rattle.binary.proofs.same_bits.Tie as tie
+
+pub same-bits-spec : {M : Type 1} → statement M
+same-bits-spec =
+    tie.close
+    (tie.spec
+    (λ c. search bits-too-long)  -- returns
+    (λ c κs. search needs)  -- is-bit-text-requires
+    (λ c κs. search needs)  -- between-requires
+    (λ c κs. search needs)  -- same-bit-list-requires
+    (λ c. search bits-of-text)  -- returns-2
+    (λ c κs. search needs)  -- between-requires-2
+    (λ c κs. search needs)  -- same-bit-list-requires-2
+    (λ c. search bits-of-hex))  -- returns-3

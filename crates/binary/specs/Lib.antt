@@ -1,0 +1,3 @@
+pub mod Asserted
+pub mod Answers
+pub mod Examples

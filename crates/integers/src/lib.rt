@@ -1,0 +1,145 @@
+// Asserted integers, of any size.
+use octets::Size;
+ghost use mathlib.Core.Path.{_≡_};
+ghost use mathlib.Core.Bool.{false};
+ghost use Prim.Native.Nat.{_≤_};
+ghost use lib.ListN.{length, drop};
+ghost use lib.Dec.{leb};
+ghost use Rattle.octets.specs.Pick.{both, no};
+ghost use Rattle.octets.specs.Octets.{same, bytes};
+ghost use Rattle.octets.specs.Text.{isNumber};
+ghost use Rattle.der.specs.Meaning.{plus, sameWhole, lessWhole, integerOf};
+ghost use Rattle.integers.specs.Asserted as asserted;
+ghost use Rattle.integers.specs.Answers as answers;
+
+// An asserted integer: its sign and size.
+pub struct Asked {
+    pub minus: bool,
+    pub size: Size,
+}
+
+// What stands after the first octet.
+fn after_first(t: &[u8]) -> &[u8]
+    ensures { λ r. ⌜ now r ≡ drop 1 (now (t .entry)) ⌝ }
+{
+    octets::part(t, 1, t.len())
+}
+
+fn is_negative(t: &[u8]) -> bool
+    ensures { λ r. ⌜ r ≡ both (isNumber (drop 1 (now (t .entry)))) (no (same (now (t .entry)) (bytes "-0"))) ⌝ }
+{
+    if !octets::is_number(after_first(t)) {
+        return false;
+    }
+    !octets::same(t, b"-0")
+}
+
+// Whether a value text conforms: decimal digits without leading zeros, perhaps a minus before them, and not `-0`.
+pub fn is_integer(t: &[u8]) -> bool
+    ensures { λ r. ⌜ r ≡ asserted.isInteger (now (t .entry)) ⌝ }
+{
+    if octets::octet(t, 0) == 45 {
+        return is_negative(t);
+    }
+    octets::is_number(t)
+}
+
+// What a value text asserts.
+fn read_asserted(t: &[u8]) -> Asked
+    ensures { λ r. ⌜ r ≡ answers.heldOf (asserted.assertedInteger (now (t .entry))) ⌝ }
+{
+    if octets::octet(t, 0) == 45 {
+        return Asked {
+            minus: true,
+            size: octets::decimal(after_first(t)),
+        };
+    }
+    Asked {
+        minus: false,
+        size: octets::decimal(t),
+    }
+}
+
+// ---- a number against a size
+fn same_size(size: Size, n: u64) -> bool
+    ensures { λ r. ⌜ r ≡ answers.sameSize size n ⌝ }
+{
+    let Size::Of(m) = size else {
+        return false;
+    };
+    n == m
+}
+
+fn above_size(size: Size, n: u64) -> bool
+    ensures { λ r. ⌜ r ≡ answers.aboveSize size n ⌝ }
+{
+    match size {
+        Size::Of(m) => n < m,
+        Size::Beyond => true,
+    }
+}
+
+fn below_size(size: Size, n: u64) -> bool
+    ensures { λ r. ⌜ r ≡ answers.belowSize size n ⌝ }
+{
+    let Size::Of(m) = size else {
+        return false;
+    };
+    m < n
+}
+
+// ---- an integer, by sign and size, against an asserted one
+pub fn same_integer(t: &[u8], minus: bool, n: u64) -> bool
+    ensures { λ r. ⌜ r ≡ sameWhole (record { minus = minus; size = n }) (asserted.assertedInteger (now (t .entry))) ⌝ }
+{
+    let a = read_asserted(t);
+    let size = a.size;
+    if minus {
+        if a.minus {
+            return same_size(size, n);
+        }
+        return false;
+    }
+    if a.minus {
+        return false;
+    }
+    same_size(size, n)
+}
+
+pub fn less_integer(t: &[u8], minus: bool, n: u64) -> bool
+    ensures { λ r. ⌜ r ≡ lessWhole (record { minus = minus; size = n }) (asserted.assertedInteger (now (t .entry))) ⌝ }
+{
+    let a = read_asserted(t);
+    let size = a.size;
+    if minus {
+        if a.minus {
+            return below_size(size, n);
+        }
+        return true;
+    }
+    if a.minus {
+        return false;
+    }
+    above_size(size, n)
+}
+
+// ---- contents of an INTEGER, of up to eight octets; of longer ones the answer is false
+pub fn same_contents(t: &[u8], c: &[u8]) -> bool
+    ensures { λ r. ⌜ r ≡ both (leb (length (now (c .entry))) 8) (sameWhole (integerOf (now (c .entry))) (asserted.assertedInteger (now (t .entry)))) ⌝ }
+{
+    if 8 < c.len() {
+        return false;
+    }
+    let i = der::read_integer(c);
+    same_integer(t, i.minus, i.size)
+}
+
+pub fn less_contents(t: &[u8], c: &[u8]) -> bool
+    ensures { λ r. ⌜ r ≡ both (leb (length (now (c .entry))) 8) (lessWhole (integerOf (now (c .entry))) (asserted.assertedInteger (now (t .entry)))) ⌝ }
+{
+    if 8 < c.len() {
+        return false;
+    }
+    let i = der::read_integer(c);
+    less_integer(t, i.minus, i.size)
+}

@@ -1,0 +1,213 @@
+-- What the layers above use: the rule for a row is the rule for its type, and what a conforming text and legal contents give the code to read.
+use mathlib.Core.Path.{_≡_, refl, sym, ap, ap₂, subst, _∙_}
+use mathlib.Core.Bool.{Bool, true, false, false≢true}
+use mathlib.Core.List.{List}
+use Prim.Native.Nat.{ℕ, zero, suc, _≤_, _<_, _+_}
+use native.Mathlib.Omega.{arith}
+use native.Mathlib.Nat.{add-zero}
+use borrow.Author.Tests.{eqb-true, le-leb}
+use lib.Dec.{eqb}
+use lib.ListN.{length}
+use Rattle.octets.specs.Pick.{pick, both, either, all}
+use Rattle.octets.proofs.Laws.{both-true, all-none}
+use Rattle.octets.proofs.TextLaws.{all-suc}
+use Rattle.der.specs.Kind.{isString}
+use Rattle.der.specs.Contents.{legal}
+use Rattle.der.proofs.Laws.{integer-octets, legal-integer}
+use Rattle.der.proofs.MeaningLaws.{string-kinds}
+use Rattle.rows.specs.Limits.{Limits}
+use Rattle.rows.specs.Row.{kindAt, elementAt, typeRowAt, modeAt, numberAt, isList, rows, rowAt, membersAt}
+use Rattle.rows.proofs.KindLaws.{list-kinds}
+use Rattle.table.specs.Types.{untagged, explicit, implicit, Ty, basic, sequence, choice, listOf, Members, taggingOf, membersFrom, typed, typeAt}
+use Rattle.table.specs.Admitted.{admitted}
+use Rattle.table.proofs.Laws.{type-step, names-later}
+use Rattle.table.proofs.TypeCases.{tagging-cases, member-tagging, members-none, members-more}
+use Rattle.reference.specs.Allowed.{ofType}
+use Rattle.rules.specs.Rule.{Syntax, booleans, integers, objectIdentifiers, octetStrings, bitStrings, strings, times, Rule, present, equal, less}
+use Rattle.rules.specs.Suits.{suitsKind, isUntagged, isStringType, allStrings, suitsTarget, suits}
+use Rattle.rules.specs.Asserted.{conformsTo, conforms}
+use Rattle.rules.specs.Accepts.{acceptsContents}
+use Rattle.rules.specs.Answers.{isRead, isReadBy, stringRow, suitsRow, ruleSuitsRow}
+
+-- ---- tests in a row, from the first and from the last
+front : (ℕ → Bool) → ℕ → ℕ → Bool
+front g a zero = true
+front g a (suc n) = both (g a) (front g (a + 1) n)
+
+swap : (x y z : Bool) → both x (both y z) ≡ both y (both x z)
+swap true y z = refl
+swap false true z = refl
+swap false false z = refl
+
+front-last : (g : ℕ → Bool) (a n : ℕ) → front g a (suc n) ≡ both (g (a + n)) (front g a n)
+unfolding front
+front-last g a zero = ap (λ (x : ℕ). both (g x) true) (sym (add-zero a))
+front-last g a (suc n) =
+    let e : a + 1 + n ≡ a + suc n = omega arith in
+    ap (both (g a)) (front-last g (a + 1) n ∙ ap (λ (x : ℕ). both (g x) (front g (a + 1) n)) e) ∙ swap (g a) (g (a + suc n)) (front g (a + 1) n)
+
+all-front : (g h : ℕ → Bool) (a n : ℕ) → ((j : ℕ) → h j ≡ g (a + j)) → all h n ≡ front g a n
+unfolding front
+all-front g h a zero e = all-none h
+all-front g h a (suc n) e = all-suc h n ∙ ap₂ both (e n) (all-front g h a n e) ∙ sym (front-last g a n)
+
+-- ---- types by their kind
+no-string-12 : isString 12 ≡ false
+no-string-12 = string-kinds 12
+
+no-string-13 : isString 13 ≡ false
+no-string-13 = string-kinds 13
+
+no-string-14 : isString 14 ≡ false
+no-string-14 = string-kinds 14
+
+no-string-15 : isString 15 ≡ false
+no-string-15 = string-kinds 15
+
+lists : (k : ℕ) (P : ℕ → Type 0) → isList k ≡ true → P 14 → P 15 → P k
+lists k P e a b = go (eqb k 14) (eqb k 15) refl refl (sym (list-kinds k) ∙ e)
+  where
+    go : (x y : Bool) → eqb k 14 ≡ x → eqb k 15 ≡ y → either x y ≡ true → P k
+    go true y p q h = subst P (sym (eqb-true k 14 p)) a
+    go false true p q h = subst P (sym (eqb-true k 15 q)) b
+    go false false p q h = absurd (false≢true h)
+
+typed-string : (k : ℕ) (e : Ty) (ms : Members) → isStringType (typed k e ms) ≡ isString k
+typed-string k e ms = go (eqb k 12) (eqb k 13) (isList k) refl refl refl
+  where
+    go : (x y z : Bool) → eqb k 12 ≡ x → eqb k 13 ≡ y → isList k ≡ z → isStringType (pick x (sequence ms) (pick y (choice ms) (pick z (listOf k e) (basic k)))) ≡ isString k
+    go true y z p q r = sym (ap isString (eqb-true k 12 p) ∙ no-string-12)
+    go false true z p q r = sym (ap isString (eqb-true k 13 q) ∙ no-string-13)
+    go false false true p q r = lists k (λ (x : ℕ). false ≡ isString x) r (sym no-string-14) (sym no-string-15)
+    go false false false p q r = refl
+
+suits-12 : (x : Syntax) → suitsKind x 12 ≡ false
+suits-12 booleans = refl
+suits-12 integers = refl
+suits-12 objectIdentifiers = refl
+suits-12 octetStrings = refl
+suits-12 bitStrings = refl
+suits-12 (strings fold) = no-string-12
+suits-12 times = refl
+
+suits-14 : (x : Syntax) → suitsKind x 14 ≡ false
+suits-14 booleans = refl
+suits-14 integers = refl
+suits-14 objectIdentifiers = refl
+suits-14 octetStrings = refl
+suits-14 bitStrings = refl
+suits-14 (strings fold) = no-string-14
+suits-14 times = refl
+
+suits-15 : (x : Syntax) → suitsKind x 15 ≡ false
+suits-15 booleans = refl
+suits-15 integers = refl
+suits-15 objectIdentifiers = refl
+suits-15 octetStrings = refl
+suits-15 bitStrings = refl
+suits-15 (strings fold) = no-string-15
+suits-15 times = refl
+
+typed-suits : (x : Syntax) (k : ℕ) (e : Ty) (ms : Members) → suitsTarget x (ofType (typed k e ms)) ≡ pick (eqb k 13) (both (suitsKind x 8) (allStrings ms)) (suitsKind x k)
+unfolding suitsTarget
+typed-suits x k e ms = go (eqb k 12) (eqb k 13) (isList k) refl refl refl
+  where
+    go : (a b z : Bool) → eqb k 12 ≡ a → eqb k 13 ≡ b → isList k ≡ z
+        → suitsTarget x (ofType (pick a (sequence ms) (pick b (choice ms) (pick z (listOf k e) (basic k))))) ≡ pick b (both (suitsKind x 8) (allStrings ms)) (suitsKind x k)
+    go true true z p q r = absurd (let u : k ≡ 12 = eqb-true k 12 p in let v : k ≡ 13 = eqb-true k 13 q in omega arith)
+    go true false z p q r = sym (ap (suitsKind x) (eqb-true k 12 p) ∙ suits-12 x)
+    go false true z p q r = refl
+    go false false true p q r = lists k (λ (y : ℕ). false ≡ suitsKind x y) r (sym (suits-14 x)) (sym (suits-15 x))
+    go false false false p q r = refl
+
+untagged-mode : (mode n : ℕ) → isUntagged (taggingOf mode n) ≡ eqb mode 0
+untagged-mode mode n = ap isUntagged (tagging-cases mode n) ∙ go (eqb mode 0) (eqb mode 1)
+  where
+    go : (x y : Bool) → isUntagged (pick x untagged (pick y (explicit n) (implicit n))) ≡ x
+    go true y = refl
+    go false true = refl
+    go false false = refl
+
+-- ---- the rule for a row of an admitted table is the rule for its type
+module _ (l : Limits) (t : List ℕ) (ok : admitted l t ≡ true) where
+  abbrev s : List ℕ
+  s = rows (l .rows) t
+
+  stringAt : ℕ → Bool
+  stringAt a = both (eqb (modeAt t (rowAt s a)) 0) (isString (kindAt t (rowAt s (typeRowAt t (rowAt s a)))))
+
+  string-type : (r : ℕ) → r < length s → isStringType (typeAt l t r) ≡ isString (kindAt t (rowAt s r))
+  string-type r h = ap isStringType (type-step l t ok r h) ∙ typed-string (kindAt t (rowAt s r)) (typeAt l t (elementAt t (rowAt s r))) (membersFrom (typeAt l t) t s (r + 1) (membersAt t (rowAt s r)))
+
+  string-rows : (n a : ℕ) → ((j : ℕ) → j < n → typeRowAt t (rowAt s (a + j)) < length s) → allStrings (membersFrom (typeAt l t) t s a n) ≡ front stringAt a n
+  unfolding allStrings front stringAt
+  string-rows zero a h = ap allStrings (members-none (typeAt l t) t s a)
+  string-rows (suc n) a h =
+      let z : a + 0 ≡ a = omega arith in
+      let first : typeRowAt t (rowAt s a) < length s = subst (λ (x : ℕ). typeRowAt t (rowAt s x) < length s) z (h 0 (omega arith)) in
+      ap allStrings (members-more (typeAt l t) t s a n)
+      ∙ ap₂ both
+      (ap₂ both (ap isUntagged (member-tagging t a (rowAt s a)) ∙ untagged-mode (modeAt t (rowAt s a)) (numberAt t (rowAt s a))) (string-type (typeRowAt t (rowAt s a)) first))
+      (string-rows n (a + 1) (λ j d. let e : a + suc j ≡ a + 1 + j = omega arith in subst (λ (x : ℕ). typeRowAt t (rowAt s x) < length s) e (h (suc j) (omega arith))))
+
+  module _ (i : ℕ) (here : i < length s) where
+    alternatives : all (stringRow t s i) (membersAt t (rowAt s i)) ≡ allStrings (membersFrom (typeAt l t) t s (i + 1) (membersAt t (rowAt s i)))
+    unfolding stringRow stringAt
+    alternatives =
+        all-front stringAt (stringRow t s i) (i + 1) (membersAt t (rowAt s i)) (λ j. refl)
+        ∙ sym (string-rows (membersAt t (rowAt s i)) (i + 1) (λ j d. names-later l t ok .of-member i here j d .1))
+
+    pub suits-syntax : (x : Syntax) → suitsRow x t s i ≡ suitsTarget x (ofType (typeAt l t i))
+    unfolding suitsRow
+    suits-syntax x =
+        ap (λ (y : Bool). pick (eqb (kindAt t (rowAt s i)) 13) (both (suitsKind x 8) y) (suitsKind x (kindAt t (rowAt s i)))) alternatives
+        ∙ sym (typed-suits x (kindAt t (rowAt s i)) (typeAt l t (elementAt t (rowAt s i))) (membersFrom (typeAt l t) t s (i + 1) (membersAt t (rowAt s i))))
+        ∙ ap (λ (y : Ty). suitsTarget x (ofType y)) (sym (type-step l t ok i here))
+
+    pub suits-row : (r : Rule) → ruleSuitsRow r t s i ≡ suits r (ofType (typeAt l t i))
+    unfolding ruleSuitsRow suits
+    suits-row present = refl
+    suits-row (equal x) = suits-syntax x
+    suits-row (less x) = suits-syntax x
+
+-- ---- what the code reads to the end
+module _ (t c : List ℕ) where
+  basic-read : (x : Syntax) (k : ℕ) → suitsKind x k ≡ true → conformsTo x t ≡ true → legal k c ≡ true → length c ≤ 65536 → isRead x t c ≡ true
+  unfolding isRead conformsTo
+  basic-read booleans k h f g n = refl
+  basic-read integers k h f g n =
+      let e : k ≡ 2 = eqb-true k 2 h in
+      le-leb (length c) 8 (integer-octets c (sym (legal-integer c) ∙ subst (λ (y : ℕ). legal y c ≡ true) e g) .1)
+  basic-read objectIdentifiers k h f g n = refl
+  basic-read octetStrings k h f g n = refl
+  basic-read bitStrings k h f g n = le-leb (length c) 65536 n
+  basic-read (strings fold) k h f g n = refl
+  basic-read times k h f g n = f
+
+  -- contents of a basic kind that the check of a value lets through, under a rule that is for it
+  pub read-basic : (r : Rule) (k : ℕ) → suits r (ofType (basic k)) ≡ true → conforms r t ≡ true → legal k c ≡ true → length c ≤ 65536 → isReadBy r t c ≡ true
+  unfolding suits suitsTarget conforms isReadBy
+  read-basic present k h f g n = refl
+  read-basic (equal x) k h f g n = basic-read x k h f g n
+  read-basic (less x) k h f g n = basic-read x k h f g n
+
+  choice-read : (x : Syntax) → suitsKind x 8 ≡ true → isRead x t c ≡ true
+  unfolding isRead
+  choice-read booleans h = refl
+  choice-read integers h = absurd (false≢true h)
+  choice-read objectIdentifiers h = refl
+  choice-read octetStrings h = refl
+  choice-read bitStrings h = absurd (false≢true h)
+  choice-read (strings fold) h = refl
+  choice-read times h = absurd (false≢true h)
+
+  -- contents of an alternative, under a rule that is for the CHOICE
+  pub read-choice : (r : Rule) (ms : Members) → suits r (ofType (choice ms)) ≡ true → isReadBy r t c ≡ true
+  unfolding suits suitsTarget isReadBy
+  read-choice present ms h = refl
+  read-choice (equal x) ms h = choice-read x (both-true (suitsKind x 8) (allStrings ms) h .0)
+  read-choice (less x) ms h = choice-read x (both-true (suitsKind x 8) (allStrings ms) h .0)
+
+  -- then the code's answer is the definition's
+  pub accepts-read : (r : Rule) (b : Bool) → isReadBy r t c ≡ true → b ≡ both (isReadBy r t c) (acceptsContents r t c) → b ≡ acceptsContents r t c
+  accepts-read r b h e = e ∙ ap (λ (y : Bool). both y (acceptsContents r t c)) h

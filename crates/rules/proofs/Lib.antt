@@ -1,0 +1,3 @@
+pub mod NameSteps
+pub mod Steps
+pub mod Laws

@@ -1,0 +1,259 @@
+-- One lemma for each case of a syntax or a rule.
+use mathlib.Core.Path.{_≡_, refl, sym, ap, _∙_}
+use mathlib.Core.Bool.{Bool, true, false, not}
+use mathlib.Core.List.{List}
+use Prim.Native.Nat.{ℕ}
+use borrow.Author.Tests.{eq-eqb, ne-eqb, not-true, not-false}
+use lib.Dec.{leb, eqb}
+use lib.ListN.{length}
+use Rattle.octets.specs.Pick.{pick, both, all}
+use Rattle.octets.specs.Octets.{same, below, bytes}
+use Rattle.der.specs.Kind.{isString}
+use Rattle.der.specs.Time.{timeOf, sameTime, earlier}
+use Rattle.der.specs.Meaning.{plus, sameWhole, lessWhole, integerOf, booleanOf, arcsOf, bitsOf}
+use Rattle.der.specs.Dotted.{isDotted, dottedArcs}
+use Rattle.der.proofs.MeaningLaws.{string-kinds}
+use Rattle.integers.specs.Asserted.{isInteger, assertedInteger}
+use Rattle.binary.specs.Asserted.{isOctets, isBits, assertedOctets, assertedBits}
+use Rattle.strings.specs.Asserted.{isText, assertedText}
+use Rattle.strings.specs.Prepared.{prepared}
+use Rattle.times.specs.Asserted.{isTime}
+use Rattle.rows.specs.Row.{kindAt, modeAt, rowAt, membersAt}
+use Rattle.groups.specs.Clauses.{memberPlace}
+use Rattle.groups.specs.Work.{memberType}
+use Rattle.reference.specs.Allowed.{ofCount}
+use Rattle.rules.specs.Suits.{suitsKind, suitsTarget, suits}
+use Rattle.rules.specs.Asserted.{isTruth, conformsTo, conforms}
+use Rattle.rules.specs.Accepts.{isEqual, isLess, acceptsContents, acceptsCount}
+use Rattle.rules.specs.Answers.{syntaxOf, meant, isRead, isReadBy, stringRow, suitsRow, ruleSuitsRow}
+use Rattle.rules.specs.declared.Syntax as syntax
+use Rattle.rules.specs.declared.Rule as rule
+
+-- ---- conforming
+module _ (t : List ℕ) (u : Bool) where
+  pub truth-true : u ≡ same t (bytes "TRUE") → u ≡ true → true ≡ isTruth t
+  unfolding isTruth
+  truth-true e h = rw (sym e ∙ h)
+
+  pub truth-false : (r : Bool) → u ≡ same t (bytes "TRUE") → u ≡ false → r ≡ same t (bytes "FALSE") → r ≡ isTruth t
+  unfolding isTruth
+  truth-false r e h q = rw (sym e ∙ h) q
+
+module _ (x : syntax.Syntax) (t : List ℕ) (r : Bool) where
+  pub conform-booleans : x ≡ syntax.Syntax.Booleans → r ≡ isTruth t → r ≡ conformsTo (syntaxOf x) t
+  unfolding conformsTo
+  conform-booleans e h = rw e h
+
+  pub conform-integers : x ≡ syntax.Syntax.Integers → r ≡ isInteger t → r ≡ conformsTo (syntaxOf x) t
+  unfolding conformsTo
+  conform-integers e h = rw e h
+
+  pub conform-oids : x ≡ syntax.Syntax.ObjectIdentifiers → r ≡ isDotted t → r ≡ conformsTo (syntaxOf x) t
+  unfolding conformsTo
+  conform-oids e h = rw e h
+
+  pub conform-octets : x ≡ syntax.Syntax.OctetStrings → r ≡ isOctets t → r ≡ conformsTo (syntaxOf x) t
+  unfolding conformsTo
+  conform-octets e h = rw e h
+
+  pub conform-bits : x ≡ syntax.Syntax.BitStrings → r ≡ isBits t → r ≡ conformsTo (syntaxOf x) t
+  unfolding conformsTo
+  conform-bits e h = rw e h
+
+  pub conform-strings : (fold : Bool) → x ≡ syntax.Syntax.Strings fold → r ≡ isText t → r ≡ conformsTo (syntaxOf x) t
+  unfolding conformsTo
+  conform-strings fold e h = rw e h
+
+  pub conform-times : x ≡ syntax.Syntax.Times → r ≡ isTime t → r ≡ conformsTo (syntaxOf x) t
+  unfolding conformsTo
+  conform-times e h = rw e h
+
+module _ (x : rule.Rule) (t : List ℕ) (r : Bool) where
+  pub conform-present : x ≡ rule.Rule.Present → r ≡ same t (bytes "NULL") → r ≡ conforms (meant x) t
+  unfolding conforms
+  conform-present e h = rw e h
+
+  pub conform-equal : (s : syntax.Syntax) → x ≡ rule.Rule.Equal s → r ≡ conformsTo (syntaxOf s) t → r ≡ conforms (meant x) t
+  unfolding conforms
+  conform-equal s e h = rw e h
+
+  pub conform-less : (s : syntax.Syntax) → x ≡ rule.Rule.Less s → r ≡ conformsTo (syntaxOf s) t → r ≡ conforms (meant x) t
+  unfolding conforms
+  conform-less s e h = rw e h
+
+-- ---- acceptance
+module _ (t c : List ℕ) (r u : Bool) (told : u ≡ booleanOf c) where
+  pub boolean-true : u ≡ true → r ≡ same t (bytes "TRUE") → r ≡ pick (booleanOf c) (same t (bytes "TRUE")) (same t (bytes "FALSE"))
+  boolean-true h e = rw (sym told ∙ h) e
+
+  pub boolean-false : u ≡ false → r ≡ same t (bytes "FALSE") → r ≡ pick (booleanOf c) (same t (bytes "TRUE")) (same t (bytes "FALSE"))
+  boolean-false h e = rw (sym told ∙ h) e
+
+never : (x : Bool) → false ≡ both x false
+never true = refl
+never false = refl
+
+module _ (x : syntax.Syntax) (t c : List ℕ) where
+  pub equal-booleans : (r : Bool) → x ≡ syntax.Syntax.Booleans → r ≡ pick (booleanOf c) (same t (bytes "TRUE")) (same t (bytes "FALSE")) → r ≡ both (isRead (syntaxOf x) t c) (isEqual (syntaxOf x) t c)
+  unfolding isRead isEqual
+  equal-booleans r e h = rw e h
+
+  pub equal-integers : (r : Bool) → x ≡ syntax.Syntax.Integers → r ≡ both (leb (length c) 8) (sameWhole (integerOf c) (assertedInteger t)) → r ≡ both (isRead (syntaxOf x) t c) (isEqual (syntaxOf x) t c)
+  unfolding isRead isEqual
+  equal-integers r e h = rw e h
+
+  pub equal-oids : (r : Bool) → x ≡ syntax.Syntax.ObjectIdentifiers → r ≡ same (arcsOf c) (dottedArcs t) → r ≡ both (isRead (syntaxOf x) t c) (isEqual (syntaxOf x) t c)
+  unfolding isRead isEqual
+  equal-oids r e h = rw e h
+
+  pub equal-octets : (r : Bool) → x ≡ syntax.Syntax.OctetStrings → r ≡ same c (assertedOctets t) → r ≡ both (isRead (syntaxOf x) t c) (isEqual (syntaxOf x) t c)
+  unfolding isRead isEqual
+  equal-octets r e h = rw e h
+
+  pub equal-bits : (r : Bool) → x ≡ syntax.Syntax.BitStrings → r ≡ both (leb (length c) 65536) (same (bitsOf c) (assertedBits t)) → r ≡ both (isRead (syntaxOf x) t c) (isEqual (syntaxOf x) t c)
+  unfolding isRead isEqual
+  equal-bits r e h = rw e h
+
+  pub equal-strings : (r : Bool) → (fold : Bool) → x ≡ syntax.Syntax.Strings fold → r ≡ same (prepared fold c) (prepared fold (assertedText t)) → r ≡ both (isRead (syntaxOf x) t c) (isEqual (syntaxOf x) t c)
+  unfolding isRead isEqual
+  equal-strings r fold e h = rw e h
+
+  pub equal-times : (r : Bool) → x ≡ syntax.Syntax.Times → r ≡ both (isTime t) (sameTime (timeOf c) (timeOf (assertedText t))) → r ≡ both (isRead (syntaxOf x) t c) (isEqual (syntaxOf x) t c)
+  unfolding isRead isEqual
+  equal-times r e h = rw e h
+
+  pub less-booleans : x ≡ syntax.Syntax.Booleans → false ≡ both (isRead (syntaxOf x) t c) (isLess (syntaxOf x) t c)
+  unfolding isRead isLess
+  less-booleans e = rw e
+
+  pub less-integers : (r : Bool) → x ≡ syntax.Syntax.Integers → r ≡ both (leb (length c) 8) (lessWhole (integerOf c) (assertedInteger t)) → r ≡ both (isRead (syntaxOf x) t c) (isLess (syntaxOf x) t c)
+  unfolding isRead isLess
+  less-integers r e h = rw e h
+
+  pub less-oids : x ≡ syntax.Syntax.ObjectIdentifiers → false ≡ both (isRead (syntaxOf x) t c) (isLess (syntaxOf x) t c)
+  unfolding isRead isLess
+  less-oids e = rw e
+
+  pub less-octets : (r : Bool) → x ≡ syntax.Syntax.OctetStrings → r ≡ below c (assertedOctets t) → r ≡ both (isRead (syntaxOf x) t c) (isLess (syntaxOf x) t c)
+  unfolding isRead isLess
+  less-octets r e h = rw e h
+
+  pub less-bits : x ≡ syntax.Syntax.BitStrings → false ≡ both (isRead (syntaxOf x) t c) (isLess (syntaxOf x) t c)
+  unfolding isRead isLess
+  less-bits e = rw e (never (leb (length c) 65536))
+
+  pub less-strings : (fold : Bool) → x ≡ syntax.Syntax.Strings fold → false ≡ both (isRead (syntaxOf x) t c) (isLess (syntaxOf x) t c)
+  unfolding isRead isLess
+  less-strings fold e = rw e
+
+  pub less-times : (r : Bool) → x ≡ syntax.Syntax.Times → r ≡ both (isTime t) (earlier (timeOf c) (timeOf (assertedText t))) → r ≡ both (isRead (syntaxOf x) t c) (isLess (syntaxOf x) t c)
+  unfolding isRead isLess
+  less-times r e h = rw e h
+
+module _ (x : rule.Rule) (t : List ℕ) where
+  module _ (c : List ℕ) where
+    pub accept-present : x ≡ rule.Rule.Present → true ≡ both (isReadBy (meant x) t c) (acceptsContents (meant x) t c)
+    unfolding isReadBy acceptsContents
+    accept-present e = rw e
+
+    pub accept-equal : (r : Bool) (s : syntax.Syntax) → x ≡ rule.Rule.Equal s → r ≡ both (isRead (syntaxOf s) t c) (isEqual (syntaxOf s) t c) → r ≡ both (isReadBy (meant x) t c) (acceptsContents (meant x) t c)
+    unfolding isReadBy acceptsContents
+    accept-equal r s e h = rw e h
+
+    pub accept-less : (r : Bool) (s : syntax.Syntax) → x ≡ rule.Rule.Less s → r ≡ both (isRead (syntaxOf s) t c) (isLess (syntaxOf s) t c) → r ≡ both (isReadBy (meant x) t c) (acceptsContents (meant x) t c)
+    unfolding isReadBy acceptsContents
+    accept-less r s e h = rw e h
+
+  module _ (n : ℕ) where
+    pub count-present : x ≡ rule.Rule.Present → true ≡ acceptsCount (meant x) t n
+    unfolding acceptsCount
+    count-present e = rw e
+
+    pub count-equal : (r : Bool) (s : syntax.Syntax) → x ≡ rule.Rule.Equal s → r ≡ sameWhole (plus n) (assertedInteger t) → r ≡ acceptsCount (meant x) t n
+    unfolding acceptsCount
+    count-equal r s e h = rw e h
+
+    pub count-less : (r : Bool) (s : syntax.Syntax) → x ≡ rule.Rule.Less s → r ≡ lessWhole (plus n) (assertedInteger t) → r ≡ acceptsCount (meant x) t n
+    unfolding acceptsCount
+    count-less r s e h = rw e h
+
+-- ---- which rule is for which type
+pub string-is : (k : ℕ) (r : Bool) → r ≡ both (leb 8 k) (leb k 10) → r ≡ isString k
+string-is k r e = e ∙ sym (string-kinds k)
+
+module _ (x : syntax.Syntax) (k : ℕ) where
+  pub kind-booleans : x ≡ syntax.Syntax.Booleans → eqb k 1 ≡ suitsKind (syntaxOf x) k
+  kind-booleans e = rw e
+
+  pub kind-integers : x ≡ syntax.Syntax.Integers → eqb k 2 ≡ suitsKind (syntaxOf x) k
+  kind-integers e = rw e
+
+  pub kind-oids : x ≡ syntax.Syntax.ObjectIdentifiers → eqb k 5 ≡ suitsKind (syntaxOf x) k
+  kind-oids e = rw e
+
+  pub kind-octets : x ≡ syntax.Syntax.OctetStrings → eqb k 6 ≡ suitsKind (syntaxOf x) k
+  kind-octets e = rw e
+
+  pub kind-bits : x ≡ syntax.Syntax.BitStrings → eqb k 7 ≡ suitsKind (syntaxOf x) k
+  kind-bits e = rw e
+
+  pub kind-strings : (r fold : Bool) → x ≡ syntax.Syntax.Strings fold → r ≡ isString k → r ≡ suitsKind (syntaxOf x) k
+  kind-strings r fold e h = rw e h
+
+  pub kind-times : x ≡ syntax.Syntax.Times → eqb k 11 ≡ suitsKind (syntaxOf x) k
+  kind-times e = rw e
+
+module _ (t s : List ℕ) (i j p m : ℕ) (place : p ≡ memberPlace s i j) (mode : m ≡ modeAt t p) where
+  tag : m ≡ modeAt t (memberPlace s i j)
+  tag = mode ∙ ap (modeAt t) place
+
+  pub row-tagged : (m ≡ 0 → ⊥) → false ≡ stringRow t s i j
+  unfolding stringRow
+  row-tagged n = rw (ne-eqb (modeAt t (memberPlace s i j)) 0 (λ e. n (tag ∙ e)))
+
+  pub row-string : (a b k : ℕ) (r : Bool) → m ≡ 0 → a ≡ memberType t s i j → b ≡ rowAt s a → k ≡ kindAt t b → r ≡ isString k → r ≡ stringRow t s i j
+  unfolding stringRow
+  row-string a b k r z ea eb ek e = rw (eq-eqb (modeAt t (memberPlace s i j)) 0 (sym tag ∙ z)) (e ∙ ap isString (ek ∙ ap (kindAt t) (eb ∙ ap (rowAt s) ea)))
+
+module _ (x : syntax.Syntax) (t s : List ℕ) (i p k : ℕ) (place : p ≡ rowAt s i) (kind : k ≡ kindAt t p) where
+  here : k ≡ kindAt t (rowAt s i)
+  here = kind ∙ ap (kindAt t) place
+
+  pub suits-basic : (r : Bool) → (k ≡ 13 → ⊥) → r ≡ suitsKind (syntaxOf x) k → r ≡ suitsRow (syntaxOf x) t s i
+  unfolding suitsRow
+  suits-basic r n e = rw (ne-eqb (kindAt t (rowAt s i)) 13 (λ q. n (here ∙ q))) (e ∙ ap (suitsKind (syntaxOf x)) here)
+
+  module _ (u : Bool) (c : k ≡ 13) (told : u ≡ suitsKind (syntaxOf x) 8) where
+    pub suits-other : not u ≡ true → false ≡ suitsRow (syntaxOf x) t s i
+    unfolding suitsRow
+    suits-other q = rw (eq-eqb (kindAt t (rowAt s i)) 13 (sym here ∙ c), sym told ∙ not-true u q)
+
+    pub suits-choice : (r : Bool) (n : ℕ) → not u ≡ false → n ≡ membersAt t p → r ≡ all (stringRow t s i) n → r ≡ suitsRow (syntaxOf x) t s i
+    unfolding suitsRow
+    suits-choice r n q m e = rw (eq-eqb (kindAt t (rowAt s i)) 13 (sym here ∙ c), sym told ∙ not-false u q) (e ∙ ap (all (stringRow t s i)) (m ∙ ap (membersAt t) place))
+
+module _ (x : rule.Rule) where
+  module _ (t s : List ℕ) (i : ℕ) where
+    pub rule-present : x ≡ rule.Rule.Present → true ≡ ruleSuitsRow (meant x) t s i
+    unfolding ruleSuitsRow
+    rule-present e = rw e
+
+    pub rule-equal : (r : Bool) (y : syntax.Syntax) → x ≡ rule.Rule.Equal y → r ≡ suitsRow (syntaxOf y) t s i → r ≡ ruleSuitsRow (meant x) t s i
+    unfolding ruleSuitsRow
+    rule-equal r y e h = rw e h
+
+    pub rule-less : (r : Bool) (y : syntax.Syntax) → x ≡ rule.Rule.Less y → r ≡ suitsRow (syntaxOf y) t s i → r ≡ ruleSuitsRow (meant x) t s i
+    unfolding ruleSuitsRow
+    rule-less r y e h = rw e h
+
+  pub counted-present : x ≡ rule.Rule.Present → true ≡ suits (meant x) ofCount
+  unfolding suits
+  counted-present e = rw e
+
+  pub counted-equal : (r : Bool) (y : syntax.Syntax) → x ≡ rule.Rule.Equal y → r ≡ suitsKind (syntaxOf y) 2 → r ≡ suits (meant x) ofCount
+  unfolding suits suitsTarget
+  counted-equal r y e h = rw e h
+
+  pub counted-less : (r : Bool) (y : syntax.Syntax) → x ≡ rule.Rule.Less y → r ≡ suitsKind (syntaxOf y) 2 → r ≡ suits (meant x) ofCount
+  unfolding suits suitsTarget
+  counted-less r y e h = rw e h

@@ -1,0 +1,17 @@
+use Rattle.rules.proofs.Steps.{row-string, row-tagged}
+use borrow.Author.Needs.{needs}
+use Rattle.rules.proofs.is_string_row.Statement.{statement}
+use Rattle.rules.proofs.is_string_row.Tie as tie
+
+pub is-string-row-spec : {M : Type 1} → statement M
+is-string-row-spec =
+    tie.close
+    (tie.spec
+    (λ c κs. search needs)  -- member-place-requires
+    (λ c κs. search needs)  -- mode-at-requires
+    (λ c. search row-tagged)  -- returns
+    (λ c κs. search needs)  -- member-type-requires
+    (λ c κs. search needs)  -- row-at-requires
+    (λ c κs. search needs)  -- kind-at-requires
+    (λ c κs. search needs)  -- is-string-requires
+    (λ c. search row-string))  -- returns-2

@@ -1,0 +1,112 @@
+-- The cursor of a prepared string, and two prepared strings side by side.
+use mathlib.Core.Path.{_≡_, refl, sym, ap, ap₂, _∙_}
+use mathlib.Core.Bool.{Bool, true, false}
+use mathlib.Core.List.{List, [], _∷_}
+use Prim.Native.Nat.{ℕ, _<_}
+use native.Mathlib.Omega.{arith}
+use borrow.Author.Tests.{eq-eqb, ne-eqb}
+use lib.Dec.{eqb}
+use lib.ListN.{length}
+use Rattle.octets.specs.Pick.{both}
+use Rattle.octets.specs.Octets.{same}
+use Rattle.octets.specs.Quoted.{undoubled}
+use Rattle.octets.proofs.TextLaws.{same-nil, same-shorter, same-longer, same-cons}
+use Rattle.strings.specs.Asserted.{assertedText}
+use Rattle.strings.specs.Prepared.{afterSpace, spaced, squeezed, prepared}
+use Rattle.strings.specs.Cursor.{charactersOf, lettersAt, toldLetter, restAt, rest, told, emitted, isEnd}
+use Rattle.strings.specs.declared.Before.{Before}
+use Rattle.strings.specs.declared.Letter.{Letter}
+use Rattle.strings.specs.declared.Cursor.{Cursor}
+use Rattle.strings.specs.declared.Step.{Step}
+
+-- ---- the table functions
+module _ (p : Before) (b at after : ℕ) where
+  pub emit-gap : p ≡ Before.Space → Step.Octet 32 (record { at = at; before = Before.Nothing }) ≡ emitted b p at after
+  emit-gap e = rw e
+
+  pub emit-nothing : p ≡ Before.Nothing → Step.Octet b (record { at = after; before = Before.Character }) ≡ emitted b p at after
+  emit-nothing e = rw e
+
+  pub emit-character : p ≡ Before.Character → Step.Octet b (record { at = after; before = Before.Character }) ≡ emitted b p at after
+  emit-character e = rw e
+
+-- ---- the next octet
+module _ (fold quoted : Bool) (s : List ℕ) (at : ℕ) (p : Before) (l : List ℕ) (inv : restAt fold quoted s at p ≡ l)
+    (r : Letter) (read : toldLetter fold quoted s r ≡ lettersAt fold quoted s at) where
+  pub next-end : r ≡ Letter.End → told fold quoted s Step.End ≡ l
+  unfolding restAt squeezed
+  next-end e = sym (ap (squeezed p) (sym read ∙ ap (toldLetter fold quoted s) e)) ∙ inv
+
+  module _ (b after : ℕ) (e : r ≡ Letter.Got b after) where
+    letters : lettersAt fold quoted s at ≡ b ∷ lettersAt fold quoted s after
+    letters = sym read ∙ ap (toldLetter fold quoted s) e
+
+    step : squeezed p (b ∷ lettersAt fold quoted s after) ≡ l
+    unfolding restAt
+    step = sym (ap (squeezed p) letters) ∙ inv
+
+    pub next-falls : length (lettersAt fold quoted s after) < length (lettersAt fold quoted s at)
+    next-falls = omega (arith, ap length letters)
+
+    pub next-space : (x : Before) → b ≡ 32 → x ≡ afterSpace p → restAt fold quoted s after x ≡ l
+    unfolding restAt squeezed
+    next-space x q h = rw h (rw (eq-eqb b 32 q) at step)
+
+    taken : (b ≡ 32 → ⊥) → (x : Before) → squeezed x (b ∷ lettersAt fold quoted s after) ≡ spaced x (b ∷ squeezed Before.Character (lettersAt fold quoted s after))
+    unfolding squeezed
+    taken n x = rw (ne-eqb b 32 n)
+
+    emit-told : (b ≡ 32 → ⊥) → (x : Before) → told fold quoted s (emitted b x at after) ≡ spaced x (b ∷ squeezed Before.Character (lettersAt fold quoted s after))
+    unfolding restAt
+    emit-told n Before.Nothing = refl
+    emit-told n Before.Character = refl
+    emit-told n Before.Space = ap (λ (y : List ℕ). 32 ∷ y) (ap (squeezed Before.Nothing) letters ∙ taken n Before.Nothing)
+
+    pub next-emits : (x : Step) → (b ≡ 32 → ⊥) → x ≡ emitted b p at after → told fold quoted s x ≡ l
+    next-emits x n q = ap (told fold quoted s) q ∙ emit-told n p ∙ sym (taken n p) ∙ step
+
+-- ---- two prepared strings
+abbrev pub begun : Cursor
+begun = record { at = 0; before = Before.Nothing }
+
+rest-begun : (fold quoted : Bool) (s : List ℕ) → rest fold quoted s begun ≡ prepared fold (charactersOf quoted s)
+unfolding restAt lettersAt prepared
+rest-begun fold quoted s = refl
+
+pub match-start : (fold : Bool) (c q : List ℕ) → same (rest fold false c begun) (rest fold true q begun) ≡ same (prepared fold c) (prepared fold (undoubled q))
+match-start fold c q = ap₂ same (rest-begun fold false c) (rest-begun fold true q)
+
+module _ (fold : Bool) (c q : List ℕ) (a b : Cursor) (sa sb : Step) (m : Bool) (inv : same (rest fold false c a) (rest fold true q b) ≡ m)
+    (ea : told fold false c sa ≡ rest fold false c a) (eb : told fold true q sb ≡ rest fold true q b) where
+  sides : same (told fold false c sa) (told fold true q sb) ≡ m
+  sides = ap₂ same ea eb ∙ inv
+
+  ended : (x : Step) → isEnd x ≡ same [] (told fold true q x)
+  ended Step.End = sym same-nil
+  ended (Step.Octet y z) = sym (same-shorter y (rest fold true q z))
+
+  pub match-ended : (r : Bool) → sa ≡ Step.End → r ≡ isEnd sb → r ≡ m
+  match-ended r e h = h ∙ ended sb ∙ sym (ap (λ (x : Step). same (told fold false c x) (told fold true q sb)) e) ∙ sides
+
+  module _ (x : ℕ) (a2 : Cursor) (ex : sa ≡ Step.Octet x a2) where
+    left : x ∷ rest fold false c a2 ≡ rest fold false c a
+    left = sym (ap (told fold false c) ex) ∙ ea
+
+    pub match-falls : length (rest fold false c a2) < length (rest fold false c a)
+    match-falls = omega (arith, ap length left)
+
+    pub match-longer : sb ≡ Step.End → false ≡ m
+    match-longer e = sym (same-longer x (rest fold false c a2)) ∙ sym (ap₂ (λ (u : Step) (v : Step). same (told fold false c u) (told fold true q v)) ex e) ∙ sides
+
+    module _ (y : ℕ) (b2 : Cursor) (ey : sb ≡ Step.Octet y b2) where
+      both-sides : both (eqb x y) (same (rest fold false c a2) (rest fold true q b2)) ≡ m
+      both-sides = sym (same-cons x y (rest fold false c a2) (rest fold true q b2)) ∙ sym (ap₂ (λ (u : Step) (v : Step). same (told fold false c u) (told fold true q v)) ex ey) ∙ sides
+
+      pub match-differs : (x ≡ y → ⊥) → false ≡ m
+      match-differs n = rw (ne-eqb x y n) at both-sides
+
+      pub match-more : x ≡ y → same (rest fold false c a2) (rest fold true q b2) ≡ m
+      match-more e = rw (eq-eqb x y e) at both-sides
+
+pub prepared-is : (t c p : List ℕ) (fold r : Bool) → undoubled p ≡ assertedText t → r ≡ same (prepared fold c) (prepared fold (undoubled p)) → r ≡ same (prepared fold c) (prepared fold (assertedText t))
+prepared-is t c p fold r e h = h ∙ ap (λ (x : List ℕ). same (prepared fold c) (prepared fold x)) e

@@ -1,0 +1,133 @@
+-- Quoted strings and characters: one lemma for each return; its premises are the facts as the code has them.
+use mathlib.Core.Path.{_≡_, refl, sym, ap, ap₂, _∙_}
+use mathlib.Core.Bool.{Bool, true, false, not}
+use mathlib.Core.Option.{Option, none, some}
+use mathlib.Core.List.{List, [], _∷_}
+use Prim.Native.Nat.{ℕ, _≤_, _<_, _+_, _-_}
+use native.Mathlib.Omega.{arith}
+use borrow.Author.Tests.{eq-eqb, ne-eqb, lt-leb, not-true, not-false}
+use lib.Dec.{leb, eqb}
+use lib.ListN.{length, drop}
+use Rattle.octets.specs.Pick.{pick, both}
+use Rattle.octets.specs.Octets.{octet, part}
+use Rattle.octets.specs.Text.{lower}
+use Rattle.octets.specs.Quoted.{closingAt, undoubled, unquoted}
+use Rattle.octets.specs.Answers as answers
+use Rattle.octets.specs.declared.Place.{Place}
+use Rattle.octets.proofs.Laws.{rest-cons, rest-none}
+use Rattle.octets.proofs.QuotedLaws.{undoubled-nil, undoubled-one, undoubled-two, undoubled-other, undoubled-some, unquoted-none, unquoted-longer, unquoted-whole}
+use Rattle.strings.specs.Asserted.{someText, isText, textOr, assertedText}
+use Rattle.strings.specs.Prepared.{folded}
+use Rattle.strings.specs.Cursor.{charactersOf, toldCharacter, foldOctet, lettersAt, toldLetter}
+use Rattle.strings.specs.declared.Letter.{Letter}
+
+-- ---- what stands between the quotes
+text-none : (t : List ℕ) → unquoted t ≡ none → [] ≡ assertedText t
+unfolding assertedText
+text-none t e = rw e
+
+nothing : (t p : List ℕ) → p ≡ part t 0 0 → unquoted t ≡ none → undoubled p ≡ assertedText t
+nothing t p e h = ap undoubled e ∙ undoubled-nil ∙ text-none t h
+
+module _ (t p : List ℕ) (r : Place) (told : answers.told r ≡ closingAt t 0) where
+  pub part-unclosed : r ≡ Place.Nowhere → p ≡ part t 0 0 → undoubled p ≡ assertedText t
+  part-unclosed h e = nothing t p e (unquoted-none t (sym told ∙ ap answers.told h))
+
+  module _ (close : ℕ) (h : r ≡ Place.At close) where
+    closed : closingAt t 0 ≡ some close
+    closed = sym told ∙ ap answers.told h
+
+    pub part-past : length t ≤ close → p ≡ part t 0 0 → undoubled p ≡ assertedText t
+    part-past l e = nothing t p e (unquoted-longer t close closed (λ q. omega arith))
+
+    module _ (l : close < length t) where
+      pub part-longer : (length t - close ≡ 1 → ⊥) → p ≡ part t 0 0 → undoubled p ≡ assertedText t
+      part-longer n e = nothing t p e (unquoted-longer t close closed (λ q. n (omega arith)))
+
+      module _ (one : length t - close ≡ 1) where
+        whole : undoubled (part t 1 (close - 1)) ≡ assertedText t
+        unfolding assertedText
+        whole = let q : close + 1 ≡ length t = omega arith in sym (ap textOr (unquoted-whole t close closed q))
+
+        pub part-empty : close ≡ 0 → p ≡ part t 1 0 → undoubled p ≡ assertedText t
+        part-empty z e = let q : 0 ≡ close - 1 = omega arith in ap undoubled (e ∙ ap (part t 1) q) ∙ whole
+
+        pub part-is : p ≡ part t 1 (close - 1) → undoubled p ≡ assertedText t
+        part-is e = ap undoubled e ∙ whole
+
+some-text : (t : List ℕ) → leb 1 (length (assertedText t)) ≡ isText t
+unfolding assertedText isText
+some-text t = go (unquoted t)
+  where
+    go : (o : Option (List ℕ)) → leb 1 (length (textOr o)) ≡ someText o
+    go none = lt-leb 1 0 (omega arith)
+    go (some s) = refl
+
+pub text-is : (t p : List ℕ) (r : Bool) → undoubled p ≡ assertedText t → r ≡ leb 1 (length p) → r ≡ isText t
+text-is t p r e h = h ∙ sym (undoubled-some p) ∙ ap (λ (x : List ℕ). leb 1 (length x)) e ∙ some-text t
+
+-- ---- characters
+module _ (s : List ℕ) (quoted : Bool) (at : ℕ) where
+  pub character-end : length s ≤ at → toldCharacter quoted s Letter.End ≡ charactersOf quoted (drop at s)
+  character-end h = sym (ap (charactersOf quoted) (rest-none s at h) ∙ go quoted)
+    where
+      go : (q : Bool) → charactersOf q [] ≡ []
+      go true = undoubled-nil
+      go false = refl
+
+  module _ (h : at < length s) where
+    pub character-stored : not quoted ≡ true → toldCharacter quoted s (Letter.Got (octet s at) (at + 1)) ≡ charactersOf quoted (drop at s)
+    character-stored q = rw (not-true quoted q) (sym (rest-cons s at h))
+
+    module _ (q : not quoted ≡ false) where
+      pub character-other : (octet s at ≡ 34 → ⊥) → toldCharacter quoted s (Letter.Got (octet s at) (at + 1)) ≡ charactersOf quoted (drop at s)
+      character-other n = rw (not-false quoted q) (sym (undoubled-other (octet s at) (drop (at + 1) s) n) ∙ ap undoubled (sym (rest-cons s at h)))
+
+      module _ (quote : octet s at ≡ 34) where
+        pub character-last : length s - at < 2 → toldCharacter quoted s (Letter.Got 34 (at + 1)) ≡ charactersOf quoted (drop at s)
+        character-last l =
+            let g : length s ≤ at + 1 = omega arith in
+            rw (not-false quoted q)
+            (rw (rest-none s (at + 1) g) (ap (λ (x : List ℕ). 34 ∷ x) undoubled-nil ∙ sym (undoubled-one 34) ∙ sym (ap undoubled (rest-cons s at h ∙ ap₂ (λ (b : ℕ) (x : List ℕ). b ∷ x) quote (rest-none s (at + 1) g)))))
+
+        module _ (l : 2 ≤ length s - at) where
+          second : drop (at + 1) s ≡ octet s (at + 1) ∷ drop (at + 2) s
+          second =
+              let z : at + 1 < length s = omega arith in
+              let e : at + 1 + 1 ≡ at + 2 = omega arith in
+              rest-cons s (at + 1) z ∙ ap (λ (n : ℕ). octet s (at + 1) ∷ drop n s) e
+
+          two : undoubled (drop at s) ≡ pick (both (eqb 34 34) (eqb (octet s (at + 1)) 34)) (34 ∷ undoubled (drop (at + 2) s)) (34 ∷ undoubled (octet s (at + 1) ∷ drop (at + 2) s))
+          two = ap undoubled (rest-cons s at h ∙ ap₂ (λ (b : ℕ) (x : List ℕ). b ∷ x) quote second) ∙ undoubled-two 34 (octet s (at + 1)) (drop (at + 2) s)
+
+          pub character-single : (octet s (at + 1) ≡ 34 → ⊥) → toldCharacter quoted s (Letter.Got 34 (at + 1)) ≡ charactersOf quoted (drop at s)
+          character-single n = rw (not-false quoted q) (sym (two ∙ rw (ne-eqb (octet s (at + 1)) 34 n) (ap (λ (x : List ℕ). 34 ∷ undoubled x) (sym second))))
+
+          pub character-double : octet s (at + 1) ≡ 34 → toldCharacter quoted s (Letter.Got 34 (at + 2)) ≡ charactersOf quoted (drop at s)
+          character-double e = rw (not-false quoted q) (sym (two ∙ rw (eq-eqb (octet s (at + 1)) 34 e)))
+
+-- ---- folding
+pub fold-lower : (fold : Bool) (b r : ℕ) → fold ≡ true → r ≡ lower b → r ≡ foldOctet fold b
+fold-lower fold b r h e = rw h e
+
+pub fold-exact : (fold : Bool) (b : ℕ) → fold ≡ false → b ≡ foldOctet fold b
+fold-exact fold b h = rw h
+
+folded-nil : (fold : Bool) → folded fold [] ≡ []
+unfolding folded
+folded-nil true = refl
+folded-nil false = refl
+
+folded-cons : (fold : Bool) (b : ℕ) (s : List ℕ) → folded fold (b ∷ s) ≡ foldOctet fold b ∷ folded fold s
+unfolding folded
+folded-cons true b s = refl
+folded-cons false b s = refl
+
+module _ (s : List ℕ) (quoted fold : Bool) (at : ℕ) (r : Letter) (told : toldCharacter quoted s r ≡ charactersOf quoted (drop at s)) where
+  pub letter-end : r ≡ Letter.End → toldLetter fold quoted s Letter.End ≡ lettersAt fold quoted s at
+  unfolding lettersAt
+  letter-end e = sym (ap (folded fold) (sym told ∙ ap (toldCharacter quoted s) e) ∙ folded-nil fold)
+
+  pub letter-is : (b after x : ℕ) → r ≡ Letter.Got b after → x ≡ foldOctet fold b → toldLetter fold quoted s (Letter.Got x after) ≡ lettersAt fold quoted s at
+  unfolding lettersAt
+  letter-is b after x e h = sym (ap (folded fold) (sym told ∙ ap (toldCharacter quoted s) e) ∙ folded-cons fold b (charactersOf quoted (drop after s)) ∙ ap (λ (y : ℕ). y ∷ folded fold (charactersOf quoted (drop after s))) (sym h))

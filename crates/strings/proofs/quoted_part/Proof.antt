@@ -1,0 +1,24 @@
+use Rattle.strings.proofs.Steps.{part-empty, part-is, part-longer, part-past, part-unclosed}
+use borrow.Author.Needs.{needs}
+use Rattle.strings.proofs.quoted_part.Statement.{statement}
+use Rattle.strings.proofs.quoted_part.Tie as tie
+
+pub quoted-part-spec : {M : Type 1} → statement M
+quoted-part-spec =
+    tie.close
+    (tie.spec
+    (λ c κs. search needs)  -- closing-at-requires
+    (λ c. search needs)  -- enum-known-close
+    (λ c. search needs)  -- enum-told
+    (λ c κs. search needs)  -- part-requires
+    (λ c. search part-unclosed)  -- returns
+    (λ c κs. search needs)  -- part-requires-2
+    (λ c. search part-past)  -- returns-2
+    (λ c. search needs)  -- sub-if2
+    (λ c κs. search needs)  -- part-requires-3
+    (λ c. search part-longer)  -- returns-3
+    (λ c κs. search needs)  -- part-requires-4
+    (λ c. search part-empty)  -- returns-4
+    (λ c. search needs)  -- sub-part
+    (λ c κs. search needs)  -- part-requires-5
+    (λ c. search part-is))  -- returns-5

@@ -1,0 +1,22 @@
+-- Computed examples.
+use mathlib.Core.Path.{_≡_, refl}
+use mathlib.Core.Bool.{true, false}
+use mathlib.Core.List.{[], _∷_, map}
+use Rattle.octets.specs.Octets.{bytes, hex}
+use Rattle.octets.specs.Computing.{octetsCompute}
+use Rattle.strings.specs.Prepared.{squeezed, folded, prepared}
+use Rattle.strings.specs.Asserted.{isText, assertedText}
+
+-- the texts " ", "", a, "a""b", "a"b"
+conforming : map isText (bytes "\" \"" ∷ bytes "\"\"" ∷ bytes "a" ∷ bytes "\"a\"\"b\"" ∷ bytes "\"a\"b\"" ∷ []) ≡ true ∷ false ∷ false ∷ true ∷ false ∷ []
+unfolding octetsCompute isText
+conforming = refl
+
+characters : assertedText (bytes "\"a\"\"b\"") ≡ bytes "a\"b"
+unfolding octetsCompute assertedText
+characters = refl
+
+preparing : prepared true (bytes "  Foo   BAR ") ∷ prepared false (bytes "  Foo   BAR ") ∷ prepared true (bytes "   ") ∷ prepared true (hex "41C389") ∷ []
+    ≡ bytes "foo bar" ∷ bytes "Foo BAR" ∷ [] ∷ hex "61C389" ∷ []
+unfolding octetsCompute squeezed folded prepared
+preparing = refl

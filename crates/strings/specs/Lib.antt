@@ -1,0 +1,4 @@
+pub mod Prepared
+pub mod Asserted
+pub mod Cursor
+pub mod Examples
