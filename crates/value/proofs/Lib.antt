@@ -7,3 +7,4 @@ pub mod MemberSteps
 pub mod ChoiceSteps
 pub mod ElementSteps
 pub mod EntrySteps
+pub mod PartSteps

@@ -2,11 +2,13 @@
 use Prim.Native.Nat.{ℕ, _+_}
 use mathlib.Core.List.{List, []}
 use lib.ListN.{length}
-use lib.Dec.{leb}
+use lib.Dec.{leb, eqb}
+use denote.Ref.{now}
 use Rattle.octets.specs.Pick.{pick}
 use Rattle.octets.specs.Octets.{part}
 use Rattle.value.specs.Limits.{Limits}
 use Rattle.value.specs.Check.{valueFits}
+use Rattle.value.specs.declared.ValuePart.{ValuePart}
 
 -- a refusal number, 0 for none, and the part
 pub record PartReport : Type 0 where
@@ -22,3 +24,11 @@ partReport l v place size =
     pick (valueFits l v)
     (pick (leb (place + size) (length v)) (record { refusal = 0; octets = part v place size }) (refusedPart 4))
     (refusedPart 1)
+
+-- the octets that go with a refusal number: none, unless it is 0
+abbrev pub unlessRefused : ℕ → List ℕ → List ℕ
+unlessRefused n octets = pick (eqb n 0) octets []
+
+-- what the code's answer says
+abbrev pub told : ValuePart → PartReport
+told p = record { refusal = p .refusal; octets = now (p .octets) }

@@ -422,3 +422,49 @@ pub fn check_value(table: &[u8], value: &[u8]) -> ValueCheck
     }
     check_storage(table, value)
 }
+
+// ---- the fifth entry
+ghost use Rattle.value.specs.Part.{partReport, unlessRefused, told};
+
+// The answer of the fifth entry: the part, and the refusal number, 0 for none.
+pub struct ValuePart<'a> {
+    pub octets: &'a [u8],
+    pub refusal: u8,
+}
+
+// The refusal number, 0 for none. Place plus length is compared by differences, so that no sum can pass the largest number.
+fn part_refusal(value: &[u8], place: usize, length: usize) -> u8
+    ensures { λ r. do ⌜ r ≡ partReport (valueLimits (← ⟦Value::MIN_BYTES⟧ .entry) (← ⟦Value::MAX_BYTES⟧ .entry)) (now (value .entry)) place length .refusal ⌝ }
+{
+    if !value_fits(value) {
+        return 1;
+    }
+    if value.len() < place {
+        return 4;
+    }
+    if value.len() - place < length {
+        return 4;
+    }
+    0
+}
+
+// The octets from a place on; none with a refusal.
+fn part_octets(value: &[u8], place: usize, length: usize, refusal: u8) -> &[u8]
+    ensures { λ r. ⌜ now r ≡ unlessRefused refusal (part (now (value .entry)) place length) ⌝ }
+{
+    if refusal == 0 {
+        return octets::part(value, place, length);
+    }
+    octets::part(value, value.len(), 0)
+}
+
+// The octets of a stored value, from place and length.
+pub fn part<'a>(value: &'a [u8], place: usize, length: usize) -> ValuePart<'a>
+    ensures { λ r. do ⌜ told r ≡ partReport (valueLimits (← ⟦Value::MIN_BYTES⟧ .entry) (← ⟦Value::MAX_BYTES⟧ .entry)) (now (value .entry)) place length ⌝ }
+{
+    let refusal = part_refusal(value, place, length);
+    ValuePart {
+        octets: part_octets(value, place, length, refusal),
+        refusal,
+    }
+}
