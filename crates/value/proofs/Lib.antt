@@ -7,4 +7,5 @@ pub mod MemberSteps
 pub mod ChoiceSteps
 pub mod ElementSteps
 pub mod EntrySteps
+pub mod Answers
 pub mod PartSteps

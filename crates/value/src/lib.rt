@@ -14,6 +14,7 @@ ghost use Rattle.value.specs.Decode.{tagOctet, unwrapped, alternativeFro
 ghost use Rattle.rows.specs.Limits.{limits as tableLimits};
 ghost use Rattle.value.specs.Limits.{limits as valueLimits};
 ghost use Rattle.value.specs.Check.{report, isRefused, valueFits, sizesFit, storage};
+ghost use Rattle.value.specs.Part.{partReport, unlessRefused, told};
 ghost use Rattle.value.specs.Work as work;
 
 // A stored value: how many octets it has, and the limits of every one.
@@ -424,8 +425,6 @@ pub fn check_value(table: &[u8], value: &[u8]) -> ValueCheck
 }
 
 // ---- the fifth entry
-ghost use Rattle.value.specs.Part.{partReport, unlessRefused, told};
-
 // The answer of the fifth entry: the part, and the refusal number, 0 for none.
 pub struct ValuePart<'a> {
     pub octets: &'a [u8],

@@ -37,7 +37,7 @@ use denote.Triple.Table.{entered, cited}
 use denote.Triple.Walked.{Stays, stay-none, stay-none-slice, walkOf, goes-none, goes-none-slice, Walks, onExit, ends-at, walked, walk-meets}
 use denote.Exit.{yes}
 use denote.Ask.Asked.{isResultOf}
-use denote.Triple.Clauses.{ensured, lasts}
+use denote.Triple.Clauses.{atExit, ensured, lasts}
 use Rattle.octets.specs.Octets as octets
 use Rattle.value.specs.Limits.{limits}
 use Rattle.value.specs.Part.{partReport, unlessRefused, told}
@@ -162,8 +162,9 @@ module _ {M : Type 1} (𝓤 : URA M) (H : Heap 𝓤) (A : Atoms 𝓤) (W : Given
     abbrev Left : Val → List (Item 𝓤)
     Left w = ‵ (Slice .own o (w ∷ [])) ∷ Token ∷ ‵ Own ∷ raw (Refused n) ∷ []
 
+    -- what the contract says of it
     abbrev Said : SProp 𝓤
-    Said = Limited 𝓤 H A mem run κ (λ least most. told made ≡ partReport (limits least most) (now s) place size)
+    Said = part.clauses 𝓤 H A mem run (κ, tt) (s, (place, (size, tt))) .ensures tt made (atExit part.ended (κ, tt) (s, (place, (size, tt))) (tt, (tt, (tt, tt))))
 
     module _ (ok : n < 2 ^ 8) (e : now o ≡ unlessRefused n (octets.part (now s) place size)) where
       exits-at : ent 𝓤 (⋆ 𝓤 H A (Left vₒ)) (Post (T′.lowered made))
@@ -171,7 +172,7 @@ module _ {M : Type 1} (𝓤 : URA M) (H : Heap 𝓤) (A : Atoms 𝓤) (W : Given
           qed W (Left vₒ) ∵
           suffices ! _ (ends-at 𝓤 H A part.ended stayed (part.clauses 𝓤 H A mem run) W (((κ, tt), (q, tt), tt, (s, (place, (size, tt))), at), tt) (T′.lowered made) made (tt, (tt, (tt, tt))) (tt, (tt, (tt, tt)))) $
           suffices ! _ (comm∗ 𝓤 Said (onExit 𝓤 H A part.ended stayed (κ, tt) (q, tt) at (T′.lowered made) made (s, (place, (size, tt))) (tt, (tt, (tt, tt))))) $
-          move ! (3 ∷ []) $ use1 W (raw Said) (limited 𝓤 H A mem run κ _ _ (λ least most r. reported (limits least most) (now s) (now o) place size n r e)) $ frame ! $
+          move ! (3 ∷ []) $ use1 W (raw Said) (limited 𝓤 H A mem run κ _ (λ least most. told made ≡ partReport (limits least most) (now s) place size) (λ least most r. reported (limits least most) (now s) (now o) place size n r e)) $ frame ! $
           move ! (1 ∷ []) $ frame ! $
           -- [what o owns; what s owns]
           nothing ! $ owned ! usize (Is usize) (uint-makes 𝓤 H A W w64) size (vint w64 size ∷ []) (refl, ok-size) $ fjoin ! $ owned ! usize (Is usize) (uint-makes 𝓤 H A W w64) place (vint w64 place ∷ []) (refl, ok-place) $ fjoin ! $
