@@ -1,12 +1,12 @@
 -- Quoted strings and characters: one lemma for each return; its premises are the facts as the code has them.
 use mathlib.Core.Path.{_≡_, refl, sym, ap, ap₂, _∙_}
 use mathlib.Core.Bool.{Bool, true, false, not}
-use mathlib.Core.Option.{Option, none, some}
+use mathlib.Core.Option.{none, some}
 use mathlib.Core.List.{List, [], _∷_}
 use Prim.Native.Nat.{ℕ, _≤_, _<_, _+_, _-_}
 use native.Mathlib.Omega.{arith}
-use borrow.Author.Tests.{eq-eqb, ne-eqb, lt-leb, not-true, not-false}
-use lib.Dec.{leb, eqb}
+use borrow.Author.Tests.{eq-eqb, ne-eqb, not-true, not-false}
+use lib.Dec.{eqb}
 use lib.ListN.{length, drop}
 use Rattle.octets.specs.Pick.{pick, both}
 use Rattle.octets.specs.Octets.{octet, part}
@@ -15,8 +15,8 @@ use Rattle.octets.specs.Quoted.{closingAt, undoubled, unquoted}
 use Rattle.octets.specs.Answers as answers
 use Rattle.octets.specs.declared.Place.{Place}
 use Rattle.octets.proofs.Laws.{rest-cons, rest-none}
-use Rattle.octets.proofs.QuotedLaws.{undoubled-nil, undoubled-one, undoubled-two, undoubled-other, undoubled-some, unquoted-none, unquoted-longer, unquoted-whole}
-use Rattle.strings.specs.Asserted.{someText, isText, textOr, assertedText}
+use Rattle.octets.proofs.QuotedLaws.{undoubled-nil, undoubled-one, undoubled-two, undoubled-other, unquoted-none, unquoted-longer, unquoted-whole}
+use Rattle.strings.specs.Asserted.{textOr, assertedText}
 use Rattle.strings.specs.Prepared.{folded}
 use Rattle.strings.specs.Cursor.{charactersOf, toldCharacter, foldOctet, lettersAt, toldLetter}
 use Rattle.strings.specs.declared.Letter.{Letter}
@@ -54,17 +54,6 @@ module _ (t p : List ℕ) (r : Place) (told : answers.told r ≡ closingAt t 0) 
 
         pub part-is : p ≡ part t 1 (close - 1) → undoubled p ≡ assertedText t
         part-is e = ap undoubled e ∙ whole
-
-some-text : (t : List ℕ) → leb 1 (length (assertedText t)) ≡ isText t
-unfolding assertedText isText
-some-text t = go (unquoted t)
-  where
-    go : (o : Option (List ℕ)) → leb 1 (length (textOr o)) ≡ someText o
-    go none = lt-leb 1 0 (omega arith)
-    go (some s) = refl
-
-pub text-is : (t p : List ℕ) (r : Bool) → undoubled p ≡ assertedText t → r ≡ leb 1 (length p) → r ≡ isText t
-text-is t p r e h = h ∙ sym (undoubled-some p) ∙ ap (λ (x : List ℕ). leb 1 (length x)) e ∙ some-text t
 
 -- ---- characters
 module _ (s : List ℕ) (quoted : Bool) (at : ℕ) where

@@ -15,7 +15,7 @@ use Rattle.der.specs.declared.Time.{Time}
 use Rattle.der.proofs.Laws.{time-octets}
 use Rattle.der.proofs.TimeLaws.{time-plain}
 use Rattle.strings.specs.Asserted.{isText, assertedText}
-use Rattle.strings.proofs.Steps.{text-is}
+use Rattle.strings.proofs.Laws.{text-is}
 use Rattle.times.specs.Asserted.{isTime}
 
 -- a time has no quote in it, so the octets between the quotes are its characters

@@ -1,4 +1,4 @@
-use Rattle.strings.proofs.Steps.{text-is}
+use Rattle.strings.proofs.Laws.{text-is}
 use borrow.Author.Needs.{needs}
 use Rattle.strings.proofs.is_text.Statement.{statement}
 use Rattle.strings.proofs.is_text.Tie as tie
