@@ -18,6 +18,7 @@ from samples import choice, member, of, sequence, tlv
 FOLDER = pathlib.Path(__file__).resolve().parent.parent / "crates" / "cases"
 EDGES, SMALL, LARGE, LOOSE = 2400, 2700, 60, 200
 VALUE_EDGES, VALUES, BROKEN, LARGE_VALUES = 1200, 900, 3200, 40
+PARTS, LARGE_PARTS = 800, 20
 LONGEST, LONGEST_VALUE = 4993, 4097
 
 
@@ -137,6 +138,25 @@ def value_cases():
     return list(found)
 
 
+def parts():
+    """Values with places and lengths, each once: around the value's end, and the largest numbers."""
+    most = 2 ** 64 - 1
+    ends = [0, 1, 22, 23, 24, most, most - 22, most // 2 + 1]
+    record = bytes.fromhex("30150C026531300F30041302566C300713025661800103")
+    found = dict.fromkeys((record, place, length) for place in ends for length in ends)
+    found.update(dict.fromkeys((octets, place, length) for octets in (b"", b"\5", b"\5\0", b"\0" * 4096, b"\0" * 4097)
+                               for place in (0, 1, 2, 4095, 4096) for length in (0, 1, 2, 4096)))
+    found.update(dict.fromkeys(case.inputs for case in written.cases(LONGEST_VALUE) if case.entry == "part"))
+    small, large = draw.CaseDrawer(61), draw.CaseDrawer(62, draw.LARGE)
+    for count, drawer in ((PARTS, small), (LARGE_PARTS, large)):
+        enough = len(found) + count
+        while len(found) < enough:
+            inputs = drawer.of("part").inputs
+            if len(inputs[0]) <= LONGEST_VALUE:
+                found.setdefault(inputs)
+    return list(found)
+
+
 def given(octets):
     """An input of octets: its length and they."""
     return len(octets).to_bytes(2, "big") + octets
@@ -151,6 +171,10 @@ def files():
     for table, value in value_cases():
         asked.append(b"v" + given(table) + given(value))
         told.append(" ".join(str(word) for word in engine.check_value(table, value)) + "\n")
+    for value, place, length in parts():
+        asked.append(b"p" + given(value) + place.to_bytes(8, "big") + length.to_bytes(8, "big"))
+        answer = engine.part(value, place, length)
+        told.append("refused %d\n" % answer[1] if answer[0] == "refused" else "part %s\n" % answer[1].hex().upper())
     return {"stdin": b"".join(asked), "stdout": "".join(told).encode()}
 
 
