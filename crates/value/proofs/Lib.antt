@@ -8,3 +8,4 @@ pub mod ChoiceSteps
 pub mod ElementSteps
 pub mod EntrySteps
 pub mod PartSteps
+pub mod PartCall

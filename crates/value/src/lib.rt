@@ -471,7 +471,7 @@ pub fn part<'a>(value: &'a [u8], place: usize, length: usize) -> ValuePart<'a>
 
 // The refusal number of the fifth entry, for callers that hold no struct.
 pub fn part_number(value: &[u8], place: usize, length: usize) -> u8
-    ensures { λ r. do ⌜ r ≡ partReport (valueLimits (← ⟦Value::MIN_BYTES⟧ .entry) (← ⟦Value::MAX_BYTES⟧ .entry)) (now (value .entry)) place length .refusal ⌝ }
+    ensures { λ n. do ⌜ n ≡ partReport (valueLimits (← ⟦Value::MIN_BYTES⟧ .entry) (← ⟦Value::MAX_BYTES⟧ .entry)) (now (value .entry)) place length .refusal ⌝ }
 {
     let p = part(value, place, length);
     p.refusal
