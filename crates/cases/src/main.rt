@@ -5,7 +5,7 @@ use rows::Table;
 use table::TableCheck;
 use value::Value;
 use value::ValueCheck;
-ghost use Prim.Native.Nat.{_≤_};
+ghost use Prim.Native.Nat.{_≤_, _<_};
 ghost use Rattle.io.specs.Counts.{Counts};
 
 // Reads n octets to the start of buf, or as many as fit or are left.
@@ -70,6 +70,60 @@ fn value_case() {
     }
 }
 
+// A number: eight octets, most significant first; 0 at the end of the input.
+fn read_number() -> usize {
+    let mut head = [0u8; 8];
+    let got = io::read_full(STDIN_FILENO, &mut head);
+    if got < 8 {
+        return 0;
+    }
+    let mut n = 0u64;
+    let mut i = 0;
+    while i < 8 {
+        n = (n << 8) | head[i] as u64;
+        i += 1;
+    }
+    n as usize
+}
+
+fn digit(n: u8) -> u8
+    requires { ⌜ n < 16 ⌝ }
+    ensures { λ r. ⌜ r < 128 ⌝ }
+{
+    if n < 10 {
+        return 48 + n;
+    }
+    55 + n
+}
+
+// Octets as hexadecimal digits, at most as many octets as a value may have.
+fn print_octets(octets: &[u8]) {
+    let mut text = [0u8; Value::MAX_BYTES * 2];
+    let mut i = 0;
+    while i < octets.len() && i < Value::MAX_BYTES {
+        text[i * 2] = digit(octets[i] >> 4);
+        text[i * 2 + 1] = digit(octets[i] & 15);
+        i += 1;
+    }
+    io::write_all(STDOUT_FILENO, &text[..i * 2]);
+}
+
+fn part_case() {
+    let mut value = [0u8; Value::MAX_BYTES + 1];
+    let k = read_length();
+    let v = read_part(&mut value, k);
+    let place = read_number();
+    let length = read_number();
+    let refusal = value::part_number(&value[..v], place, length);
+    if refusal != 0 {
+        print_line(b"refused ", refusal as u64);
+    } else {
+        print_word(b"part ");
+        print_octets(value::part_bytes(&value[..v], place, length));
+        print_word(b"\n");
+    }
+}
+
 // One case; false at the end of the input and at a kind of case that there is not.
 fn one() -> bool {
     let mut kind = [0u8; 1];
@@ -83,6 +137,10 @@ fn one() -> bool {
     }
     if kind[0] == b'v' {
         value_case();
+        return true;
+    }
+    if kind[0] == b'p' {
+        part_case();
         return true;
     }
     false

@@ -9,3 +9,4 @@ pub mod ElementSteps
 pub mod EntrySteps
 pub mod Answers
 pub mod PartSteps
+pub mod PartCall

@@ -467,3 +467,19 @@ pub fn part<'a>(value: &'a [u8], place: usize, length: usize) -> ValuePart<'a>
         refusal,
     }
 }
+
+// The refusal number of the fifth entry, for callers that hold no struct.
+pub fn part_number(value: &[u8], place: usize, length: usize) -> u8
+    ensures { λ n. do ⌜ n ≡ partReport (valueLimits (← ⟦Value::MIN_BYTES⟧ .entry) (← ⟦Value::MAX_BYTES⟧ .entry)) (now (value .entry)) place length .refusal ⌝ }
+{
+    let p = part(value, place, length);
+    p.refusal
+}
+
+// The octets of the fifth entry, for callers that hold no struct.
+pub fn part_bytes<'a>(value: &'a [u8], place: usize, length: usize) -> &'a [u8]
+    ensures { λ r. do ⌜ now r ≡ partReport (valueLimits (← ⟦Value::MIN_BYTES⟧ .entry) (← ⟦Value::MAX_BYTES⟧ .entry)) (now (value .entry)) place length .octets ⌝ }
+{
+    let p = part(value, place, length);
+    p.octets
+}
