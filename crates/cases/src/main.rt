@@ -5,7 +5,7 @@ use rows::Table;
 use table::TableCheck;
 use value::Value;
 use value::ValueCheck;
-ghost use Prim.Native.Nat.{_≤_, _<_};
+ghost use Prim.Native.Nat.{_≤_};
 ghost use Rattle.io.specs.Counts.{Counts};
 
 // Reads n octets to the start of buf, or as many as fit or are left.
@@ -80,32 +80,52 @@ fn read_number() -> usize {
     let mut n = 0u64;
     let mut i = 0;
     while i < 8 {
-        n = (n << 8) | head[i] as u64;
+        n = (n << 8) | octets::wide64(head[i]);
         i += 1;
     }
     n as usize
 }
 
-fn digit(n: u8) -> u8
-    requires { ⌜ n < 16 ⌝ }
-    ensures { λ r. ⌜ r < 128 ⌝ }
-{
+fn digit(n: u8) -> u8 {
     if n < 10 {
         return 48 + n;
     }
-    55 + n
+    if n < 16 {
+        return 55 + n;
+    }
+    63
 }
 
-// Octets as hexadecimal digits, at most as many octets as a value may have.
-fn print_octets(octets: &[u8]) {
+fn high_digit(b: u8) -> u8 {
+    digit(b >> 4)
+}
+
+fn low_digit(b: u8) -> u8 {
+    digit(b & 15)
+}
+
+// The octets of a value that are printed: as many as it may have.
+fn printed(n: usize) -> usize
+    ensures few { λ r. ⌜ r ≤ n ⌝ }
+    ensures most { λ r. do ⌜ r ≤ (← ⟦Value::MAX_BYTES⟧ .entry) ⌝ }
+{
+    if n < Value::MAX_BYTES {
+        return n;
+    }
+    Value::MAX_BYTES
+}
+
+// Octets as hexadecimal digits.
+fn print_octets(part: &[u8]) {
     let mut text = [0u8; Value::MAX_BYTES * 2];
+    let n = printed(part.len());
     let mut i = 0;
-    while i < octets.len() && i < Value::MAX_BYTES {
-        text[i * 2] = digit(octets[i] >> 4);
-        text[i * 2 + 1] = digit(octets[i] & 15);
+    while i < n {
+        text[i * 2] = high_digit(part[i]);
+        text[i * 2 + 1] = low_digit(part[i]);
         i += 1;
     }
-    io::write_all(STDOUT_FILENO, &text[..i * 2]);
+    io::write_all(STDOUT_FILENO, octets::part(&text, 0, i * 2));
 }
 
 fn part_case() {
