@@ -1,1 +1,231 @@
 // Component references: reading one, and whether a type allows it. The definitions are in specs/.
+use octets::Size;
+ghost use mathlib.Core.Path.{_≡_};
+ghost use mathlib.Core.Bool.{true};
+ghost use Prim.Native.Nat.{_≤_, _-_};
+ghost use lib.ListN.{length, drop};
+ghost use Rattle.octets.specs.Octets.{part, same};
+ghost use Rattle.octets.specs.Text.{decimal};
+ghost use Rattle.rows.specs.Row.{nameAt, rowAt, membersAt};
+ghost use Rattle.table.specs.Types.{unfilled};
+ghost use Rattle.value.specs.Work.{first};
+ghost use Rattle.reference.specs.Reference as reference;
+ghost use Rattle.reference.specs.Work as work;
+
+// One component identifier: a name, or an index; a number beyond the largest is held as the largest.
+pub enum Piece {
+    Name,
+    Position(usize),
+    FromEnd(usize),
+    Count,
+    All,
+    Bad,
+}
+
+// The next identifier of a reference and the place where those after it start: a name by its first place and its end; no more; or no identifier.
+pub enum Step {
+    Name(usize, usize, usize),
+    Position(usize, usize),
+    FromEnd(usize, usize),
+    Count(usize),
+    All(usize),
+    End,
+    Bad,
+}
+
+// ---- one identifier
+// Whether octet b may stand after octet a in an identifier.
+fn may_follow(a: u8, b: u8) -> bool
+    ensures { λ r. ⌜ r ≡ work.mayFollow a b ⌝ }
+{
+    if octets::is_alnum(b) {
+        return true;
+    }
+    if b != 45 {
+        return false;
+    }
+    if a == 45 {
+        return false;
+    }
+    true
+}
+
+fn is_identifier(p: &[u8]) -> bool
+    ensures { λ r. ⌜ r ≡ reference.isIdentifier (now (p .entry)) ⌝ }
+{
+    let mut a = octets::octet(p, 0);
+    if !octets::is_lower(a) {
+        return false;
+    }
+    let mut i = 1;
+    while i < p.len() {
+        let b = p[i];
+        if !may_follow(a, b) {
+            return false;
+        }
+        a = b;
+        i += 1;
+    }
+    if a == 45 {
+        return false;
+    }
+    true
+}
+
+fn is_position(p: &[u8]) -> bool
+    ensures { λ r. ⌜ r ≡ reference.isPosition (now (p .entry)) ⌝ }
+{
+    if octets::octet(p, 0) == 48 {
+        return false;
+    }
+    octets::is_number(p)
+}
+
+// The number that digits stand for, at most the largest.
+fn number_of(p: &[u8]) -> usize
+    ensures { λ r. ⌜ r ≡ work.cap (decimal (now (p .entry))) ⌝ }
+{
+    let size = octets::decimal(p);
+    let Size::Of(n) = size else {
+        return 18446744073709551615;
+    };
+    n as usize
+}
+
+// A name, or nothing.
+fn read_word(p: &[u8]) -> Piece
+    ensures { λ r. ⌜ work.pieceTold (now (p .entry)) r ≡ work.cappedId (work.wordId (now (p .entry))) ⌝ }
+{
+    if is_identifier(p) {
+        return Piece::Name;
+    }
+    Piece::Bad
+}
+
+// A position from the end, a name, or nothing.
+fn read_other(p: &[u8]) -> Piece
+    ensures { λ r. ⌜ work.pieceTold (now (p .entry)) r ≡ work.cappedId (work.otherId (now (p .entry))) ⌝ }
+{
+    if octets::octet(p, 0) != 45 {
+        return read_word(p);
+    }
+    let q = octets::part(p, 1, p.len());
+    if is_position(q) {
+        return Piece::FromEnd(number_of(q));
+    }
+    read_word(p)
+}
+
+fn read_number(p: &[u8]) -> Piece
+    ensures { λ r. ⌜ work.pieceTold (now (p .entry)) r ≡ work.cappedId (work.numberId (now (p .entry))) ⌝ }
+{
+    if is_position(p) {
+        return Piece::Position(number_of(p));
+    }
+    read_other(p)
+}
+
+fn read_id(p: &[u8]) -> Piece
+    ensures { λ r. ⌜ work.pieceTold (now (p .entry)) r ≡ work.cappedId (reference.idOf (now (p .entry))) ⌝ }
+{
+    if octets::same(p, b"*") {
+        return Piece::All;
+    }
+    if octets::same(p, b"0") {
+        return Piece::Count;
+    }
+    read_number(p)
+}
+
+// ---- one step
+// The first dot from a place on, or the end.
+fn end_at(r: &[u8], k: usize) -> usize
+    requires { ⌜ k ≤ length (now r) ⌝ }
+    ensures value { λ e. ⌜ e ≡ work.endAt (now (r .entry)) k ⌝ }
+    ensures after { λ e. ⌜ k ≤ e ⌝ }
+    ensures within { λ e. ⌜ e ≤ length (now (r .entry)) ⌝ }
+{
+    let mut i = k;
+    while i < r.len() {
+        if r[i] == 46 {
+            return i;
+        }
+        i += 1;
+    }
+    i
+}
+
+fn step_of(piece: Piece, a: usize, b: usize, next: usize) -> Step
+    ensures { λ r. ⌜ r ≡ work.stepOf piece a b next ⌝ }
+{
+    match piece {
+        Piece::Name => Step::Name(a, b, next),
+        Piece::Position(n) => Step::Position(n, next),
+        Piece::FromEnd(n) => Step::FromEnd(n, next),
+        Piece::Count => Step::Count(next),
+        Piece::All => Step::All(next),
+        Piece::Bad => Step::Bad,
+    }
+}
+
+// The identifier that starts at a place of a reference.
+pub fn next_id(r: &[u8], k: usize) -> Step
+    ensures step { λ s. ⌜ work.stepTold (now (r .entry)) s ≡ work.headCapped (work.idsAt (now (r .entry)) k) ⌝ }
+    ensures rises { λ s. ⌜ work.advances (now (r .entry)) k s ≡ true ⌝ }
+{
+    if r.len() < k {
+        return Step::End;
+    }
+    let e = end_at(r, k);
+    let piece = read_id(octets::part(r, k, e - k));
+    step_of(piece, k, e, e + 1)
+}
+
+// ---- names
+// The octets from a to b.
+fn between(r: &[u8], a: usize, b: usize) -> &[u8]
+    ensures { λ p. ⌜ now p ≡ part (now (r .entry)) a (b - a) ⌝ }
+{
+    if b <= a {
+        return octets::part(r, a, 0);
+    }
+    octets::part(r, a, b - a)
+}
+
+// Where a name's fill starts.
+fn fill_at(s: &[u8]) -> usize
+    ensures { λ r. ⌜ r ≡ length (unfilled (now (s .entry))) ⌝ }
+{
+    let mut i = 0;
+    while i < s.len() {
+        if s[i] == 0 {
+            return i;
+        }
+        i += 1;
+    }
+    i
+}
+
+// Whether the member row at p has the name that stands from a to b.
+pub fn is_named(t: &[u8], p: usize, r: &[u8], a: usize, b: usize) -> bool
+    ensures { λ u. ⌜ u ≡ same (unfilled (nameAt (now (t .entry)) p)) (part (now (r .entry)) a (b - a)) ⌝ }
+{
+    let name = rows::name_at(t, p);
+    let n = fill_at(name);
+    octets::same(octets::part(name, 0, n), between(r, a, b))
+}
+
+// The first member of a row with the name that stands from a to b; the number of members where none has it.
+pub fn find_named(t: &[u8], s: &[usize], row: usize, r: &[u8], a: usize, b: usize) -> usize
+    ensures { λ j. ⌜ j ≡ first (work.namedOf (now (t .entry)) (now (s .entry)) row (part (now (r .entry)) a (b - a))) (membersAt (now (t .entry)) (rowAt (now (s .entry)) row)) 0 ⌝ }
+{
+    let n = rows::members_at(t, rows::row_at(s, row));
+    let mut j = 0;
+    while j < n {
+        if is_named(t, groups::member_place(s, row, j), r, a, b) {
+            return j;
+        }
+        j += 1;
+    }
+    j
+}

@@ -1,0 +1,173 @@
+-- Laws of the definitions, for the layers above.
+use mathlib.Core.Path.{_≡_, refl, sym, ap, ap₂, _∙_}
+use mathlib.Core.Bool.{Bool, true, false, not, false≢true, true≢false}
+use mathlib.Core.Option.{Option, none, some}
+use mathlib.Core.List.{List, [], _∷_}
+use Prim.Native.Nat.{ℕ, zero, suc, _≤_, _<_, _+_, _-_}
+use native.Mathlib.Omega.{arith}
+use borrow.Author.Tests.{eq-eqb, ne-eqb, eqb-true, eqb-false, lt-leb, le-leb, lt-ltb, le-ltb, leb-true, leb-false, ltb-true, ltb-false}
+use lib.Dec.{ltb, leb, eqb}
+use lib.ListN.{length, take, drop}
+use Rattle.octets.specs.Pick.{pick, both, either, no, bind, consed}
+use Rattle.octets.specs.Octets.{octet, part, same, every, bytes}
+use Rattle.octets.specs.Text.{isLower, isUpper, isLetter, isAlnum, isDigit, isNumber, decimal, ontoFirst, pieces}
+use Rattle.octets.specs.Quoted.{undoubled}
+use Rattle.octets.proofs.Laws.{both-true}
+use Rattle.octets.proofs.TextLaws.{number-nil, number-cons, every-nil, every-cons, pieces-nil, pieces-cons, same-nil, same-shorter, same-longer, same-cons}
+use Rattle.octets.proofs.QuotedLaws.{noQuote, undoubled-plain, undoubled-quoted}
+use Rattle.table.specs.Types.{Ty, basic, sequence, choice, listOf, Members}
+use Rattle.reference.specs.Reference.{Index, position, fromEnd, count, all, Id, name, index, identifierFrom, isIdentifier, isPosition, idOf, idsOf, readReference}
+use Rattle.reference.specs.Allowed.{Target, ofType, ofCount, under, allowedFrom, allowed}
+use Rattle.reference.specs.Work.{cap, cappedIndex, capped, cappedIds, headCapped, idsAt, stepTold, rises, advances}
+use Rattle.reference.specs.declared.Step.{Step}
+
+-- ---- the identifiers of a text from a place on
+pub ids-all : (r : List ℕ) → idsAt r 0 ≡ readReference r
+unfolding idsAt
+ids-all r = rw (le-leb 0 (length r) (omega arith))
+
+pub ids-over : (r : List ℕ) (k : ℕ) → length r < k → idsAt r k ≡ some []
+unfolding idsAt
+ids-over r k h = rw (lt-leb k (length r) h)
+
+-- ---- what one step says: s is the code's step at place k
+headed : (i : Id) (l o : Option (List Id)) (is : List Id) → consed i l ≡ headCapped o → o ≡ some is
+    → (j : Id) × (js : List Id) × (is ≡ j ∷ js) × (l ≡ some js) × (capped j ≡ i)
+headed i none o [] e h = absurd (let z : _≡_ {A = ℕ} 0 1 = cc in omega arith)
+headed i none o (j ∷ js) e h = absurd (let z : _≡_ {A = ℕ} 0 1 = cc in omega arith)
+headed i (some l) o [] e h = absurd (let z : _≡_ {A = ℕ} 0 1 = cc in omega arith)
+headed i (some l) o (j ∷ js) e h = (j, js, refl, cc, cc)
+
+as-name : (j : Id) (x : List ℕ) → capped j ≡ name x → j ≡ name x
+as-name (name y) x e = e
+as-name (index i) x e = absurd (let z : _≡_ {A = ℕ} 0 1 = cc in omega arith)
+
+as-position : (j : Id) (n : ℕ) → capped j ≡ index (position n) → (m : ℕ) × (j ≡ index (position m)) × (n ≡ cap m)
+as-position (name y) n e = absurd (let z : _≡_ {A = ℕ} 0 1 = cc in omega arith)
+as-position (index (position m)) n e = (m, refl, cc)
+as-position (index (fromEnd m)) n e = absurd (let z : _≡_ {A = ℕ} 0 1 = cc in omega arith)
+as-position (index count) n e = absurd (let z : _≡_ {A = ℕ} 0 1 = cc in omega arith)
+as-position (index all) n e = absurd (let z : _≡_ {A = ℕ} 0 1 = cc in omega arith)
+
+as-from-end : (j : Id) (n : ℕ) → capped j ≡ index (fromEnd n) → (m : ℕ) × (j ≡ index (fromEnd m)) × (n ≡ cap m)
+as-from-end (name y) n e = absurd (let z : _≡_ {A = ℕ} 0 1 = cc in omega arith)
+as-from-end (index (position m)) n e = absurd (let z : _≡_ {A = ℕ} 0 1 = cc in omega arith)
+as-from-end (index (fromEnd m)) n e = (m, refl, cc)
+as-from-end (index count) n e = absurd (let z : _≡_ {A = ℕ} 0 1 = cc in omega arith)
+as-from-end (index all) n e = absurd (let z : _≡_ {A = ℕ} 0 1 = cc in omega arith)
+
+as-count : (j : Id) → capped j ≡ index count → j ≡ index count
+as-count (name y) e = absurd (let z : _≡_ {A = ℕ} 0 1 = cc in omega arith)
+as-count (index (position m)) e = absurd (let z : _≡_ {A = ℕ} 0 1 = cc in omega arith)
+as-count (index (fromEnd m)) e = absurd (let z : _≡_ {A = ℕ} 0 1 = cc in omega arith)
+as-count (index count) e = refl
+as-count (index all) e = absurd (let z : _≡_ {A = ℕ} 0 1 = cc in omega arith)
+
+as-all : (j : Id) → capped j ≡ index all → j ≡ index all
+as-all (name y) e = absurd (let z : _≡_ {A = ℕ} 0 1 = cc in omega arith)
+as-all (index (position m)) e = absurd (let z : _≡_ {A = ℕ} 0 1 = cc in omega arith)
+as-all (index (fromEnd m)) e = absurd (let z : _≡_ {A = ℕ} 0 1 = cc in omega arith)
+as-all (index count) e = absurd (let z : _≡_ {A = ℕ} 0 1 = cc in omega arith)
+as-all (index all) e = refl
+
+module _ (r : List ℕ) (k : ℕ) (s : Step) (step : stepTold r s ≡ headCapped (idsAt r k)) where
+  -- no identifier stands there
+  pub bad-step : s ≡ Step.Bad → idsAt r k ≡ none
+  bad-step e = go (idsAt r k) (sym (ap (stepTold r) e) ∙ step)
+    where
+      go : (o : Option (List Id)) → none ≡ headCapped o → o ≡ none
+      go none q = refl
+      go (some []) q = absurd (let z : _≡_ {A = ℕ} 0 1 = cc in omega arith)
+      go (some (i ∷ is)) q = absurd (let z : _≡_ {A = ℕ} 0 1 = cc in omega arith)
+
+  -- no more identifiers
+  pub end-step : s ≡ Step.End → idsAt r k ≡ some []
+  end-step e = go (idsAt r k) (sym (ap (stepTold r) e) ∙ step)
+    where
+      go : (o : Option (List Id)) → some [] ≡ headCapped o → o ≡ some []
+      go none q = absurd (let z : _≡_ {A = ℕ} 0 1 = cc in omega arith)
+      go (some []) q = refl
+      go (some (i ∷ is)) q = absurd (let z : _≡_ {A = ℕ} 0 1 = cc in omega arith)
+
+  -- an identifier, where the whole rest of the text is well formed
+  module _ (is : List Id) (read : idsAt r k ≡ some is) where
+    pub name-step : (a b n : ℕ) → s ≡ Step.Name a b n → (js : List Id) × (is ≡ name (part r a (b - a)) ∷ js) × (idsAt r n ≡ some js)
+    name-step a b n e =
+        let w = headed (name (part r a (b - a))) (idsAt r n) (idsAt r k) is (sym (ap (stepTold r) e) ∙ step) read in
+        (w .1, w .2 ∙ ap (λ (j : Id). j ∷ w .1) (as-name (w .0) (part r a (b - a)) (w .4)), w .3)
+
+    pub position-step : (i n : ℕ) → s ≡ Step.Position i n → (m : ℕ) × (js : List Id) × (is ≡ index (position m) ∷ js) × (i ≡ cap m) × (idsAt r n ≡ some js)
+    position-step i n e =
+        let w = headed (index (position i)) (idsAt r n) (idsAt r k) is (sym (ap (stepTold r) e) ∙ step) read in
+        let z = as-position (w .0) i (w .4) in
+        (z .0, w .1, w .2 ∙ ap (λ (j : Id). j ∷ w .1) (z .1), z .2, w .3)
+
+    pub from-end-step : (i n : ℕ) → s ≡ Step.FromEnd i n → (m : ℕ) × (js : List Id) × (is ≡ index (fromEnd m) ∷ js) × (i ≡ cap m) × (idsAt r n ≡ some js)
+    from-end-step i n e =
+        let w = headed (index (fromEnd i)) (idsAt r n) (idsAt r k) is (sym (ap (stepTold r) e) ∙ step) read in
+        let z = as-from-end (w .0) i (w .4) in
+        (z .0, w .1, w .2 ∙ ap (λ (j : Id). j ∷ w .1) (z .1), z .2, w .3)
+
+    pub count-step : (n : ℕ) → s ≡ Step.Count n → (js : List Id) × (is ≡ index count ∷ js) × (idsAt r n ≡ some js)
+    count-step n e =
+        let w = headed (index count) (idsAt r n) (idsAt r k) is (sym (ap (stepTold r) e) ∙ step) read in
+        (w .1, w .2 ∙ ap (λ (j : Id). j ∷ w .1) (as-count (w .0) (w .4)), w .3)
+
+    pub all-step : (n : ℕ) → s ≡ Step.All n → (js : List Id) × (is ≡ index all ∷ js) × (idsAt r n ≡ some js)
+    all-step n e =
+        let w = headed (index all) (idsAt r n) (idsAt r k) is (sym (ap (stepTold r) e) ∙ step) read in
+        (w .1, w .2 ∙ ap (λ (j : Id). j ∷ w .1) (as-all (w .0) (w .4)), w .3)
+
+-- ---- next places rise
+pub rises-by : (r : List ℕ) (k n : ℕ) → rises r k n ≡ true → (k < n) × (n ≤ length r + 1)
+unfolding rises
+rises-by r k n e = let w = both-true (ltb k n) (leb n (length r + 1)) e in (ltb-true _ _ (w .0), leb-true _ _ (w .1))
+
+module _ (r : List ℕ) (k : ℕ) (s : Step) (rising : advances r k s ≡ true) where
+  pub name-rises : (a b n : ℕ) → s ≡ Step.Name a b n → (k < n) × (n ≤ length r + 1)
+  name-rises a b n e = rises-by r k n (sym (ap (advances r k) e) ∙ rising)
+
+  pub position-rises : (i n : ℕ) → s ≡ Step.Position i n → (k < n) × (n ≤ length r + 1)
+  position-rises i n e = rises-by r k n (sym (ap (advances r k) e) ∙ rising)
+
+  pub from-end-rises : (i n : ℕ) → s ≡ Step.FromEnd i n → (k < n) × (n ≤ length r + 1)
+  from-end-rises i n e = rises-by r k n (sym (ap (advances r k) e) ∙ rising)
+
+  pub count-rises : (n : ℕ) → s ≡ Step.Count n → (k < n) × (n ≤ length r + 1)
+  count-rises n e = rises-by r k n (sym (ap (advances r k) e) ∙ rising)
+
+  pub all-rises : (n : ℕ) → s ≡ Step.All n → (k < n) × (n ≤ length r + 1)
+  all-rises n e = rises-by r k n (sym (ap (advances r k) e) ∙ rising)
+
+-- ---- capped positions allow the same
+pub under-capped : (i : Id) (g : Target) → under (capped i) g ≡ under i g
+unfolding under
+under-capped i ofCount = refl
+under-capped i (ofType (basic k)) = refl
+under-capped (name x) (ofType (sequence ms)) = refl
+under-capped (index j) (ofType (sequence ms)) = refl
+under-capped (name x) (ofType (choice ms)) = refl
+under-capped (index j) (ofType (choice ms)) = refl
+under-capped (name x) (ofType (listOf k ty)) = refl
+under-capped (index (position n)) (ofType (listOf k ty)) = refl
+under-capped (index (fromEnd n)) (ofType (listOf k ty)) = refl
+under-capped (index count) (ofType (listOf k ty)) = refl
+under-capped (index all) (ofType (listOf k ty)) = refl
+
+allowed-from-capped : (is : List Id) (g : Target) → allowedFrom (cappedIds is) g ≡ allowedFrom is g
+unfolding allowedFrom cappedIds
+allowed-from-capped [] g = refl
+allowed-from-capped (i ∷ is) g = ap (λ (o : Option Target). bind o (λ h. allowedFrom (cappedIds is) h)) (under-capped i g) ∙ go (under i g) (λ h. allowed-from-capped is h)
+  where
+    go : (o : Option Target) → ((h : Target) → allowedFrom (cappedIds is) h ≡ allowedFrom is h) → bind o (λ h. allowedFrom (cappedIds is) h) ≡ bind o (λ h. allowedFrom is h)
+    go none f = refl
+    go (some h) f = f h
+
+pub allowed-capped : (is : List Id) (ty : Ty) → allowed (cappedIds is) ty ≡ allowed is ty
+unfolding allowed
+allowed-capped is ty = allowed-from-capped is (ofType ty)
+
+-- ---- texts that are no reference
+pub read-nothing : readReference [] ≡ none
+unfolding readReference idsOf idOf isIdentifier isPosition isNumber pieces same
+read-nothing = refl

@@ -1,0 +1,3 @@
+pub mod IdSteps
+pub mod TargetSteps
+pub mod Laws
