@@ -13,7 +13,7 @@ use Rattle.octets.specs.Octets.{octet, part, same, every, bytes}
 use Rattle.octets.specs.Text.{isLower, isUpper, isLetter, isAlnum, isDigit, isNumber, decimal, ontoFirst, pieces}
 use Rattle.octets.specs.Quoted.{undoubled}
 use Rattle.octets.proofs.Laws.{both-true}
-use Rattle.octets.proofs.TextLaws.{number-nil, number-cons, every-nil, every-cons, pieces-nil, pieces-cons, same-nil, same-shorter, same-longer, same-cons}
+use Rattle.octets.proofs.TextLaws.{number-nil, number-cons, every-nil, every-cons, every-at, pieces-nil, pieces-cons, same-nil, same-shorter, same-longer, same-cons}
 use Rattle.octets.proofs.QuotedLaws.{noQuote, undoubled-plain, undoubled-quoted}
 use Rattle.table.specs.Types.{Ty, basic, sequence, choice, listOf, Members}
 use Rattle.reference.specs.Reference.{Index, position, fromEnd, count, all, Id, name, index, identifierFrom, isIdentifier, isPosition, idOf, idsOf, readReference}
@@ -171,3 +171,162 @@ allowed-capped is ty = allowed-from-capped is (ofType ty)
 pub read-nothing : readReference [] ≡ none
 unfolding readReference idsOf idOf isIdentifier isPosition isNumber pieces same
 read-nothing = refl
+
+-- ---- a text with a quote
+never : (x : Bool) → both x false ≡ false
+never true = refl
+never false = refl
+
+quoted-same : (p w : List ℕ) → every noQuote p ≡ false → every noQuote w ≡ true → same p w ≡ false
+unfolding every
+quoted-same [] w e h = absurd (false≢true (sym e))
+quoted-same (b ∷ p) [] e h = same-longer b p
+quoted-same (b ∷ p) (c ∷ w) e h = same-cons b c p w ∙ go (eqb b c) refl (eqb b 34) refl (both-true (noQuote c) (every noQuote w) h .0) e (λ q. quoted-same p w q (both-true (noQuote c) (every noQuote w) h .1))
+  where
+    go : (u : Bool) → eqb b c ≡ u → (v : Bool) → eqb b 34 ≡ v → no (eqb c 34) ≡ true → both (no v) (every noQuote p) ≡ false → (every noQuote p ≡ false → same p w ≡ false) → both u (same p w) ≡ false
+    go false a v d k q f = refl
+    go true a true d k q f = absurd (let z : b ≡ c = eqb-true b c a in let y : no (eqb b 34) ≡ true = (rw z k) in false≢true (rw d at y))
+    go true a false d k q f = f q
+
+-- a test of octets that fails of a quote
+quoted-every : (f : ℕ → Bool) (p : List ℕ) → f 34 ≡ false → every noQuote p ≡ false → every f p ≡ false
+unfolding every
+quoted-every f [] h e = absurd (false≢true (sym e))
+quoted-every f (b ∷ p) h e = go (eqb b 34) refl e (λ q. quoted-every f p h q)
+  where
+    go : (u : Bool) → eqb b 34 ≡ u → both (no u) (every noQuote p) ≡ false → (every noQuote p ≡ false → every f p ≡ false) → both (f b) (every f p) ≡ false
+    go true a q g = let z : b ≡ 34 = eqb-true b 34 a in rw (z, h)
+    go false a q g = rw (g q) (never (f b))
+
+quote-digit : isDigit 34 ≡ false
+unfolding isDigit
+quote-digit = refl
+
+quote-follows : (a : ℕ) → either (isAlnum 34) (both (eqb 34 45) (no (eqb a 45))) ≡ false
+unfolding isAlnum isLetter isLower isUpper isDigit
+quote-follows a = refl
+
+quote-lower : isLower 34 ≡ false
+unfolding isLower
+quote-lower = refl
+
+quoted-number : (p : List ℕ) → every noQuote p ≡ false → isNumber p ≡ false
+quoted-number [] e = number-nil
+quoted-number (b ∷ []) e = number-cons b [] ∙ go (eqb b 48) refl (quoted-every isDigit (b ∷ []) quote-digit e)
+  where
+    plain : b ≡ 48 → every noQuote (b ∷ []) ≡ true
+    plain z = rw (every-cons noQuote b [], z, every-nil noQuote)
+
+    go : (u : Bool) → eqb b 48 ≡ u → every isDigit (b ∷ []) ≡ false → pick u (eqb 0 0) (both (isDigit b) (every isDigit [])) ≡ false
+    go true a h = absurd (false≢true (sym e ∙ plain (eqb-true b 48 a)))
+    go false a h = sym (every-cons isDigit b []) ∙ h
+quoted-number (b ∷ c ∷ p) e = number-cons b (c ∷ p) ∙ go (eqb b 48) (quoted-every isDigit (b ∷ c ∷ p) quote-digit e)
+  where
+    go : (u : Bool) → every isDigit (b ∷ c ∷ p) ≡ false → pick u (eqb (suc (length p)) 0) (both (isDigit b) (every isDigit (c ∷ p))) ≡ false
+    go true h = ne-eqb (suc (length p)) 0 (λ z. omega arith)
+    go false h = sym (every-cons isDigit b (c ∷ p)) ∙ h
+
+quoted-position : (p : List ℕ) → every noQuote p ≡ false → isPosition p ≡ false
+unfolding isPosition
+quoted-position p e = rw (quoted-number p e)
+
+quoted-minus : (p : List ℕ) → every noQuote p ≡ false → both (eqb (octet p 0) 45) (isPosition (drop 1 p)) ≡ false
+quoted-minus [] e = absurd (false≢true (sym e ∙ every-nil noQuote))
+quoted-minus (b ∷ p) e = go (eqb b 45) refl
+  where
+    rest : b ≡ 45 → every noQuote p ≡ false
+    rest z = sym (every-cons noQuote b p ∙ rw z) ∙ e
+
+    go : (u : Bool) → eqb b 45 ≡ u → both u (isPosition p) ≡ false
+    go true a = quoted-position p (rest (eqb-true b 45 a))
+    go false a = refl
+
+quoted-from : (a : ℕ) (p : List ℕ) → every noQuote p ≡ false → identifierFrom a p ≡ false
+unfolding every identifierFrom
+quoted-from a [] e = absurd (false≢true (sym e))
+quoted-from a (b ∷ p) e = go (eqb b 34) refl e (λ q. quoted-from b p q)
+  where
+    go : (u : Bool) → eqb b 34 ≡ u → both (no u) (every noQuote p) ≡ false → (every noQuote p ≡ false → identifierFrom b p ≡ false) → both (either (isAlnum b) (both (eqb b 45) (no (eqb a 45)))) (identifierFrom b p) ≡ false
+    go true h q f = let z : b ≡ 34 = eqb-true b 34 h in rw (z, quote-follows a)
+    go false h q f = rw (f q) (never (either (isAlnum b) (both (eqb b 45) (no (eqb a 45)))))
+
+quoted-identifier : (p : List ℕ) → every noQuote p ≡ false → isIdentifier p ≡ false
+unfolding every isIdentifier
+quoted-identifier [] e = refl
+quoted-identifier (b ∷ p) e = go (eqb b 34) refl e
+  where
+    go : (u : Bool) → eqb b 34 ≡ u → both (no u) (every noQuote p) ≡ false → both (isLower b) (identifierFrom b p) ≡ false
+    go true h q = let z : b ≡ 34 = eqb-true b 34 h in rw (z, quote-lower)
+    go false h q = rw (quoted-from b p q) (never (isLower b))
+
+plain-word : every noQuote (42 ∷ []) ≡ true
+unfolding every
+plain-word = refl
+
+plain-nought : every noQuote (48 ∷ []) ≡ true
+unfolding every
+plain-nought = refl
+
+quoted-id : (p : List ℕ) → every noQuote p ≡ false → idOf p ≡ none
+unfolding idOf
+quoted-id p e = rw (quoted-same p (42 ∷ []) e plain-word, quoted-same p (48 ∷ []) e plain-nought, quoted-position p e, quoted-minus p e, quoted-identifier p e)
+
+-- no piece has a quote
+unfoldable plainPieces : List (List ℕ) → Bool
+plainPieces [] = true
+plainPieces (p ∷ ps) = let r = plainPieces ps in both (every noQuote p) r
+
+quoted-ids : (ps : List (List ℕ)) → plainPieces ps ≡ false → idsOf ps ≡ none
+unfolding idsOf plainPieces
+quoted-ids [] e = absurd (false≢true (sym e))
+quoted-ids (p ∷ ps) e = go (every noQuote p) refl e (λ q. quoted-ids ps q)
+  where
+    both-none : (o : Option Id) → bind o (λ i. consed i none) ≡ none
+    both-none none = refl
+    both-none (some i) = refl
+
+    go : (u : Bool) → every noQuote p ≡ u → both u (plainPieces ps) ≡ false → (plainPieces ps ≡ false → idsOf ps ≡ none) → bind (idOf p) (λ i. consed i (idsOf ps)) ≡ none
+    go false h q f = rw (quoted-id p h)
+    go true h q f = rw (f q) (both-none (idOf p))
+
+plain-onto : (b : ℕ) (ps : List (List ℕ)) → plainPieces (ontoFirst b ps) ≡ both (noQuote b) (plainPieces ps)
+unfolding plainPieces every
+plain-onto b [] = go (eqb b 34)
+  where
+    go : (u : Bool) → both (both (no u) true) true ≡ both (no u) true
+    go true = refl
+    go false = refl
+plain-onto b (p ∷ ps) = go (eqb b 34)
+  where
+    go : (u : Bool) → both (both (no u) (every noQuote p)) (plainPieces ps) ≡ both (no u) (both (every noQuote p) (plainPieces ps))
+    go true = refl
+    go false = refl
+
+plain-pieces : (s : List ℕ) → plainPieces (pieces s) ≡ every noQuote s
+unfolding plainPieces every
+plain-pieces [] = rw pieces-nil
+plain-pieces (b ∷ s) = ap plainPieces (pieces-cons b s) ∙ go (eqb b 46) refl (plain-pieces s)
+  where
+    go : (u : Bool) → eqb b 46 ≡ u → plainPieces (pieces s) ≡ every noQuote s → plainPieces (pick u ([] ∷ pieces s) (ontoFirst b (pieces s))) ≡ both (no (eqb b 34)) (every noQuote s)
+    go true h e = let z : b ≡ 46 = eqb-true b 46 h in rw z e
+    go false h e = plain-onto b (pieces s) ∙ ap (both (noQuote b)) e
+
+-- a text with a double quote anywhere is no reference
+pub quoted-no-reference : (s : List ℕ) → every noQuote s ≡ false → readReference s ≡ none
+unfolding readReference
+quoted-no-reference s e = quoted-ids (pieces s) (plain-pieces s ∙ e)
+
+pub quote-no-reference : (s : List ℕ) (i : ℕ) → i < length s → octet s i ≡ 34 → readReference s ≡ none
+quote-no-reference s i h e = quoted-no-reference s (go (every noQuote s) refl)
+  where
+    go : (u : Bool) → every noQuote s ≡ u → u ≡ false
+    go false q = refl
+    go true q = absurd (let w : no (eqb (octet s i) 34) ≡ true = every-at noQuote s i q h in false≢true (rw (eq-eqb (octet s i) 34 e) at w))
+
+-- so a quoted reference needs no undoubling
+pub undoubled-reference : (s : List ℕ) → readReference (undoubled s) ≡ readReference s
+undoubled-reference s = go (every noQuote s) refl
+  where
+    go : (u : Bool) → every noQuote s ≡ u → readReference (undoubled s) ≡ readReference s
+    go true e = ap readReference (undoubled-plain s e)
+    go false e = quoted-no-reference (undoubled s) (undoubled-quoted s e) ∙ sym (quoted-no-reference s e)

@@ -1,3 +1,5 @@
+pub mod Laws
 pub mod IdSteps
 pub mod TargetSteps
-pub mod Laws
+pub mod UnderSteps
+pub mod FollowSteps

@@ -10,11 +10,13 @@ use Rattle.octets.specs.Octets.{octet, part, same}
 use Rattle.octets.specs.Text.{isAlnum, decimal}
 use Rattle.rows.specs.Row.{nameAt}
 use Rattle.groups.specs.Clauses.{memberPlace}
-use Rattle.table.specs.Types.{unfilled, typeFrom}
+use Rattle.table.specs.Types.{Ty, Members, unfilled, typeFrom}
 use Rattle.reference.specs.Reference.{Index, position, fromEnd, count, all, Id, name, index, isIdentifier, isPosition, readReference}
 use Rattle.reference.specs.Allowed as allowed
 use Rattle.reference.specs.declared.Piece.{Piece}
 use Rattle.reference.specs.declared.Step.{Step}
+use Rattle.reference.specs.declared.After.{After}
+use Rattle.reference.specs.declared.Target.{Target}
 
 -- ---- positions as the code holds them: the least of n and the largest number
 unfoldable pub cap : ℕ → ℕ
@@ -116,3 +118,56 @@ stepOf Piece.Bad a b n = Step.Bad
 -- member j of a row has the name x
 unfoldable pub namedOf : List ℕ → List ℕ → ℕ → List ℕ → ℕ → Bool
 namedOf t s row x j = same (unfilled (nameAt t (memberPlace s row j))) x
+
+-- ---- one identifier of the text r, where the step has one
+abbrev pub stepId : List ℕ → Step → Option Id
+stepId r (Step.Name a b n) = some (name (part r a (b - a)))
+stepId r (Step.Position i n) = some (index (position i))
+stepId r (Step.FromEnd i n) = some (index (fromEnd i))
+stepId r (Step.Count n) = some (index count)
+stepId r (Step.All n) = some (index all)
+stepId r Step.End = none
+stepId r Step.Bad = none
+
+-- the place after it
+abbrev pub placeAfter : Step → After
+placeAfter (Step.Name a b n) = After.At n
+placeAfter (Step.Position i n) = After.At n
+placeAfter (Step.FromEnd i n) = After.At n
+placeAfter (Step.Count n) = After.At n
+placeAfter (Step.All n) = After.At n
+placeAfter Step.End = After.End
+placeAfter Step.Bad = After.Bad
+
+-- ---- what a reference leads to
+abbrev pub targetTold : ℕ → List ℕ → List ℕ → Target → Option allowed.Target
+targetTold chain t s (Target.Row i) = some (allowed.ofType (typeFrom chain t s i))
+targetTold chain t s Target.Count = some allowed.ofCount
+targetTold chain t s Target.No = none
+
+-- a row that it names is one of the rows s
+abbrev pub rowWithin : List ℕ → Target → Bool
+rowWithin s (Target.Row i) = ltb i (length s)
+rowWithin s Target.Count = true
+rowWithin s Target.No = true
+
+-- an identifier, if there is one, among members, in a list, and at a target
+abbrev pub amongMembers : Option Id → Members → Option allowed.Target
+amongMembers o ms = bind o (λ i. allowed.underMembers i ms)
+
+abbrev pub inList : Option Id → Ty → Option allowed.Target
+inList o ty = bind o (λ i. allowed.underList i ty)
+
+abbrev pub atTarget : Option Id → allowed.Target → Option allowed.Target
+atTarget o g = bind o (λ i. allowed.under i g)
+
+abbrev pub atTold : Option Id → Option allowed.Target → Option allowed.Target
+atTold o g = bind g (λ h. atTarget o h)
+
+-- identifiers from a target on
+abbrev pub along : Option (List Id) → Option allowed.Target → Option allowed.Target
+along o g = bind o (λ is. bind g (λ h. allowed.allowedFrom is h))
+
+-- a reference, where one is given, at a type
+abbrev pub leadsTo : Bool → List ℕ → Ty → Option allowed.Target
+leadsTo given r ty = bind (pick given (readReference r) (some [])) (λ is. allowed.allowed is ty)

@@ -2,14 +2,17 @@
 use octets::Size;
 ghost use mathlib.Core.Path.{_≡_};
 ghost use mathlib.Core.Bool.{true};
-ghost use Prim.Native.Nat.{_≤_, _-_};
+ghost use Prim.Native.Nat.{_≤_, _<_, _+_, _-_};
 ghost use lib.ListN.{length, drop};
 ghost use Rattle.octets.specs.Octets.{part, same};
 ghost use Rattle.octets.specs.Text.{decimal};
-ghost use Rattle.rows.specs.Row.{nameAt, rowAt, membersAt};
-ghost use Rattle.table.specs.Types.{unfilled};
+ghost use Rattle.rows.specs.Row.{nameAt, kindAt, elementAt, rowAt, membersAt, isList};
+ghost use Rattle.table.specs.Types.{unfilled, membersFrom, typeFrom};
+ghost use Rattle.table.specs.Work.{Sound};
 ghost use Rattle.value.specs.Work.{first};
 ghost use Rattle.reference.specs.Reference as reference;
+ghost use Rattle.reference.specs.Reference.{name};
+ghost use Rattle.reference.specs.Allowed.{underMembers, ofType};
 ghost use Rattle.reference.specs.Work as work;
 
 // One component identifier: a name, or an index; a number beyond the largest is held as the largest.
@@ -31,6 +34,20 @@ pub enum Step {
     All(usize),
     End,
     Bad,
+}
+
+// The place after a step: that of the next identifier; none.
+pub enum After {
+    At(usize),
+    End,
+    Bad,
+}
+
+// What a reference leads to: the type of a row, the count of a list, or nothing, where it is malformed or not allowed.
+pub enum Target {
+    Row(usize),
+    Count,
+    No,
 }
 
 // ---- one identifier
@@ -228,4 +245,139 @@ pub fn find_named(t: &[u8], s: &[usize], row: usize, r: &[u8], a: usize, b: usiz
         j += 1;
     }
     j
+}
+
+// ---- what a reference leads to
+// The place after a step.
+fn place_after(step: Step) -> After
+    ensures { λ r. ⌜ r ≡ work.placeAfter step ⌝ }
+{
+    match step {
+        Step::Name(_, _, n) => After::At(n),
+        Step::Position(_, n) => After::At(n),
+        Step::FromEnd(_, n) => After::At(n),
+        Step::Count(n) => After::At(n),
+        Step::All(n) => After::At(n),
+        Step::End => After::End,
+        Step::Bad => After::Bad,
+    }
+}
+
+// The member of a row with the name that stands from a to b.
+fn under_name(t: &[u8], s: &[usize], m: &[u64], row: usize, r: &[u8], a: usize, b: usize) -> Target
+    requires sound { do ⌜ Sound (← ⟦rows::Table::MAX_CHAIN⟧) (now t) (now s) (now m) ⌝ }
+    requires here { ⌜ row < length (now s) ⌝ }
+    ensures leads { λ g. do ⌜ work.targetTold (← ⟦rows::Table::MAX_CHAIN⟧ .entry) (now (t .entry)) (now (s .entry)) g ≡ underMembers (name (part (now (r .entry)) a (b - a))) (membersFrom (typeFrom (← ⟦rows::Table::MAX_CHAIN⟧ .entry) (now (t .entry)) (now (s .entry))) (now (t .entry)) (now (s .entry)) (row + 1) (membersAt (now (t .entry)) (rowAt (now (s .entry)) row))) ⌝ }
+    ensures within { λ g. ⌜ work.rowWithin (now (s .entry)) g ≡ true ⌝ }
+{
+    let n = rows::members_at(t, rows::row_at(s, row));
+    let j = find_named(t, s, row, r, a, b);
+    if n <= j {
+        return Target::No;
+    }
+    Target::Row(groups::member_type(t, s, row, j))
+}
+
+// One identifier on a SEQUENCE or CHOICE.
+fn under_members(t: &[u8], s: &[usize], m: &[u64], row: usize, r: &[u8], step: Step) -> Target
+    requires sound { do ⌜ Sound (← ⟦rows::Table::MAX_CHAIN⟧) (now t) (now s) (now m) ⌝ }
+    requires here { ⌜ row < length (now s) ⌝ }
+    ensures leads { λ g. do ⌜ work.targetTold (← ⟦rows::Table::MAX_CHAIN⟧ .entry) (now (t .entry)) (now (s .entry)) g ≡ work.amongMembers (work.stepId (now (r .entry)) step) (membersFrom (typeFrom (← ⟦rows::Table::MAX_CHAIN⟧ .entry) (now (t .entry)) (now (s .entry))) (now (t .entry)) (now (s .entry)) (row + 1) (membersAt (now (t .entry)) (rowAt (now (s .entry)) row))) ⌝ }
+    ensures within { λ g. ⌜ work.rowWithin (now (s .entry)) g ≡ true ⌝ }
+{
+    match step {
+        Step::Name(a, b, _) => under_name(t, s, m, row, r, a, b),
+        Step::Position(_, _) => Target::No,
+        Step::FromEnd(_, _) => Target::No,
+        Step::Count(_) => Target::No,
+        Step::All(_) => Target::No,
+        Step::End => Target::No,
+        Step::Bad => Target::No,
+    }
+}
+
+// One identifier on a SEQUENCE OF or SET OF.
+fn under_list(t: &[u8], s: &[usize], m: &[u64], row: usize, r: &[u8], step: Step) -> Target
+    requires sound { do ⌜ Sound (← ⟦rows::Table::MAX_CHAIN⟧) (now t) (now s) (now m) ⌝ }
+    requires here { ⌜ row < length (now s) ⌝ }
+    requires list { ⌜ isList (kindAt (now t) (rowAt (now s) row)) ≡ true ⌝ }
+    ensures leads { λ g. do ⌜ work.targetTold (← ⟦rows::Table::MAX_CHAIN⟧ .entry) (now (t .entry)) (now (s .entry)) g ≡ work.inList (work.stepId (now (r .entry)) step) (typeFrom (← ⟦rows::Table::MAX_CHAIN⟧ .entry) (now (t .entry)) (now (s .entry)) (elementAt (now (t .entry)) (rowAt (now (s .entry)) row))) ⌝ }
+    ensures within { λ g. ⌜ work.rowWithin (now (s .entry)) g ≡ true ⌝ }
+{
+    let element = rows::element_at(t, rows::row_at(s, row));
+    match step {
+        Step::Name(_, _, _) => Target::No,
+        Step::Position(_, _) => Target::Row(element),
+        Step::FromEnd(_, _) => Target::Row(element),
+        Step::Count(_) => Target::Count,
+        Step::All(_) => Target::Row(element),
+        Step::End => Target::No,
+        Step::Bad => Target::No,
+    }
+}
+
+// One identifier on the type of a row.
+pub fn under_row(t: &[u8], s: &[usize], m: &[u64], row: usize, r: &[u8], step: Step) -> Target
+    requires sound { do ⌜ Sound (← ⟦rows::Table::MAX_CHAIN⟧) (now t) (now s) (now m) ⌝ }
+    requires here { ⌜ row < length (now s) ⌝ }
+    ensures leads { λ g. do ⌜ work.targetTold (← ⟦rows::Table::MAX_CHAIN⟧ .entry) (now (t .entry)) (now (s .entry)) g ≡ work.atTarget (work.stepId (now (r .entry)) step) (ofType (typeFrom (← ⟦rows::Table::MAX_CHAIN⟧ .entry) (now (t .entry)) (now (s .entry)) row)) ⌝ }
+    ensures within { λ g. ⌜ work.rowWithin (now (s .entry)) g ≡ true ⌝ }
+{
+    let kind = rows::kind_at(t, rows::row_at(s, row));
+    if rows::is_group(kind) {
+        return under_members(t, s, m, row, r, step);
+    }
+    if rows::is_list(kind) {
+        return under_list(t, s, m, row, r, step);
+    }
+    Target::No
+}
+
+// One identifier on what those before it lead to.
+fn under_target(t: &[u8], s: &[usize], m: &[u64], target: Target, r: &[u8], step: Step) -> Target
+    requires sound { do ⌜ Sound (← ⟦rows::Table::MAX_CHAIN⟧) (now t) (now s) (now m) ⌝ }
+    requires here { ⌜ work.rowWithin (now s) target ≡ true ⌝ }
+    ensures leads { λ g. do ⌜ work.targetTold (← ⟦rows::Table::MAX_CHAIN⟧ .entry) (now (t .entry)) (now (s .entry)) g ≡ work.atTold (work.stepId (now (r .entry)) step) (work.targetTold (← ⟦rows::Table::MAX_CHAIN⟧ .entry) (now (t .entry)) (now (s .entry)) target) ⌝ }
+    ensures within { λ g. ⌜ work.rowWithin (now (s .entry)) g ≡ true ⌝ }
+{
+    match target {
+        Target::Row(row) => under_row(t, s, m, row, r, step),
+        Target::Count => Target::No,
+        Target::No => Target::No,
+    }
+}
+
+// What a reference leads to from the type of row 0.
+fn follow(t: &[u8], s: &[usize], m: &[u64], r: &[u8]) -> Target
+    requires sound { do ⌜ Sound (← ⟦rows::Table::MAX_CHAIN⟧) (now t) (now s) (now m) ⌝ }
+    requires rows { ⌜ 0 < length (now s) ⌝ }
+    ensures leads { λ g. do ⌜ work.targetTold (← ⟦rows::Table::MAX_CHAIN⟧ .entry) (now (t .entry)) (now (s .entry)) g ≡ work.along (work.idsAt (now (r .entry)) 0) (work.targetTold (← ⟦rows::Table::MAX_CHAIN⟧ .entry) (now (t .entry)) (now (s .entry)) (Target.Row 0)) ⌝ }
+    ensures within { λ g. ⌜ work.rowWithin (now (s .entry)) g ≡ true ⌝ }
+{
+    let mut target = Target::Row(0);
+    let mut k = 0;
+    loop {
+        let step = next_id(r, k);
+        match place_after(step) {
+            After::At(n) => {
+                target = under_target(t, s, m, target, r, step);
+                k = n;
+            }
+            After::End => return target,
+            After::Bad => return Target::No,
+        }
+    }
+}
+
+// What a reference, where one is given, leads to from the type of row 0: a type or the count; nothing where it is malformed or not allowed.
+pub fn target_of(t: &[u8], s: &[usize], m: &[u64], given: bool, r: &[u8]) -> Target
+    requires sound { do ⌜ Sound (← ⟦rows::Table::MAX_CHAIN⟧) (now t) (now s) (now m) ⌝ }
+    requires rows { ⌜ 0 < length (now s) ⌝ }
+    ensures leads { λ g. do ⌜ work.targetTold (← ⟦rows::Table::MAX_CHAIN⟧ .entry) (now (t .entry)) (now (s .entry)) g ≡ work.leadsTo given (now (r .entry)) (typeFrom (← ⟦rows::Table::MAX_CHAIN⟧ .entry) (now (t .entry)) (now (s .entry)) 0) ⌝ }
+    ensures within { λ g. ⌜ work.rowWithin (now (s .entry)) g ≡ true ⌝ }
+{
+    if !given {
+        return Target::Row(0);
+    }
+    follow(t, s, m, r)
 }
