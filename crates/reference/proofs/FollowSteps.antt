@@ -1,5 +1,5 @@
 -- Along a reference: one lemma for each return and each turn of the loop; its premises are the facts as the code has them.
-use mathlib.Core.Path.{_≡_, refl, sym, ap, ap₂, _∙_}
+use mathlib.Core.Path.{_≡_, refl, sym, ap, _∙_}
 use mathlib.Core.Bool.{Bool, true, false, not}
 use mathlib.Core.Option.{Option, none, some}
 use mathlib.Core.List.{List, [], _∷_}
@@ -7,13 +7,13 @@ use Prim.Native.Nat.{ℕ, _≤_, _<_, _+_, _-_}
 use native.Mathlib.Omega.{arith}
 use borrow.Author.Tests.{not-true, not-false}
 use lib.ListN.{length}
-use Rattle.octets.specs.Pick.{pick, bind, consed}
+use Rattle.octets.specs.Pick.{bind, consed}
 use Rattle.octets.specs.Octets.{part}
-use Rattle.table.specs.Types.{Ty, typeFrom}
-use Rattle.reference.specs.Reference.{Id, name, index, position, fromEnd, count, all, readReference}
+use Rattle.table.specs.Types.{typeFrom}
+use Rattle.reference.specs.Reference.{Id, name, index, position, fromEnd, count, all}
 use Rattle.reference.specs.Allowed as allowed
-use Rattle.reference.specs.Allowed.{ofType, under, allowedFrom}
-use Rattle.reference.specs.Work.{capped, headCapped, idsAt, stepTold, rises, advances, stepId, placeAfter, targetTold, rowWithin, atTarget, atTold, along, leadsTo}
+use Rattle.reference.specs.Allowed.{allowedFrom}
+use Rattle.reference.specs.Work.{headCapped, idsAt, stepTold, rises, advances, stepId, placeAfter, targetTold, atTold, along, leadsTo}
 use Rattle.reference.specs.declared.Step.{Step}
 use Rattle.reference.specs.declared.After.{After}
 use Rattle.reference.specs.declared.Target.{Target}

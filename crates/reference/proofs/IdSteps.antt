@@ -3,23 +3,23 @@ use mathlib.Core.Path.{_≡_, refl, sym, ap, ap₂, _∙_}
 use mathlib.Core.Bool.{Bool, true, false, not, false≢true}
 use mathlib.Core.Option.{Option, none, some}
 use mathlib.Core.List.{List, [], _∷_}
-use Prim.Native.Nat.{ℕ, zero, suc, _≤_, _<_, _+_, _-_}
+use Prim.Native.Nat.{ℕ, suc, _≤_, _<_, _+_, _-_}
 use native.Mathlib.Omega.{arith}
 use native.Mathlib.Nat.{add-zero}
 use borrow.Author.Tests.{not-true, not-false, eq-eqb, ne-eqb, lt-leb, le-leb, lt-ltb, le-ltb, leb-true, leb-false}
 use lib.Dec.{ltb, leb, eqb, leb·suc-suc}
 use lib.ListN.{length, take, drop}
 use lib.Seq.{drop-drop}
-use Rattle.octets.specs.Pick.{pick, both, either, no, bind, consed}
-use Rattle.octets.specs.Octets.{octet, part, same, bytes}
-use Rattle.octets.specs.Text.{isLower, isAlnum, isNumber, decimal, ontoFirst, pieces}
+use Rattle.octets.specs.Pick.{pick, both, no, bind, consed}
+use Rattle.octets.specs.Octets.{octet, part, same, every, bytes}
+use Rattle.octets.specs.Text.{isLower, isAlnum, isDigit, isNumber, decimal, ontoFirst, pieces}
 use Rattle.octets.specs.Answers.{clip}
 use Rattle.octets.specs.declared.Size.{Size}
 use Rattle.octets.proofs.Laws.{rest-cons, rest-none, rest-length, part-rest}
-use Rattle.octets.proofs.TextLaws.{number-nil, number-cons, pieces-nil, pieces-cons, same-nil, same-shorter, same-cons}
+use Rattle.octets.proofs.TextLaws.{every-cons, number-nil, number-cons, pieces-nil, pieces-cons, same-nil, same-cons}
 use Rattle.table.specs.Types.{unfilled}
-use Rattle.reference.specs.Reference.{Id, name, index, position, fromEnd, count, all, identifierFrom, isIdentifier, isPosition, idOf, idsOf, readReference}
-use Rattle.reference.specs.Work.{cap, capped, headCapped, idsAt, dotless, endAt, mayFollow, wordId, otherId, numberId, cappedId, pieceTold, stepTold, rises, advances, stepOf}
+use Rattle.reference.specs.Reference.{Id, index, position, fromEnd, identifierFrom, isIdentifier, isPosition, idOf, idsOf, readReference}
+use Rattle.reference.specs.Work.{cap, headCapped, idsAt, dotless, endAt, mayFollow, wordId, otherId, numberId, cappedId, pieceTold, stepTold, rises, advances, stepOf}
 use Rattle.reference.specs.declared.Piece.{Piece}
 use Rattle.reference.specs.declared.Step.{Step}
 
@@ -88,29 +88,33 @@ module _ (p : List ℕ) (a i : ℕ) (m : Bool) (inv : identifierFrom a (drop i p
     identifier-whole e = rw (ne-eqb a 45 e) at identifier-end
 
 -- ---- positions
-pub position-nought : (p : List ℕ) (o : ℕ) → o ≡ octet p 0 → o ≡ 48 → false ≡ isPosition p
+pub position-none : (p : List ℕ) → length p < 1 → false ≡ isPosition p
 unfolding isPosition
-position-nought p o e h = go p (sym e ∙ h)
-  where
-    go : (p : List ℕ) → octet p 0 ≡ 48 → false ≡ isPosition p
-    go [] q = absurd (omega arith)
-    go (b ∷ []) q = rw (number-cons b [], eq-eqb b 48 q, same-cons b 48 [] [], eq-eqb b 48 q, same-nil)
-    go (b ∷ c ∷ s) q = rw (number-cons b (c ∷ s), eq-eqb b 48 q, ne-eqb (suc (length s)) 0 (λ z. omega arith))
+position-none [] h = rw number-nil
+position-none (b ∷ s) h = absurd (omega arith)
 
-always : (x : Bool) → x ≡ both x true
-always true = refl
-always false = refl
-
-other : (b : ℕ) (s : List ℕ) → (b ≡ 48 → ⊥) → same (b ∷ s) (48 ∷ []) ≡ false
-other b s q = rw (same-cons b 48 s [], ne-eqb b 48 q)
-
-pub position-is : (p : List ℕ) (o : ℕ) (u : Bool) → o ≡ octet p 0 → (o ≡ 48 → ⊥) → u ≡ isNumber p → u ≡ isPosition p
+pub position-nought : (p : List ℕ) → 1 ≤ length p → octet p 0 ≡ 48 → false ≡ isPosition p
 unfolding isPosition
-position-is p o u e h f = f ∙ go p (λ q. h (e ∙ q))
+position-nought [] h q = absurd (omega arith)
+position-nought (b ∷ []) h q = rw (number-cons b [], eq-eqb b 48 q, same-cons b 48 [] [], eq-eqb b 48 q, same-nil)
+position-nought (b ∷ c ∷ s) h q = rw (number-cons b (c ∷ s), eq-eqb b 48 q, ne-eqb (suc (length s)) 0 (λ z. omega arith))
+
+pub position-is : (p : List ℕ) (u : Bool) → 1 ≤ length p → (octet p 0 ≡ 48 → ⊥) → u ≡ every isDigit p → u ≡ isPosition p
+unfolding isPosition
+position-is [] u h q e = absurd (omega arith)
+position-is (b ∷ s) u h q e =
+    e ∙ sym (digits b s q) ∙ always (isNumber (b ∷ s))
+    ∙ ap (λ (x : Bool). both (isNumber (b ∷ s)) (no x)) (sym (other b s q))
   where
-    go : (p : List ℕ) → (octet p 0 ≡ 48 → ⊥) → isNumber p ≡ isPosition p
-    go [] q = rw number-nil
-    go (b ∷ s) q = always (isNumber (b ∷ s)) ∙ ap (λ (x : Bool). both (isNumber (b ∷ s)) (no x)) (sym (other b s q))
+    always : (x : Bool) → x ≡ both x true
+    always true = refl
+    always false = refl
+
+    digits : (b : ℕ) (s : List ℕ) → (b ≡ 48 → ⊥) → isNumber (b ∷ s) ≡ every isDigit (b ∷ s)
+    digits b s q = number-cons b s ∙ rw (ne-eqb b 48 q) (sym (every-cons isDigit b s))
+
+    other : (b : ℕ) (s : List ℕ) → (b ≡ 48 → ⊥) → same (b ∷ s) (48 ∷ []) ≡ false
+    other b s q = rw (same-cons b 48 s [], ne-eqb b 48 q)
 
 size-of : (n m : ℕ) (x : Bool) → pick x (Size.Of n) Size.Beyond ≡ Size.Of m → m ≡ pick x n 18446744073709551615
 size-of n m true e = cc

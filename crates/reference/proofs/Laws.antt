@@ -1,25 +1,27 @@
 -- Laws of the definitions, for the layers above.
-use mathlib.Core.Path.{_≡_, refl, sym, ap, ap₂, _∙_}
-use mathlib.Core.Bool.{Bool, true, false, not, false≢true, true≢false}
+use mathlib.Core.Path.{_≡_, refl, sym, ap, _∙_}
+use mathlib.Core.Bool.{Bool, true, false, false≢true}
 use mathlib.Core.Option.{Option, none, some}
 use mathlib.Core.List.{List, [], _∷_}
-use Prim.Native.Nat.{ℕ, zero, suc, _≤_, _<_, _+_, _-_}
+use Prim.Native.Nat.{ℕ, suc, _≤_, _<_, _+_, _-_}
 use native.Mathlib.Omega.{arith}
-use borrow.Author.Tests.{eq-eqb, ne-eqb, eqb-true, eqb-false, lt-leb, le-leb, lt-ltb, le-ltb, leb-true, leb-false, ltb-true, ltb-false}
+use borrow.Author.Tests.{eq-eqb, ne-eqb, eqb-true, lt-leb, le-leb, leb-true, ltb-true}
 use lib.Dec.{ltb, leb, eqb}
-use lib.ListN.{length, take, drop}
+use lib.ListN.{length, drop}
 use Rattle.octets.specs.Pick.{pick, both, either, no, bind, consed}
-use Rattle.octets.specs.Octets.{octet, part, same, every, bytes}
-use Rattle.octets.specs.Text.{isLower, isUpper, isLetter, isAlnum, isDigit, isNumber, decimal, ontoFirst, pieces}
+use Rattle.octets.specs.Octets.{octet, part, same, every}
+use Rattle.octets.specs.Text.{isLower, isUpper, isLetter, isAlnum, isDigit, isNumber, ontoFirst, pieces}
 use Rattle.octets.specs.Quoted.{undoubled}
 use Rattle.octets.proofs.Laws.{both-true}
-use Rattle.octets.proofs.TextLaws.{number-nil, number-cons, every-nil, every-cons, every-at, pieces-nil, pieces-cons, same-nil, same-shorter, same-longer, same-cons}
+use Rattle.octets.proofs.TextLaws.{number-nil, number-cons, every-nil, every-cons, every-at, pieces-nil, pieces-cons, same-longer, same-cons}
 use Rattle.octets.proofs.QuotedLaws.{noQuote, undoubled-plain, undoubled-quoted}
-use Rattle.table.specs.Types.{Ty, basic, sequence, choice, listOf, Members}
-use Rattle.reference.specs.Reference.{Index, position, fromEnd, count, all, Id, name, index, identifierFrom, isIdentifier, isPosition, idOf, idsOf, readReference}
-use Rattle.reference.specs.Allowed.{Target, ofType, ofCount, under, allowedFrom, allowed}
-use Rattle.reference.specs.Work.{cap, cappedIndex, capped, cappedIds, headCapped, idsAt, stepTold, rises, advances}
+use Rattle.table.specs.Types.{Ty, basic, sequence, choice, listOf}
+use Rattle.reference.specs.Reference.{position, fromEnd, count, all, Id, name, index, identifierFrom, isIdentifier, isPosition, idOf, idsOf, readReference}
+use Rattle.reference.specs.Allowed as allowed
+use Rattle.reference.specs.Allowed.{ofType, ofCount, under, allowedFrom, allowed}
+use Rattle.reference.specs.Work.{cap, capped, cappedIds, headCapped, idsAt, stepTold, rises, advances, rowWithin}
 use Rattle.reference.specs.declared.Step.{Step}
+use Rattle.reference.specs.declared.Target.{Target}
 
 -- ---- the identifiers of a text from a place on
 pub ids-all : (r : List ℕ) → idsAt r 0 ≡ readReference r
@@ -139,8 +141,12 @@ module _ (r : List ℕ) (k : ℕ) (s : Step) (rising : advances r k s ≡ true) 
   pub all-rises : (n : ℕ) → s ≡ Step.All n → (k < n) × (n ≤ length r + 1)
   all-rises n e = rises-by r k n (sym (ap (advances r k) e) ∙ rising)
 
+-- ---- a row that a reference leads to
+pub row-here : (s : List ℕ) (g : Target) (row : ℕ) → rowWithin s g ≡ true → g ≡ Target.Row row → row < length s
+row-here s g row e h = ltb-true row (length s) (sym (ap (rowWithin s) h) ∙ e)
+
 -- ---- capped positions allow the same
-pub under-capped : (i : Id) (g : Target) → under (capped i) g ≡ under i g
+pub under-capped : (i : Id) (g : allowed.Target) → under (capped i) g ≡ under i g
 unfolding under
 under-capped i ofCount = refl
 under-capped i (ofType (basic k)) = refl
@@ -154,12 +160,12 @@ under-capped (index (fromEnd n)) (ofType (listOf k ty)) = refl
 under-capped (index count) (ofType (listOf k ty)) = refl
 under-capped (index all) (ofType (listOf k ty)) = refl
 
-allowed-from-capped : (is : List Id) (g : Target) → allowedFrom (cappedIds is) g ≡ allowedFrom is g
+allowed-from-capped : (is : List Id) (g : allowed.Target) → allowedFrom (cappedIds is) g ≡ allowedFrom is g
 unfolding allowedFrom cappedIds
 allowed-from-capped [] g = refl
-allowed-from-capped (i ∷ is) g = ap (λ (o : Option Target). bind o (λ h. allowedFrom (cappedIds is) h)) (under-capped i g) ∙ go (under i g) (λ h. allowed-from-capped is h)
+allowed-from-capped (i ∷ is) g = ap (λ (o : Option allowed.Target). bind o (λ h. allowedFrom (cappedIds is) h)) (under-capped i g) ∙ go (under i g) (λ h. allowed-from-capped is h)
   where
-    go : (o : Option Target) → ((h : Target) → allowedFrom (cappedIds is) h ≡ allowedFrom is h) → bind o (λ h. allowedFrom (cappedIds is) h) ≡ bind o (λ h. allowedFrom is h)
+    go : (o : Option allowed.Target) → ((h : allowed.Target) → allowedFrom (cappedIds is) h ≡ allowedFrom is h) → bind o (λ h. allowedFrom (cappedIds is) h) ≡ bind o (λ h. allowedFrom is h)
     go none f = refl
     go (some h) f = f h
 

@@ -5,19 +5,19 @@ use mathlib.Core.Option.{Option, none, some}
 use mathlib.Core.List.{List}
 use Prim.Native.Nat.{ℕ, zero, suc, _≤_, _<_, _+_, _-_}
 use native.Mathlib.Omega.{arith}
-use borrow.Author.Tests.{lt-ltb, le-ltb, ltb-true, eqb-true, eqb-false}
+use borrow.Author.Tests.{lt-ltb, le-ltb}
 use lib.Dec.{ltb, eqb}
 use lib.ListN.{length}
 use Rattle.octets.specs.Pick.{pick, bind}
-use Rattle.octets.specs.Octets.{part, same}
-use Rattle.rows.specs.Row.{nameAt, kindAt, elementAt, typeRowAt, rowAt, membersAt, isGroup, isList}
-use Rattle.table.specs.Types.{Ty, basic, sequence, choice, listOf, Members, unfilled, memberOf, membersFrom, typed, typeFrom}
+use Rattle.octets.specs.Octets.{part}
+use Rattle.rows.specs.Row.{kindAt, elementAt, typeRowAt, rowAt, membersAt, isGroup, isList}
+use Rattle.table.specs.Types.{Ty, basic, sequence, choice, listOf, Members, memberOf, membersFrom, typed, typeFrom}
 use Rattle.table.specs.Work.{Sound}
 use Rattle.value.specs.Work.{first}
 use Rattle.value.proofs.LeafSteps.{first-none, first-step}
 use Rattle.reference.specs.Reference.{Id, name}
 use Rattle.reference.specs.Allowed as allowed
-use Rattle.reference.specs.Allowed.{ofType, memberType, underMembers, underList, under}
+use Rattle.reference.specs.Allowed.{ofType, memberType, underMembers, under}
 use Rattle.reference.specs.Work.{namedOf, stepId, placeAfter, targetTold, rowWithin, amongMembers, inList, atTarget, atTold}
 use Rattle.reference.specs.declared.Step.{Step}
 use Rattle.reference.specs.declared.After.{After}
@@ -58,9 +58,6 @@ still-within s g e = e
 
 pub first-within : (s : List ℕ) → 0 < length s → rowWithin s (Target.Row 0) ≡ true
 first-within s h = lt-ltb 0 (length s) h
-
-pub row-here : (s : List ℕ) (g : Target) (row : ℕ) → rowWithin s g ≡ true → g ≡ Target.Row row → row < length s
-row-here s g row e h = ltb-true row (length s) (sym (ap (rowWithin s) h) ∙ e)
 
 module _ (chain : ℕ) (t s : List ℕ) (row : ℕ) where
   abbrev element : Ty

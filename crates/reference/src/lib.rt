@@ -3,7 +3,7 @@ use octets::Size;
 ghost use mathlib.Core.Path.{_≡_};
 ghost use mathlib.Core.Bool.{true};
 ghost use Prim.Native.Nat.{_≤_, _<_, _+_, _-_};
-ghost use lib.ListN.{length, drop};
+ghost use lib.ListN.{length};
 ghost use Rattle.octets.specs.Octets.{part, same};
 ghost use Rattle.octets.specs.Text.{decimal};
 ghost use Rattle.rows.specs.Row.{nameAt, kindAt, elementAt, rowAt, membersAt, isList};
@@ -15,8 +15,8 @@ ghost use Rattle.reference.specs.Reference.{name};
 ghost use Rattle.reference.specs.Allowed.{underMembers, ofType};
 ghost use Rattle.reference.specs.Work as work;
 
-// One component identifier: a name, or an index; a number beyond the largest is held as the largest.
-pub enum Piece {
+// One component identifier: a name or an index, or none. A number beyond the largest is held as the largest.
+enum Piece {
     Name,
     Position(usize),
     FromEnd(usize),
@@ -25,7 +25,7 @@ pub enum Piece {
     Bad,
 }
 
-// The next identifier of a reference and the place where those after it start: a name by its first place and its end; no more; or no identifier.
+// The next identifier of a reference and the place where those after it start; a name by its first place and its end. Or no more, or no identifier.
 pub enum Step {
     Name(usize, usize, usize),
     Position(usize, usize),
@@ -36,8 +36,8 @@ pub enum Step {
     Bad,
 }
 
-// The place after a step: that of the next identifier; none.
-pub enum After {
+// The place where the identifiers after a step start, if it has one.
+enum After {
     At(usize),
     End,
     Bad,
@@ -51,9 +51,9 @@ pub enum Target {
 }
 
 // ---- one identifier
-// Whether octet b may stand after octet a in an identifier.
-fn may_follow(a: u8, b: u8) -> bool
-    ensures { λ r. ⌜ r ≡ work.mayFollow a b ⌝ }
+// Whether octet b may stand after another in an identifier.
+fn may_follow(before: u8, b: u8) -> bool
+    ensures { λ r. ⌜ r ≡ work.mayFollow before b ⌝ }
 {
     if octets::is_alnum(b) {
         return true;
@@ -61,7 +61,7 @@ fn may_follow(a: u8, b: u8) -> bool
     if b != 45 {
         return false;
     }
-    if a == 45 {
+    if before == 45 {
         return false;
     }
     true
@@ -92,10 +92,13 @@ fn is_identifier(p: &[u8]) -> bool
 fn is_position(p: &[u8]) -> bool
     ensures { λ r. ⌜ r ≡ reference.isPosition (now (p .entry)) ⌝ }
 {
-    if octets::octet(p, 0) == 48 {
+    if p.len() < 1 {
         return false;
     }
-    octets::is_number(p)
+    if p[0] == 48 {
+        return false;
+    }
+    octets::all_digits(p)
 }
 
 // The number that digits stand for, at most the largest.
@@ -317,7 +320,7 @@ fn under_list(t: &[u8], s: &[usize], m: &[u64], row: usize, r: &[u8], step: Step
 }
 
 // One identifier on the type of a row.
-pub fn under_row(t: &[u8], s: &[usize], m: &[u64], row: usize, r: &[u8], step: Step) -> Target
+fn under_row(t: &[u8], s: &[usize], m: &[u64], row: usize, r: &[u8], step: Step) -> Target
     requires sound { do ⌜ Sound (← ⟦rows::Table::MAX_CHAIN⟧) (now t) (now s) (now m) ⌝ }
     requires here { ⌜ row < length (now s) ⌝ }
     ensures leads { λ g. do ⌜ work.targetTold (← ⟦rows::Table::MAX_CHAIN⟧ .entry) (now (t .entry)) (now (s .entry)) g ≡ work.atTarget (work.stepId (now (r .entry)) step) (ofType (typeFrom (← ⟦rows::Table::MAX_CHAIN⟧ .entry) (now (t .entry)) (now (s .entry)) row)) ⌝ }

@@ -22,14 +22,14 @@ follow-spec =
     (tie.spec
     Inv-loop
     μ-loop
-    (λ c. (refl, search first-within, search needs))                         -- loop-holds
-    (λ c κs. search needs)                      -- next-id-requires
-    (λ c κs. search needs)                      -- place-after-requires
-    (λ c. search needs)                         -- enum-known-n
-    (λ c κs. (search needs, search needs))                      -- under-target-requires
-    (λ c. search follow-less)                         -- loop-less
-    (λ c. (search follow-on, search still-within, search follow-within))                         -- loop-again
-    (λ c. search needs)                         -- enum-told
-    (λ c. (search follow-end, search still-within))                         -- returns
-    (λ c. search needs)                         -- enum-told-2
-    (λ c. (search follow-bad, search none-within)))                        -- returns-2
+    (λ c. (refl, search first-within, search needs))  -- loop-holds
+    (λ c κs. search needs)  -- next-id-requires
+    (λ c κs. search needs)  -- place-after-requires
+    (λ c. search needs)  -- enum-known-n
+    (λ c κs. (search needs, search needs))  -- under-target-requires
+    (λ c. search follow-less)  -- loop-less
+    (λ c. (search follow-on, search still-within, search follow-within))  -- loop-again
+    (λ c. search needs)  -- enum-told
+    (λ c. (search follow-end, search still-within))  -- returns
+    (λ c. search needs)  -- enum-told-2
+    (λ c. (search follow-bad, search none-within)))  -- returns-2

@@ -7,17 +7,17 @@ pub place-after-spec : {M : Type 1} → statement M
 place-after-spec =
     tie.close
     (tie.spec
-    (λ c. search needs)                         -- enum-known-step
-    (λ c. search needs)                         -- enum-known-step-2
-    (λ c. search needs)                         -- enum-known-step-3
-    (λ c. search needs)                         -- enum-known-step-4
-    (λ c. search needs)                         -- enum-known-step-5
-    (λ c. search needs)                         -- enum-told
-    (λ c. search needs)                         -- enum-told-2
-    (λ c. search after-name)                         -- returns
-    (λ c. search after-position)                         -- returns-2
-    (λ c. search after-from-end)                         -- returns-3
-    (λ c. search after-count)                         -- returns-4
-    (λ c. search after-all)                         -- returns-5
-    (λ c. search after-end)                         -- returns-6
-    (λ c. search after-bad))                        -- returns-7
+    (λ c. search needs)  -- enum-known-step
+    (λ c. search needs)  -- enum-known-step-2
+    (λ c. search needs)  -- enum-known-step-3
+    (λ c. search needs)  -- enum-known-step-4
+    (λ c. search needs)  -- enum-known-step-5
+    (λ c. search needs)  -- enum-told
+    (λ c. search needs)  -- enum-told-2
+    (λ c. search after-name)  -- returns
+    (λ c. search after-position)  -- returns-2
+    (λ c. search after-from-end)  -- returns-3
+    (λ c. search after-count)  -- returns-4
+    (λ c. search after-all)  -- returns-5
+    (λ c. search after-end)  -- returns-6
+    (λ c. search after-bad))  -- returns-7

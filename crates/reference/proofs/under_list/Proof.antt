@@ -7,19 +7,19 @@ pub under-list-spec : {M : Type 1} → statement M
 under-list-spec =
     tie.close
     (tie.spec
-    (λ c κs. search needs)                      -- row-at-requires
-    (λ c κs. search needs)                      -- element-at-requires
-    (λ c. search needs)                         -- enum-told
-    (λ c. search needs)                         -- enum-told-2
-    (λ c. search needs)                         -- enum-told-3
-    (λ c. search needs)                         -- enum-told-4
-    (λ c. search needs)                         -- enum-told-5
-    (λ c. search needs)                         -- enum-told-6
-    (λ c. search needs)                         -- enum-told-7
-    (λ c. (search list-name, search none-within))                         -- returns
-    (λ c. (search list-position, search element-within))                         -- returns-2
-    (λ c. (search list-from-end, search element-within))                         -- returns-3
-    (λ c. (search list-count, search count-within))                         -- returns-4
-    (λ c. (search list-all, search element-within))                         -- returns-5
-    (λ c. (search list-end, search none-within))                         -- returns-6
-    (λ c. (search list-bad, search none-within)))                        -- returns-7
+    (λ c κs. search needs)  -- row-at-requires
+    (λ c κs. search needs)  -- element-at-requires
+    (λ c. search needs)  -- enum-told
+    (λ c. search needs)  -- enum-told-2
+    (λ c. search needs)  -- enum-told-3
+    (λ c. search needs)  -- enum-told-4
+    (λ c. search needs)  -- enum-told-5
+    (λ c. search needs)  -- enum-told-6
+    (λ c. search needs)  -- enum-told-7
+    (λ c. (search list-name, search none-within))  -- returns
+    (λ c. (search list-position, search element-within))  -- returns-2
+    (λ c. (search list-from-end, search element-within))  -- returns-3
+    (λ c. (search list-count, search count-within))  -- returns-4
+    (λ c. (search list-all, search element-within))  -- returns-5
+    (λ c. (search list-end, search none-within))  -- returns-6
+    (λ c. (search list-bad, search none-within)))  -- returns-7

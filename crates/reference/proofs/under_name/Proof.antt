@@ -7,9 +7,9 @@ pub under-name-spec : {M : Type 1} → statement M
 under-name-spec =
     tie.close
     (tie.spec
-    (λ c κs. search needs)                      -- row-at-requires
-    (λ c κs. search needs)                      -- members-at-requires
-    (λ c κs. search needs)                      -- find-named-requires
-    (λ c. (search name-none, search none-within))                         -- returns
-    (λ c κs. search needs)                      -- member-type-requires
-    (λ c. (search name-found, search name-within)))                        -- returns-2
+    (λ c κs. search needs)  -- row-at-requires
+    (λ c κs. search needs)  -- members-at-requires
+    (λ c κs. search needs)  -- find-named-requires
+    (λ c. (search name-none, search none-within))  -- returns
+    (λ c κs. search needs)  -- member-type-requires
+    (λ c. (search name-found, search name-within)))  -- returns-2
