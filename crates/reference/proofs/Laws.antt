@@ -1,11 +1,13 @@
 -- Laws of the definitions, for the layers above.
 use mathlib.Core.Path.{_≡_, refl, sym, ap, _∙_}
 use mathlib.Core.Bool.{Bool, true, false, false≢true}
+use mathlib.Core.Logic.{_⊎_, inl, inr, ⊎-elim}
 use mathlib.Core.Option.{Option, none, some}
 use mathlib.Core.List.{List, [], _∷_}
-use Prim.Native.Nat.{ℕ, suc, _≤_, _<_, _+_, _-_}
+use Prim.Native.Nat.{ℕ, zero, suc, _≤_, _<_, _+_, _-_}
 use native.Mathlib.Omega.{arith}
-use borrow.Author.Tests.{eq-eqb, ne-eqb, eqb-true, lt-leb, le-leb, leb-true, ltb-true}
+use native.Mathlib.Nat.{eq-or-lt-of-le}
+use borrow.Author.Tests.{eq-eqb, ne-eqb, eqb-true, lt-leb, le-leb, lt-ltb, le-ltb, leb-true, ltb-true, ltb-false}
 use lib.Dec.{ltb, leb, eqb}
 use lib.ListN.{length, drop}
 use Rattle.octets.specs.Pick.{pick, both, either, no, bind, consed}
@@ -15,7 +17,10 @@ use Rattle.octets.specs.Quoted.{undoubled}
 use Rattle.octets.proofs.Laws.{both-true}
 use Rattle.octets.proofs.TextLaws.{number-nil, number-cons, every-nil, every-cons, every-at, pieces-nil, pieces-cons, same-longer, same-cons}
 use Rattle.octets.proofs.QuotedLaws.{noQuote, undoubled-plain, undoubled-quoted}
-use Rattle.table.specs.Types.{Ty, basic, sequence, choice, listOf}
+use Rattle.rows.specs.Row.{nameAt}
+use Rattle.table.specs.Types.{Ty, basic, sequence, choice, listOf, unfilled, memberOf}
+use Rattle.value.specs.Work.{first}
+use Rattle.value.proofs.LeafSteps.{first-none, first-step}
 use Rattle.reference.specs.Reference.{position, fromEnd, count, all, Id, name, index, identifierFrom, isIdentifier, isPosition, idOf, idsOf, readReference}
 use Rattle.reference.specs.Allowed as allowed
 use Rattle.reference.specs.Allowed.{ofType, ofCount, under, allowedFrom, allowed}
@@ -144,6 +149,67 @@ module _ (r : List ℕ) (k : ℕ) (s : Step) (rising : advances r k s ≡ true) 
 -- ---- a row that a reference leads to
 pub row-here : (s : List ℕ) (g : Target) (row : ℕ) → rowWithin s g ≡ true → g ≡ Target.Row row → row < length s
 row-here s g row e h = ltb-true row (length s) (sym (ap (rowWithin s) h) ∙ e)
+
+-- ---- capped positions
+pub cap-small : (n : ℕ) → n < 18446744073709551616 → cap n ≡ n
+unfolding cap
+cap-small n h = rw (lt-ltb n 18446744073709551616 h)
+
+pub cap-large : (n : ℕ) → 18446744073709551616 ≤ n → cap n ≡ 18446744073709551615
+unfolding cap
+cap-large n h = rw (le-ltb n 18446744073709551616 h)
+
+pub cap-cases : (n : ℕ) → (cap n ≡ n) ⊎ ((cap n ≡ 18446744073709551615) × (18446744073709551616 ≤ n))
+cap-cases n = go (ltb n 18446744073709551616) refl
+  where
+    go : (u : Bool) → ltb n 18446744073709551616 ≡ u → (cap n ≡ n) ⊎ ((cap n ≡ 18446744073709551615) × (18446744073709551616 ≤ n))
+    go true e = inl (cap-small n (ltb-true n 18446744073709551616 e))
+    go false e = let h = ltb-false n 18446744073709551616 e in inr (cap-large n h, h)
+
+-- below the largest number it compares as before
+pub cap-leb : (n k : ℕ) → k < 18446744073709551615 → leb (cap n) k ≡ leb n k
+cap-leb n k h = ⊎-elim (λ e. ap (λ (x : ℕ). leb x k) e) (λ w. ap (λ (x : ℕ). leb x k) (w .0) ∙ lt-leb 18446744073709551615 k h ∙ sym (lt-leb n k (let q = w .1 in omega arith))) (cap-cases n)
+
+pub cap-eqb : (n k : ℕ) → k < 18446744073709551615 → eqb (cap n) k ≡ eqb n k
+cap-eqb n k h = ⊎-elim (λ e. ap (λ (x : ℕ). eqb x k) e) (λ w. ap (λ (x : ℕ). eqb x k) (w .0) ∙ ne-eqb 18446744073709551615 k (λ z. omega arith) ∙ sym (ne-eqb n k (λ z. (let q = w .1 in omega arith)))) (cap-cases n)
+
+-- ---- members by their names
+pub member-name : (t : List ℕ) (i p : ℕ) → memberOf t i p .name ≡ unfilled (nameAt t p)
+unfolding memberOf
+member-name t i p = refl
+
+-- the first number for which a test holds, of k from a on
+pub first-least : (f : ℕ → Bool) (k a : ℕ) → a ≤ first f k a
+first-least f zero a = let q = first-none f a in omega arith
+first-least f (suc k) a = let q = first-step f k a in go (f a) q (first-least f k (a + 1))
+  where
+    go : (u : Bool) → first f (suc k) a ≡ pick u a (first f k (a + 1)) → a + 1 ≤ first f k (a + 1) → a ≤ first f (suc k) a
+    go true e h = omega arith
+    go false e h = omega arith
+
+pub first-most : (f : ℕ → Bool) (k a : ℕ) → first f k a ≤ a + k
+first-most f zero a = let q = first-none f a in omega arith
+first-most f (suc k) a = let q = first-step f k a in go (f a) q (first-most f k (a + 1))
+  where
+    go : (u : Bool) → first f (suc k) a ≡ pick u a (first f k (a + 1)) → first f k (a + 1) ≤ a + 1 + k → first f (suc k) a ≤ a + suc k
+    go true e h = omega arith
+    go false e h = omega arith
+
+pub first-holds : (f : ℕ → Bool) (k a : ℕ) → first f k a < a + k → f (first f k a) ≡ true
+first-holds f zero a h = absurd (let q = first-none f a in omega arith)
+first-holds f (suc k) a h = go (f a) refl (first-step f k a) (λ l. first-holds f k (a + 1) l)
+  where
+    go : (u : Bool) → f a ≡ u → first f (suc k) a ≡ pick u a (first f k (a + 1)) → (first f k (a + 1) < a + 1 + k → f (first f k (a + 1)) ≡ true) → f (first f (suc k) a) ≡ true
+    go true e q g = ap f q ∙ e
+    go false e q g = ap f q ∙ g (omega arith)
+
+pub first-before : (f : ℕ → Bool) (k a i : ℕ) → a ≤ i → i < first f k a → f i ≡ false
+first-before f zero a i l h = absurd (let q = first-none f a in omega arith)
+first-before f (suc k) a i l h = go (f a) refl (first-step f k a) (eq-or-lt-of-le l) (λ m n. first-before f k (a + 1) i m n)
+  where
+    go : (u : Bool) → f a ≡ u → first f (suc k) a ≡ pick u a (first f k (a + 1)) → (a ≡ i) ⊎ (a < i) → (a + 1 ≤ i → i < first f k (a + 1) → f i ≡ false) → f i ≡ false
+    go true e q w g = absurd (omega arith)
+    go false e q w g = ⊎-elim (λ z. ap f (sym z) ∙ e) (λ m. g (omega arith) (omega arith)) w
 
 -- ---- capped positions allow the same
 pub under-capped : (i : Id) (g : allowed.Target) → under (capped i) g ≡ under i g
