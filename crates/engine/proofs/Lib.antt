@@ -1,4 +1,1 @@
 pub mod Laws
-pub mod Standing
-pub mod Agreeing
-pub mod Spreading

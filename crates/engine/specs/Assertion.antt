@@ -14,7 +14,7 @@ use Rattle.rules.specs.Suits.{suits}
 use Rattle.rules.specs.Asserted.{conforms}
 use Rattle.rules.specs.Accepts.{accepts}
 use Rattle.filter.specs.Filter.{Item}
-use Rattle.engine.specs.Trail.{Trail, done, fault, reach, trail}
+use Rattle.trail.specs.Trail.{Trail, done, fault, reach, trail}
 use Rattle.engine.specs.Truth.{TRUE, FALSE, UNDEFINED}
 use Rattle.engine.specs.Reading.{Outcome, settled, faulted}
 

@@ -1,8 +1,8 @@
 -- The definitions of this crate and those below, as one name for the `unfolding` line of a computed example.
 use Prim.Native.Nat.{ℕ}
 use Rattle.filter.specs.Computing.{filterComputes}
-use Rattle.engine.specs.Opened.{ownHeader, openAt}
-use Rattle.engine.specs.Trail.{then, eachFrom, countFrom, positionFrom, findMember, findAlternative, along, trail, faulty, reached}
+use Rattle.trail.specs.Opened.{ownHeader, openAt}
+use Rattle.trail.specs.Trail.{then, eachFrom, countFrom, positionFrom, findMember, findAlternative, along, trail, faulty, reached}
 use Rattle.engine.specs.Truth.{everyTruth, anyTruth, conjunction, disjunction, truth}
 use Rattle.engine.specs.Reading.{reading}
 use Rattle.engine.specs.Assertion.{asked, testing, outcome}

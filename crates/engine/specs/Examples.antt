@@ -17,7 +17,7 @@ use Rattle.reference.specs.Reference.{position, all, Id, name, index}
 use Rattle.reference.specs.Numbers.{threes}
 use Rattle.engine.specs.Truth.{TRUE, FALSE, UNDEFINED, conjunction, disjunction}
 use Rattle.engine.specs.Reading.{Outcome, settled, faulted, reading}
-use Rattle.engine.specs.Trail.{Trail, trail, faulty, reached}
+use Rattle.trail.specs.Trail.{Trail, trail, faulty, reached}
 use Rattle.engine.specs.Answer as answer
 use Rattle.engine.specs.Answer.{budgeted, askReport}
 use Rattle.engine.specs.Listing.{Listing, listReport, refusedList, lists}

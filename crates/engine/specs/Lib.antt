@@ -1,7 +1,4 @@
 pub mod Limits
-pub mod Opened
-pub mod Trail
-pub mod Spread
 pub mod Truth
 pub mod Reading
 pub mod Assertion

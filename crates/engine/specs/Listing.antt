@@ -14,7 +14,7 @@ use Rattle.reference.specs.Reference.{Id, readReference}
 use Rattle.reference.specs.Allowed.{allowed}
 use Rattle.reference.specs.Numbers.{Component, threes}
 use Rattle.engine.specs.Limits.{Limits}
-use Rattle.engine.specs.Trail.{Trail, trail, faulty, reached}
+use Rattle.trail.specs.Trail.{Trail, trail, faulty, reached}
 
 -- a refusal number, 0 for none; "the count in its answer is the number of named values", and 0 with a refusal
 pub record ListReport : Type 0 where

@@ -1,1 +1,386 @@
 // Component references: reading one, and whether a type allows it. The definitions are in specs/.
+use octets::Size;
+ghost use mathlib.Core.Path.{_≡_};
+ghost use mathlib.Core.Bool.{true};
+ghost use Prim.Native.Nat.{_≤_, _<_, _+_, _-_};
+ghost use lib.ListN.{length};
+ghost use Rattle.octets.specs.Octets.{part, same};
+ghost use Rattle.octets.specs.Text.{decimal};
+ghost use Rattle.rows.specs.Row.{nameAt, kindAt, elementAt, rowAt, membersAt, isList};
+ghost use Rattle.table.specs.Types.{unfilled, membersFrom, typeFrom};
+ghost use Rattle.table.specs.Work.{Sound};
+ghost use Rattle.value.specs.Work.{first};
+ghost use Rattle.reference.specs.Reference as reference;
+ghost use Rattle.reference.specs.Reference.{name};
+ghost use Rattle.reference.specs.Allowed.{underMembers, ofType};
+ghost use Rattle.reference.specs.Work as work;
+
+// One component identifier: a name or an index, or none. A number beyond the largest is held as the largest.
+enum Piece {
+    Name,
+    Position(usize),
+    FromEnd(usize),
+    Count,
+    All,
+    Bad,
+}
+
+// The next identifier of a reference and the place where those after it start; a name by its first place and its end. Or no more, or no identifier.
+pub enum Step {
+    Name(usize, usize, usize),
+    Position(usize, usize),
+    FromEnd(usize, usize),
+    Count(usize),
+    All(usize),
+    End,
+    Bad,
+}
+
+// The place where the identifiers after a step start, if it has one.
+enum After {
+    At(usize),
+    End,
+    Bad,
+}
+
+// What a reference leads to: the type of a row, the count of a list, or nothing, where it is malformed or not allowed.
+pub enum Target {
+    Row(usize),
+    Count,
+    No,
+}
+
+// ---- one identifier
+// Whether octet b may stand after another in an identifier.
+fn may_follow(before: u8, b: u8) -> bool
+    ensures { λ r. ⌜ r ≡ work.mayFollow before b ⌝ }
+{
+    if octets::is_alnum(b) {
+        return true;
+    }
+    if b != 45 {
+        return false;
+    }
+    if before == 45 {
+        return false;
+    }
+    true
+}
+
+fn is_identifier(p: &[u8]) -> bool
+    ensures { λ r. ⌜ r ≡ reference.isIdentifier (now (p .entry)) ⌝ }
+{
+    let mut a = octets::octet(p, 0);
+    if !octets::is_lower(a) {
+        return false;
+    }
+    let mut i = 1;
+    while i < p.len() {
+        let b = p[i];
+        if !may_follow(a, b) {
+            return false;
+        }
+        a = b;
+        i += 1;
+    }
+    if a == 45 {
+        return false;
+    }
+    true
+}
+
+fn is_position(p: &[u8]) -> bool
+    ensures { λ r. ⌜ r ≡ reference.isPosition (now (p .entry)) ⌝ }
+{
+    if p.len() < 1 {
+        return false;
+    }
+    if p[0] == 48 {
+        return false;
+    }
+    octets::all_digits(p)
+}
+
+// The number that digits stand for, at most the largest.
+fn number_of(p: &[u8]) -> usize
+    ensures { λ r. ⌜ r ≡ work.cap (decimal (now (p .entry))) ⌝ }
+{
+    let size = octets::decimal(p);
+    let Size::Of(n) = size else {
+        return 18446744073709551615;
+    };
+    n as usize
+}
+
+// A name, or nothing.
+fn read_word(p: &[u8]) -> Piece
+    ensures { λ r. ⌜ work.pieceTold (now (p .entry)) r ≡ work.cappedId (work.wordId (now (p .entry))) ⌝ }
+{
+    if is_identifier(p) {
+        return Piece::Name;
+    }
+    Piece::Bad
+}
+
+// A position from the end, a name, or nothing.
+fn read_other(p: &[u8]) -> Piece
+    ensures { λ r. ⌜ work.pieceTold (now (p .entry)) r ≡ work.cappedId (work.otherId (now (p .entry))) ⌝ }
+{
+    if octets::octet(p, 0) != 45 {
+        return read_word(p);
+    }
+    let q = octets::part(p, 1, p.len());
+    if is_position(q) {
+        return Piece::FromEnd(number_of(q));
+    }
+    read_word(p)
+}
+
+fn read_number(p: &[u8]) -> Piece
+    ensures { λ r. ⌜ work.pieceTold (now (p .entry)) r ≡ work.cappedId (work.numberId (now (p .entry))) ⌝ }
+{
+    if is_position(p) {
+        return Piece::Position(number_of(p));
+    }
+    read_other(p)
+}
+
+fn read_id(p: &[u8]) -> Piece
+    ensures { λ r. ⌜ work.pieceTold (now (p .entry)) r ≡ work.cappedId (reference.idOf (now (p .entry))) ⌝ }
+{
+    if octets::same(p, b"*") {
+        return Piece::All;
+    }
+    if octets::same(p, b"0") {
+        return Piece::Count;
+    }
+    read_number(p)
+}
+
+// ---- one step
+// The first dot from a place on, or the end.
+fn end_at(r: &[u8], k: usize) -> usize
+    requires { ⌜ k ≤ length (now r) ⌝ }
+    ensures value { λ e. ⌜ e ≡ work.endAt (now (r .entry)) k ⌝ }
+    ensures after { λ e. ⌜ k ≤ e ⌝ }
+    ensures within { λ e. ⌜ e ≤ length (now (r .entry)) ⌝ }
+{
+    let mut i = k;
+    while i < r.len() {
+        if r[i] == 46 {
+            return i;
+        }
+        i += 1;
+    }
+    i
+}
+
+fn step_of(piece: Piece, a: usize, b: usize, next: usize) -> Step
+    ensures { λ r. ⌜ r ≡ work.stepOf piece a b next ⌝ }
+{
+    match piece {
+        Piece::Name => Step::Name(a, b, next),
+        Piece::Position(n) => Step::Position(n, next),
+        Piece::FromEnd(n) => Step::FromEnd(n, next),
+        Piece::Count => Step::Count(next),
+        Piece::All => Step::All(next),
+        Piece::Bad => Step::Bad,
+    }
+}
+
+// The identifier that starts at a place of a reference.
+pub fn next_id(r: &[u8], k: usize) -> Step
+    ensures step { λ s. ⌜ work.stepTold (now (r .entry)) s ≡ work.headCapped (work.idsAt (now (r .entry)) k) ⌝ }
+    ensures rises { λ s. ⌜ work.advances (now (r .entry)) k s ≡ true ⌝ }
+{
+    if r.len() < k {
+        return Step::End;
+    }
+    let e = end_at(r, k);
+    let piece = read_id(octets::part(r, k, e - k));
+    step_of(piece, k, e, e + 1)
+}
+
+// ---- names
+// The octets from a to b.
+fn between(r: &[u8], a: usize, b: usize) -> &[u8]
+    ensures { λ p. ⌜ now p ≡ part (now (r .entry)) a (b - a) ⌝ }
+{
+    if b <= a {
+        return octets::part(r, a, 0);
+    }
+    octets::part(r, a, b - a)
+}
+
+// Where a name's fill starts.
+fn fill_at(s: &[u8]) -> usize
+    ensures { λ r. ⌜ r ≡ length (unfilled (now (s .entry))) ⌝ }
+{
+    let mut i = 0;
+    while i < s.len() {
+        if s[i] == 0 {
+            return i;
+        }
+        i += 1;
+    }
+    i
+}
+
+// Whether the member row at p has the name that stands from a to b.
+pub fn is_named(t: &[u8], p: usize, r: &[u8], a: usize, b: usize) -> bool
+    ensures { λ u. ⌜ u ≡ same (unfilled (nameAt (now (t .entry)) p)) (part (now (r .entry)) a (b - a)) ⌝ }
+{
+    let name = rows::name_at(t, p);
+    let n = fill_at(name);
+    octets::same(octets::part(name, 0, n), between(r, a, b))
+}
+
+// The first member of a row with the name that stands from a to b; the number of members where none has it.
+pub fn find_named(t: &[u8], s: &[usize], row: usize, r: &[u8], a: usize, b: usize) -> usize
+    ensures { λ j. ⌜ j ≡ first (work.namedOf (now (t .entry)) (now (s .entry)) row (part (now (r .entry)) a (b - a))) (membersAt (now (t .entry)) (rowAt (now (s .entry)) row)) 0 ⌝ }
+{
+    let n = rows::members_at(t, rows::row_at(s, row));
+    let mut j = 0;
+    while j < n {
+        if is_named(t, groups::member_place(s, row, j), r, a, b) {
+            return j;
+        }
+        j += 1;
+    }
+    j
+}
+
+// ---- what a reference leads to
+// The place after a step.
+fn place_after(step: Step) -> After
+    ensures { λ r. ⌜ r ≡ work.placeAfter step ⌝ }
+{
+    match step {
+        Step::Name(_, _, n) => After::At(n),
+        Step::Position(_, n) => After::At(n),
+        Step::FromEnd(_, n) => After::At(n),
+        Step::Count(n) => After::At(n),
+        Step::All(n) => After::At(n),
+        Step::End => After::End,
+        Step::Bad => After::Bad,
+    }
+}
+
+// The member of a row with the name that stands from a to b.
+fn under_name(t: &[u8], s: &[usize], m: &[u64], row: usize, r: &[u8], a: usize, b: usize) -> Target
+    requires sound { do ⌜ Sound (← ⟦rows::Table::MAX_CHAIN⟧) (now t) (now s) (now m) ⌝ }
+    requires here { ⌜ row < length (now s) ⌝ }
+    ensures leads { λ g. do ⌜ work.targetTold (← ⟦rows::Table::MAX_CHAIN⟧ .entry) (now (t .entry)) (now (s .entry)) g ≡ underMembers (name (part (now (r .entry)) a (b - a))) (membersFrom (typeFrom (← ⟦rows::Table::MAX_CHAIN⟧ .entry) (now (t .entry)) (now (s .entry))) (now (t .entry)) (now (s .entry)) (row + 1) (membersAt (now (t .entry)) (rowAt (now (s .entry)) row))) ⌝ }
+    ensures within { λ g. ⌜ work.rowWithin (now (s .entry)) g ≡ true ⌝ }
+{
+    let n = rows::members_at(t, rows::row_at(s, row));
+    let j = find_named(t, s, row, r, a, b);
+    if n <= j {
+        return Target::No;
+    }
+    Target::Row(groups::member_type(t, s, row, j))
+}
+
+// One identifier on a SEQUENCE or CHOICE.
+fn under_members(t: &[u8], s: &[usize], m: &[u64], row: usize, r: &[u8], step: Step) -> Target
+    requires sound { do ⌜ Sound (← ⟦rows::Table::MAX_CHAIN⟧) (now t) (now s) (now m) ⌝ }
+    requires here { ⌜ row < length (now s) ⌝ }
+    ensures leads { λ g. do ⌜ work.targetTold (← ⟦rows::Table::MAX_CHAIN⟧ .entry) (now (t .entry)) (now (s .entry)) g ≡ work.amongMembers (work.stepId (now (r .entry)) step) (membersFrom (typeFrom (← ⟦rows::Table::MAX_CHAIN⟧ .entry) (now (t .entry)) (now (s .entry))) (now (t .entry)) (now (s .entry)) (row + 1) (membersAt (now (t .entry)) (rowAt (now (s .entry)) row))) ⌝ }
+    ensures within { λ g. ⌜ work.rowWithin (now (s .entry)) g ≡ true ⌝ }
+{
+    match step {
+        Step::Name(a, b, _) => under_name(t, s, m, row, r, a, b),
+        Step::Position(_, _) => Target::No,
+        Step::FromEnd(_, _) => Target::No,
+        Step::Count(_) => Target::No,
+        Step::All(_) => Target::No,
+        Step::End => Target::No,
+        Step::Bad => Target::No,
+    }
+}
+
+// One identifier on a SEQUENCE OF or SET OF.
+fn under_list(t: &[u8], s: &[usize], m: &[u64], row: usize, r: &[u8], step: Step) -> Target
+    requires sound { do ⌜ Sound (← ⟦rows::Table::MAX_CHAIN⟧) (now t) (now s) (now m) ⌝ }
+    requires here { ⌜ row < length (now s) ⌝ }
+    requires list { ⌜ isList (kindAt (now t) (rowAt (now s) row)) ≡ true ⌝ }
+    ensures leads { λ g. do ⌜ work.targetTold (← ⟦rows::Table::MAX_CHAIN⟧ .entry) (now (t .entry)) (now (s .entry)) g ≡ work.inList (work.stepId (now (r .entry)) step) (typeFrom (← ⟦rows::Table::MAX_CHAIN⟧ .entry) (now (t .entry)) (now (s .entry)) (elementAt (now (t .entry)) (rowAt (now (s .entry)) row))) ⌝ }
+    ensures within { λ g. ⌜ work.rowWithin (now (s .entry)) g ≡ true ⌝ }
+{
+    let element = rows::element_at(t, rows::row_at(s, row));
+    match step {
+        Step::Name(_, _, _) => Target::No,
+        Step::Position(_, _) => Target::Row(element),
+        Step::FromEnd(_, _) => Target::Row(element),
+        Step::Count(_) => Target::Count,
+        Step::All(_) => Target::Row(element),
+        Step::End => Target::No,
+        Step::Bad => Target::No,
+    }
+}
+
+// One identifier on the type of a row.
+fn under_row(t: &[u8], s: &[usize], m: &[u64], row: usize, r: &[u8], step: Step) -> Target
+    requires sound { do ⌜ Sound (← ⟦rows::Table::MAX_CHAIN⟧) (now t) (now s) (now m) ⌝ }
+    requires here { ⌜ row < length (now s) ⌝ }
+    ensures leads { λ g. do ⌜ work.targetTold (← ⟦rows::Table::MAX_CHAIN⟧ .entry) (now (t .entry)) (now (s .entry)) g ≡ work.atTarget (work.stepId (now (r .entry)) step) (ofType (typeFrom (← ⟦rows::Table::MAX_CHAIN⟧ .entry) (now (t .entry)) (now (s .entry)) row)) ⌝ }
+    ensures within { λ g. ⌜ work.rowWithin (now (s .entry)) g ≡ true ⌝ }
+{
+    let kind = rows::kind_at(t, rows::row_at(s, row));
+    if rows::is_group(kind) {
+        return under_members(t, s, m, row, r, step);
+    }
+    if rows::is_list(kind) {
+        return under_list(t, s, m, row, r, step);
+    }
+    Target::No
+}
+
+// One identifier on what those before it lead to.
+fn under_target(t: &[u8], s: &[usize], m: &[u64], target: Target, r: &[u8], step: Step) -> Target
+    requires sound { do ⌜ Sound (← ⟦rows::Table::MAX_CHAIN⟧) (now t) (now s) (now m) ⌝ }
+    requires here { ⌜ work.rowWithin (now s) target ≡ true ⌝ }
+    ensures leads { λ g. do ⌜ work.targetTold (← ⟦rows::Table::MAX_CHAIN⟧ .entry) (now (t .entry)) (now (s .entry)) g ≡ work.atTold (work.stepId (now (r .entry)) step) (work.targetTold (← ⟦rows::Table::MAX_CHAIN⟧ .entry) (now (t .entry)) (now (s .entry)) target) ⌝ }
+    ensures within { λ g. ⌜ work.rowWithin (now (s .entry)) g ≡ true ⌝ }
+{
+    match target {
+        Target::Row(row) => under_row(t, s, m, row, r, step),
+        Target::Count => Target::No,
+        Target::No => Target::No,
+    }
+}
+
+// What a reference leads to from the type of row 0.
+fn follow(t: &[u8], s: &[usize], m: &[u64], r: &[u8]) -> Target
+    requires sound { do ⌜ Sound (← ⟦rows::Table::MAX_CHAIN⟧) (now t) (now s) (now m) ⌝ }
+    requires rows { ⌜ 0 < length (now s) ⌝ }
+    ensures leads { λ g. do ⌜ work.targetTold (← ⟦rows::Table::MAX_CHAIN⟧ .entry) (now (t .entry)) (now (s .entry)) g ≡ work.along (work.idsAt (now (r .entry)) 0) (work.targetTold (← ⟦rows::Table::MAX_CHAIN⟧ .entry) (now (t .entry)) (now (s .entry)) (Target.Row 0)) ⌝ }
+    ensures within { λ g. ⌜ work.rowWithin (now (s .entry)) g ≡ true ⌝ }
+{
+    let mut target = Target::Row(0);
+    let mut k = 0;
+    loop {
+        let step = next_id(r, k);
+        match place_after(step) {
+            After::At(n) => {
+                target = under_target(t, s, m, target, r, step);
+                k = n;
+            }
+            After::End => return target,
+            After::Bad => return Target::No,
+        }
+    }
+}
+
+// What a reference, where one is given, leads to from the type of row 0: a type or the count; nothing where it is malformed or not allowed.
+pub fn target_of(t: &[u8], s: &[usize], m: &[u64], given: bool, r: &[u8]) -> Target
+    requires sound { do ⌜ Sound (← ⟦rows::Table::MAX_CHAIN⟧) (now t) (now s) (now m) ⌝ }
+    requires rows { ⌜ 0 < length (now s) ⌝ }
+    ensures leads { λ g. do ⌜ work.targetTold (← ⟦rows::Table::MAX_CHAIN⟧ .entry) (now (t .entry)) (now (s .entry)) g ≡ work.leadsTo given (now (r .entry)) (typeFrom (← ⟦rows::Table::MAX_CHAIN⟧ .entry) (now (t .entry)) (now (s .entry)) 0) ⌝ }
+    ensures within { λ g. ⌜ work.rowWithin (now (s .entry)) g ≡ true ⌝ }
+{
+    if !given {
+        return Target::Row(0);
+    }
+    follow(t, s, m, r)
+}

@@ -62,6 +62,15 @@ pub fn member_begins(m: &[u64], t: &[u8], p: usize, o: u8) -> bool
     (set >> tag) & 1 == 1
 }
 
+// Whether the type of a row can begin with the tag of an octet.
+pub fn row_begins(m: &[u64], i: usize, o: u8) -> bool
+    ensures { λ r. ⌜ r ≡ work.bitOf (row.rowAt (now (m .entry)) i) (tagOf o) ⌝ }
+{
+    let set = kept(m, i);
+    let tag = der::tag_of(o);
+    (set >> tag) & 1 == 1
+}
+
 fn group_mask(m: &[u64], t: &[u8], s: &[usize], i: usize, n: usize) -> u64
     ensures { λ r. ⌜ r ≡ work.groupFrom (now (m .entry)) (now (t .entry)) (now (s .entry)) i n 0 ⌝ }
 {

@@ -35,10 +35,10 @@ use Rattle.value.proofs.Views.{none-some, leaf-view, wrapper-view}
 use Rattle.value.proofs.Laws.{Own, own, framed-by}
 
 -- ---- a row's type by its kind
-typed-choice : (k : ℕ) (e : Ty) (ms : Members) → k ≡ 13 → typed k e ms ≡ choice ms
+pub typed-choice : (k : ℕ) (e : Ty) (ms : Members) → k ≡ 13 → typed k e ms ≡ choice ms
 typed-choice k e ms h = rw h
 
-typed-sequence : (k : ℕ) (e : Ty) (ms : Members) → k ≡ 12 → typed k e ms ≡ sequence ms
+pub typed-sequence : (k : ℕ) (e : Ty) (ms : Members) → k ≡ 12 → typed k e ms ≡ sequence ms
 typed-sequence k e ms h = rw h
 
 list-kind : (k : ℕ) → isList k ≡ true → (eqb k 12 ≡ false) × (eqb k 13 ≡ false)
@@ -50,10 +50,10 @@ list-kind k e = go (eqb k 14) refl (eqb k 15) refl e
     go false p true q f = (rw (eqb-true k 15 q), rw (eqb-true k 15 q))
     go false p false q f = absurd (false≢true f)
 
-typed-list : (k : ℕ) (e : Ty) (ms : Members) → isList k ≡ true → typed k e ms ≡ listOf k e
+pub typed-list : (k : ℕ) (e : Ty) (ms : Members) → isList k ≡ true → typed k e ms ≡ listOf k e
 typed-list k e ms h = let w = list-kind k h in rw (w .0, w .1, h)
 
-typed-basic : (k : ℕ) (e : Ty) (ms : Members) → (k ≡ 13 → ⊥) → (k ≡ 12 → ⊥) → isList k ≡ false → typed k e ms ≡ basic k
+pub typed-basic : (k : ℕ) (e : Ty) (ms : Members) → (k ≡ 13 → ⊥) → (k ≡ 12 → ⊥) → isList k ≡ false → typed k e ms ≡ basic k
 typed-basic k e ms a b c = rw (ne-eqb k 12 b, ne-eqb k 13 a, c)
 
 -- ---- what bodies of one header say

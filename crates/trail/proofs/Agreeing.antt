@@ -22,9 +22,9 @@ use Rattle.value.proofs.Before.{before}
 use Rattle.reference.specs.Reference.{Index, position, fromEnd, count, all, Id, name, index}
 use Rattle.reference.specs.Named.{Held, value, missing, counted, absentNames, memberNamed, size, each, elementAt, elementFromEnd, inFields, inChosen, indexedBy, inElements, step, replaced, held, named}
 use Rattle.reference.specs.Numbers.{Component, stored, defaulted, tallied, component}
-use Rattle.engine.specs.Opened.{Opened, openedSpot, after, openAt}
-use Rattle.engine.specs.Trail.{Trail, done, fault, reach, then, orFault, eachFrom, countFrom, atPosition, positionFrom, Found, found, lacking, nothing, broken, orBroken, memberThen, findMember, findAlternative, ending, lackingTrail, onFound, fromLast, inMembers, alongIndex, inList, inValue, along, trail, faulty, reached}
-use Rattle.engine.proofs.Standing.{Stands, Elements, ends, goes, elements-stand, Members-in, none-left, there, lacks, members-stand, open-decoded, stands-start, stands-span}
+use Rattle.trail.specs.Opened.{Opened, openedSpot, after, openAt}
+use Rattle.trail.specs.Trail.{Trail, done, fault, reach, then, orFault, eachFrom, countFrom, atPosition, positionFrom, Found, found, lacking, nothing, broken, orBroken, memberThen, findMember, findAlternative, ending, lackingTrail, onFound, fromLast, inMembers, alongIndex, inList, inValue, along, trail, faulty, reached}
+use Rattle.trail.proofs.Standing.{Stands, Elements, ends, goes, elements-stand, Members-in, none-left, there, lacks, members-stand, open-decoded, stands-start, stands-span}
 
 -- ---- held values, and the walk that reaches their components and ends well
 held-none : (defaults : Bool) (is : List Id) → held defaults is [] ≡ []

@@ -13,7 +13,7 @@ use Rattle.table.specs.Begins.{isMandatory}
 use Rattle.value.specs.Decode.{startsHere}
 use Rattle.reference.specs.Reference.{Index, position, fromEnd, count, all, Id, name, index}
 use Rattle.reference.specs.Numbers.{Component, stored, defaulted, tallied}
-use Rattle.engine.specs.Opened.{Opened, openedSpot, after, openAt}
+use Rattle.trail.specs.Opened.{Opened, openedSpot, after, openAt}
 
 -- the components in the order in which the walk reaches them; it ends well, or in a fault
 pub data Trail : Type 0 where

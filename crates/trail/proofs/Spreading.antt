@@ -19,7 +19,7 @@ use Rattle.value.proofs.Laws.{lies-wider, Placed, placed}
 use Rattle.reference.specs.Reference.{Index, position, fromEnd, count, all, Id, name, index}
 use Rattle.reference.specs.Named.{Held, value, missing, counted, absentNames, memberNamed, size, each, elementAt, elementFromEnd, indexedBy, step, replaced, held, named}
 use Rattle.reference.specs.Numbers.{Component, component, numbersOf}
-use Rattle.engine.specs.Spread.{Spread}
+use Rattle.trail.specs.Spread.{Spread}
 
 -- held values that lie one after another from lo on, up to hi; a default or a count takes the two octets of the header at its place
 unfoldable Ranged : ℕ → ℕ → List Held → Type 0

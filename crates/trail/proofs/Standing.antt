@@ -22,7 +22,7 @@ use Rattle.value.specs.Value.{Spot, spotAt, spotOf, Value, Fields, endFields, p
 use Rattle.value.specs.Decode.{Decoded, afterOf, tagOctet, inside, inWrapper, startsHere, choiceOf, isDefault, presentThen, absentThen, nextThen, many, unwrapped, fieldsFrom, alternativeFrom, decode}
 use Rattle.value.proofs.Views.{none-some, some-same, pick-view, leaf-view, fields-view, elements-view, wrapper-view}
 use Rattle.value.proofs.Laws.{Own, own, many-end, many-zero, many-more, next-view, present-view, absent-view}
-use Rattle.engine.specs.Opened.{Opened, openedSpot, after, ownHeader, openedAs, openOwn, openAt}
+use Rattle.trail.specs.Opened.{Opened, openedSpot, after, ownHeader, openedAs, openOwn, openAt}
 
 -- ---- a value stands where it is opened
 pub record Stands (ty : Ty) (v : List ℕ) (o : Opened) (x : Value) : Type 0 where

@@ -1,0 +1,5 @@
+pub mod Laws
+pub mod IdSteps
+pub mod TargetSteps
+pub mod UnderSteps
+pub mod FollowSteps

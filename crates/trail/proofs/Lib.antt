@@ -1,0 +1,5 @@
+pub mod Standing
+pub mod Agreeing
+pub mod Spreading
+pub mod OpenSteps
+pub mod ListSteps

@@ -1,0 +1,173 @@
+-- Headers: one lemma for each return; its premises are the facts as the code has them.
+use mathlib.Core.Path.{_≡_, refl, sym, ap, ap₂, _∙_}
+use mathlib.Core.Bool.{Bool, true, false, not, true≢false}
+use mathlib.Core.Option.{Option, none, some}
+use mathlib.Core.List.{List}
+use Prim.Native.Nat.{ℕ, zero, suc, _≤_, _<_, _+_, _-_}
+use native.Mathlib.Omega.{arith}
+use borrow.Author.Tests.{not-true, not-false, eq-eqb, ne-eqb, eqb-true}
+use lib.ListN.{length}
+use lib.Dec.{eqb}
+use Rattle.octets.specs.Pick.{pick, bind}
+use Rattle.octets.specs.Octets.{octet}
+use Rattle.der.specs.Tag.{tagOf, wrapperOctet}
+use Rattle.der.specs.Header.{headerAt, insideAt, anyTag, opened}
+use Rattle.der.specs.declared.Header.{Header}
+use Rattle.der.specs.declared.Inside.{Inside}
+use Rattle.der.proofs.Laws.{tag-small, header-long, header-within, inside-long, inside-within, any-view}
+use Rattle.rows.specs.Row.{rowAt, kindAt, elementAt, typeRowAt, membersAt, modeAt, numberAt, isList}
+use Rattle.table.specs.Types.{Tagging, untagged, explicit, implicit, taggingOf, Ty, basic, sequence, choice, listOf, Members, membersFrom, typed, typeFrom}
+use Rattle.table.specs.Begins.{begins}
+use Rattle.table.specs.Work.{bitOf, Sound}
+use Rattle.value.specs.Decode.{tagOctet, inside, inWrapper}
+use Rattle.value.proofs.CheckSteps.{typed-choice, typed-sequence, typed-list, typed-basic}
+use Rattle.value.proofs.Views.{none-some, some-same, bind-view, pick-view, opened-view}
+use Rattle.trail.specs.Opened.{Opened, after, ownHeader, openedAs, openOwn, openAt}
+use Rattle.trail.specs.Work.{openingTold}
+use Rattle.trail.specs.declared.Opening.{Opening}
+
+module _ (chain : ℕ) (t s m : List ℕ) (row : ℕ) (ok : Sound chain t s m) (here : row < length s) where
+  abbrev element : Ty
+  element = typeFrom chain t s (elementAt t (rowAt s row))
+
+  abbrev parts : Members
+  parts = membersFrom (typeFrom chain t s) t s (row + 1) (membersAt t (rowAt s row))
+
+  -- ---- a value's own header
+  module _ (p k : ℕ) (placed : p ≡ rowAt s row) (read : k ≡ kindAt t p) (v : List ℕ) (at end mode number : ℕ) where
+    the-type : typeFrom chain t s row ≡ typed k element parts
+    the-type = ok .step row here ∙ ap (λ (x : ℕ). typed x element parts) (sym (read ∙ ap (kindAt t) placed))
+
+    pub own-plain : (o : ℕ) (r : Inside) → (k ≡ 13 → ⊥) → o ≡ tagOctet (taggingOf mode number) k → r ≡ insideAt o v at end → r ≡ ownHeader (typeFrom chain t s row) (taggingOf mode number) v at end
+    unfolding ownHeader
+    own-plain o r no-choice tag e = go (eqb k 12) refl (isList k) refl
+      where
+        at-tag : r ≡ insideAt (tagOctet (taggingOf mode number) k) v at end
+        at-tag = e ∙ ap (λ (x : ℕ). insideAt x v at end) tag
+
+        go : (x : Bool) → eqb k 12 ≡ x → (y : Bool) → isList k ≡ y → r ≡ ownHeader (typeFrom chain t s row) (taggingOf mode number) v at end
+        go true q y u = let j = eqb-true k 12 q in rw (the-type ∙ typed-sequence k element parts j) (at-tag ∙ ap (λ (x : ℕ). insideAt (tagOctet (taggingOf mode number) x) v at end) j)
+        go false q true u = rw (the-type ∙ typed-list k element parts u) at-tag
+        go false q false u = rw (the-type ∙ typed-basic k element parts no-choice (λ z. false-eq z q) u) at-tag
+          where
+            false-eq : k ≡ 12 → eqb k 12 ≡ false → ⊥
+            false-eq z w = true≢false (sym (eq-eqb k 12 z) ∙ w)
+
+    module _ (is-choice : k ≡ 13) (o : ℕ) (b : Bool) (octet-read : o ≡ octet v at) (marked : b ≡ bitOf (rowAt m row) (tagOf o)) where
+      can-begin : begins (choice parts) (tagOf (octet v at)) ≡ b
+      can-begin = ap (λ (ty : Ty). begins ty (tagOf (octet v at))) (sym (the-type ∙ typed-choice k element parts is-choice)) ∙ sym (ok .masked .says row here (tagOf (octet v at)) (tag-small (octet v at))) ∙ ap (λ (x : ℕ). bitOf (rowAt m row) (tagOf x)) (sym octet-read) ∙ sym marked
+
+      pub own-other-tag : not b ≡ true → Inside.Misfit ≡ ownHeader (typeFrom chain t s row) (taggingOf mode number) v at end
+      unfolding ownHeader
+      own-other-tag h = rw (the-type ∙ typed-choice k element parts is-choice, can-begin ∙ not-true b h)
+
+      pub own-chosen : (r : Inside) → not b ≡ false → r ≡ anyTag (headerAt v at end) → r ≡ ownHeader (typeFrom chain t s row) (taggingOf mode number) v at end
+      unfolding ownHeader
+      own-chosen r h e = rw (the-type ∙ typed-choice k element parts is-choice, can-begin ∙ not-false b h) e
+
+-- ---- opened
+module _ (ty : Ty) (v : List ℕ) (at end mode number : ℕ) (h : Inside) (told : h ≡ ownHeader ty (taggingOf mode number) v at end) where
+  pub open-misfit : h ≡ Inside.Misfit → none ≡ openOwn ty (taggingOf mode number) v at end
+  open-misfit e = ap (λ (i : Inside). opened i (openedAs at)) (sym e ∙ told)
+
+  pub open-is : (start n : ℕ) → h ≡ Inside.Of start n → some (record { place = at; start = start; span = n }) ≡ openOwn ty (taggingOf mode number) v at end
+  open-is start n e = ap (λ (i : Inside). opened i (openedAs at)) (sym e ∙ told)
+
+module _ (ty : Ty) (v : List ℕ) (at end number : ℕ) where
+  in-wrapper : openAt ty (taggingOf 1 number) v at end ≡ opened (insideAt (wrapperOctet number) v at end) (inside after (openOwn ty (taggingOf 1 number) v))
+  unfolding openAt inWrapper taggingOf
+  in-wrapper = refl
+
+  module _ (o : ℕ) (h : Inside) (tag : o ≡ wrapperOctet number) (opening : h ≡ insideAt o v at end) where
+    wrapper : (i : Inside) → h ≡ i → insideAt (wrapperOctet number) v at end ≡ i
+    wrapper i e = ap (λ (x : ℕ). insideAt x v at end) (sym tag) ∙ sym opening ∙ e
+
+    pub wrapped-misfit : h ≡ Inside.Misfit → none ≡ openAt ty (taggingOf 1 number) v at end
+    wrapped-misfit e = sym (in-wrapper ∙ ap (λ (i : Inside). opened i (inside after (openOwn ty (taggingOf 1 number) v))) (wrapper Inside.Misfit e))
+
+    module _ (from k : ℕ) (found : h ≡ Inside.Of from k) (g : Inside) (inner : g ≡ ownHeader ty (taggingOf 1 number) v from (from + k)) where
+      filling : openAt ty (taggingOf 1 number) v at end ≡ bind (opened g (openedAs from)) (λ x. pick (eqb (after x) (from + k)) (some x) none)
+      filling = in-wrapper ∙ ap (λ (i : Inside). opened i (inside after (openOwn ty (taggingOf 1 number) v))) (wrapper (Inside.Of from k) found)
+          ∙ ap (λ (i : Inside). bind (opened i (openedAs from)) (λ x. pick (eqb (after x) (from + k)) (some x) none)) (sym inner)
+
+      pub wrapped-inner : g ≡ Inside.Misfit → none ≡ openAt ty (taggingOf 1 number) v at end
+      wrapped-inner e = sym (filling ∙ ap (λ (i : Inside). bind (opened i (openedAs from)) (λ x. pick (eqb (after x) (from + k)) (some x) none)) e)
+
+      module _ (start n : ℕ) (there : g ≡ Inside.Of start n) where
+        whole : openAt ty (taggingOf 1 number) v at end ≡ pick (eqb (start + n) (from + k)) (some (record { place = from; start = start; span = n })) none
+        whole = filling ∙ ap (λ (i : Inside). bind (opened i (openedAs from)) (λ x. pick (eqb (after x) (from + k)) (some x) none)) there
+
+        pub wrapped-surplus : (start + n ≡ from + k → ⊥) → none ≡ openAt ty (taggingOf 1 number) v at end
+        wrapped-surplus f = sym (whole ∙ ap (λ (x : Bool). pick x (some (record { place = from; start = start; span = n })) none) (ne-eqb (start + n) (from + k) f))
+
+        pub wrapped-filled : start + n ≡ from + k → some (record { place = from; start = start; span = n }) ≡ openAt ty (taggingOf 1 number) v at end
+        wrapped-filled f = sym (whole ∙ ap (λ (x : Bool). pick x (some (record { place = from; start = start; span = n })) none) (eq-eqb (start + n) (from + k) f))
+
+-- ---- under a tag mode
+module _ (ty : Ty) (v : List ℕ) (at end mode number : ℕ) (r : Option Opened) where
+  pub at-explicit : mode ≡ 1 → r ≡ openAt ty (taggingOf 1 number) v at end → r ≡ openAt ty (taggingOf mode number) v at end
+  at-explicit h e = e ∙ ap (λ (x : ℕ). openAt ty (taggingOf x number) v at end) (sym h)
+
+  pub at-other : (mode ≡ 1 → ⊥) → r ≡ openOwn ty (taggingOf mode number) v at end → r ≡ openAt ty (taggingOf mode number) v at end
+  unfolding openAt inWrapper taggingOf
+  at-other h e = rw (ne-eqb mode 1 h) (go (eqb mode 0) (rw (ne-eqb mode 1 h) at e))
+    where
+      go : (x : Bool) → r ≡ openOwn ty (pick x untagged (implicit number)) v at end → r ≡ inWrapper after (pick x untagged (implicit number)) (openOwn ty (pick x untagged (implicit number)) v) v at end
+      go true q = q
+      go false q = q
+
+-- ---- of a member row, whose parts the code has read
+module _ (chain : ℕ) (t s : List ℕ) (row p target : ℕ) (placed : p ≡ rowAt s row) (targeted : target ≡ typeRowAt t p) where
+  the-row : target ≡ typeRowAt t (rowAt s row)
+  the-row = targeted ∙ ap (typeRowAt t) placed
+
+  pub member-here : typeRowAt t (rowAt s row) < length s → target < length s
+  member-here h = rw the-row h
+
+  pub member-opened : (v : List ℕ) (at end mode number : ℕ) (r : Option Opened) → mode ≡ modeAt t p → number ≡ numberAt t p → r ≡ openAt (typeFrom chain t s target) (taggingOf mode number) v at end
+      → r ≡ openAt (typeFrom chain t s (typeRowAt t (rowAt s row))) (taggingOf (modeAt t (rowAt s row)) (numberAt t (rowAt s row))) v at end
+  member-opened v at end mode number r moded numbered e = e ∙ rw (the-row, (moded ∙ ap (modeAt t) placed), (numbered ∙ ap (numberAt t) placed))
+
+-- ---- what is opened lies behind its place, within the end, and takes at least two octets
+own-long : (ty : Ty) (g : Tagging) (v : List ℕ) (at end start n : ℕ) → ownHeader ty g v at end ≡ Inside.Of start n → (at + 2 ≤ start + n) × (start + n ≤ end)
+unfolding ownHeader
+own-long (basic k) g v at end start n e = (let a = inside-long (tagOctet g k) v at end start n e in omega arith, inside-within (tagOctet g k) v at end start n e)
+own-long (sequence ms) g v at end start n e = (let a = inside-long (tagOctet g 12) v at end start n e in omega arith, inside-within (tagOctet g 12) v at end start n e)
+own-long (choice ms) g v at end start n e = go (begins (choice ms) (tagOf (octet v at))) e
+  where
+    go : (x : Bool) → pick x (anyTag (headerAt v at end)) Inside.Misfit ≡ Inside.Of start n → (at + 2 ≤ start + n) × (start + n ≤ end)
+    go true f = let h = any-view v at end start n f in (let a = header-long v at end (octet v at) start n h in omega arith, header-within v at end (octet v at) start n h)
+    go false f = absurd (let z : _≡_ {A = ℕ} 0 1 = cc in omega arith)
+own-long (listOf k ty) g v at end start n e = (let a = inside-long (tagOctet g k) v at end start n e in omega arith, inside-within (tagOctet g k) v at end start n e)
+
+pub inside-fits : (o : ℕ) (v : List ℕ) (at end start n : ℕ) (h : Inside) → h ≡ insideAt o v at end → h ≡ Inside.Of start n → end < 18446744073709551616 → start + n < 18446744073709551616
+inside-fits o v at end start n h e q l = let w = inside-within o v at end start n (sym e ∙ q) in omega arith
+
+-- what is opened inside an end that is one of the language's numbers
+pub own-fits : (ty : Ty) (g : Tagging) (v : List ℕ) (at end start n : ℕ) (h : Inside) → h ≡ ownHeader ty g v at end → h ≡ Inside.Of start n → end < 18446744073709551616 → start + n < 18446744073709551616
+own-fits ty g v at end start n h e q l = let w = own-long ty g v at end start n (sym e ∙ q) .1 in omega arith
+
+plain-long : (ty : Ty) (g : Tagging) (v : List ℕ) (at end : ℕ) (o : Opened) → openOwn ty g v at end ≡ some o → (at + 2 ≤ after o) × (after o ≤ end)
+plain-long ty g v at end o e =
+    let w = opened-view (ownHeader ty g v at end) (openedAs at) o e in
+    let l = own-long ty g v at end (w .0) (w .1) (w .2) in
+    let q : w .0 + w .1 ≡ after o = ap after (some-same _ o (w .3)) in
+    let a = l .0 in
+    let b = l .1 in
+    (omega arith, omega arith)
+
+pub open-long : (ty : Ty) (g : Tagging) (v : List ℕ) (at end : ℕ) (o : Opened) → openAt ty g v at end ≡ some o → (at + 2 ≤ after o) × (after o ≤ end)
+unfolding openAt inWrapper
+open-long ty untagged v at end o e = plain-long ty untagged v at end o e
+open-long ty (implicit n) v at end o e = plain-long ty (implicit n) v at end o e
+open-long ty (explicit n) v at end o e =
+    let w = opened-view (insideAt (wrapperOctet n) v at end) (inside after (openOwn ty (explicit n) v)) o e in
+    let b = bind-view (openOwn ty (explicit n) v (w .0) (w .0 + w .1)) (λ x. pick (eqb (after x) (w .0 + w .1)) (some x) none) o (w .3) in
+    let p = pick-view (eqb (after (b .0)) (w .0 + w .1)) (b .0) o (b .2) in
+    let q : after o ≡ w .0 + w .1 = ap after (sym (p .1)) ∙ eqb-true (after (b .0)) (w .0 + w .1) (p .0) in
+    let x = inside-long (wrapperOctet n) v at end (w .0) (w .1) (w .2) in
+    let y = inside-within (wrapperOctet n) v at end (w .0) (w .1) (w .2) in
+    (omega arith, omega arith)
+
+pub wrapped-fits : (o : ℕ) (ty : Ty) (g : Tagging) (v : List ℕ) (at end from k start n : ℕ) (h i : Inside) → h ≡ insideAt o v at end → h ≡ Inside.Of from k → end < 18446744073709551616 → i ≡ ownHeader ty g v from (from + k) → i ≡ Inside.Of start n → start + n < 18446744073709551616
+wrapped-fits o ty g v at end from k start n h i e q l f r = let w = own-long ty g v from (from + k) start n (sym f ∙ r) .1 in let x = inside-within o v at end from k (sym e ∙ q) in omega arith
