@@ -3,3 +3,4 @@ pub mod Agreeing
 pub mod Spreading
 pub mod OpenSteps
 pub mod ListSteps
+pub mod FindSteps
