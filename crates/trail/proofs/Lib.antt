@@ -4,3 +4,4 @@ pub mod Spreading
 pub mod OpenSteps
 pub mod ListSteps
 pub mod FindSteps
+pub mod ChosenSteps

@@ -34,6 +34,10 @@ foundTold chain t s (Found.Lacking row) = trail.lacking (memberOf t row (rowAt s
 foundTold chain t s Found.Nothing = trail.nothing
 foundTold chain t s Found.Broken = trail.broken
 
+-- the alternative that can begin here, if it has the name
+abbrev pub chosenAs : Bool → Ty → Option Opened → trail.Found
+chosenAs named ty o = pick named (trail.orBroken (trail.found ty) o) trail.nothing
+
 -- one member on the way to the one with the name x: the next place, or what is found
 pub data Looked : Type 0 where
   onward : ℕ → Looked

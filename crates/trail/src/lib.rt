@@ -345,3 +345,56 @@ pub fn find_member(
     }
     Found::Nothing
 }
+
+// ---- alternatives of a CHOICE
+// The alternative of a member row that can begin here, if its name stands from a to b.
+fn look_chosen(
+    t: &[u8],
+    s: &[usize],
+    m: &[u64],
+    v: &[u8],
+    row: usize,
+    r: &[u8],
+    a: usize,
+    b: usize,
+    at: usize,
+    stop: usize,
+) -> Found
+    requires sound { do ⌜ Sound (← ⟦rows::Table::MAX_CHAIN⟧) (now t) (now s) (now m) ⌝ }
+    requires target { ⌜ typeRowAt (now t) (rowAt (now s) row) < length (now s) ⌝ }
+    ensures { λ f. do ⌜ work.foundTold (← ⟦rows::Table::MAX_CHAIN⟧ .entry) (now (t .entry)) (now (s .entry)) f ≡ work.chosenAs (same (unfilled (nameAt (now (t .entry)) (rowAt (now (s .entry)) row))) (part (now (r .entry)) a (b - a))) (typeFrom (← ⟦rows::Table::MAX_CHAIN⟧ .entry) (now (t .entry)) (now (s .entry)) (typeRowAt (now (t .entry)) (rowAt (now (s .entry)) row))) (openAt (typeFrom (← ⟦rows::Table::MAX_CHAIN⟧ .entry) (now (t .entry)) (now (s .entry)) (typeRowAt (now (t .entry)) (rowAt (now (s .entry)) row))) (taggingOf (modeAt (now (t .entry)) (rowAt (now (s .entry)) row)) (numberAt (now (t .entry)) (rowAt (now (s .entry)) row))) (now (v .entry)) at stop) ⌝ }
+{
+    let p = rows::row_at(s, row);
+    if !reference::is_named(t, p, r, a, b) {
+        return Found::Nothing;
+    }
+    let Opening::Of(place, start, span) = open_member(t, s, m, v, row, at, stop) else {
+        return Found::Broken;
+    };
+    Found::At(rows::type_row_at(t, p), place, start, span)
+}
+
+// The alternative of a CHOICE's row that can begin at a place, if its name stands from a to b.
+pub fn find_chosen(
+    t: &[u8],
+    s: &[usize],
+    m: &[u64],
+    v: &[u8],
+    row: usize,
+    r: &[u8],
+    a: usize,
+    b: usize,
+    at: usize,
+    stop: usize,
+) -> Found
+    requires sound { do ⌜ Sound (← ⟦rows::Table::MAX_CHAIN⟧) (now t) (now s) (now m) ⌝ }
+    requires here { ⌜ row < length (now s) ⌝ }
+    ensures { λ f. do ⌜ work.foundTold (← ⟦rows::Table::MAX_CHAIN⟧ .entry) (now (t .entry)) (now (s .entry)) f ≡ trail.findAlternative (part (now (r .entry)) a (b - a)) (membersFrom (typeFrom (← ⟦rows::Table::MAX_CHAIN⟧ .entry) (now (t .entry)) (now (s .entry))) (now (t .entry)) (now (s .entry)) (row + 1) (membersAt (now (t .entry)) (rowAt (now (s .entry)) row))) (now (v .entry)) stop at ⌝ }
+{
+    let n = rows::members_at(t, rows::row_at(s, row));
+    let j = value::find_alternative(t, s, m, v, row, n, at, stop);
+    if n <= j {
+        return Found::Broken;
+    }
+    look_chosen(t, s, m, v, row + 1 + j, r, a, b, at, stop)
+}
