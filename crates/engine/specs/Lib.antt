@@ -1,4 +1,5 @@
 pub mod Limits
+pub mod Run
 pub mod Truth
 pub mod Reading
 pub mod Assertion

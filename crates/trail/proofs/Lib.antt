@@ -3,3 +3,5 @@ pub mod Agreeing
 pub mod Spreading
 pub mod OpenSteps
 pub mod ListSteps
+pub mod FindSteps
+pub mod ChosenSteps

@@ -3,10 +3,15 @@ use der::Inside;
 ghost use mathlib.Core.Path.{_≡_};
 ghost use Prim.Native.Nat.{_≤_, _<_, _+_, _-_};
 ghost use lib.ListN.{length};
-ghost use Rattle.rows.specs.Row.{rowAt, typeRowAt, modeAt, numberAt};
-ghost use Rattle.table.specs.Types.{untagged, taggingOf, typeFrom};
+ghost use lib.Dec.{eqb};
+ghost use Rattle.octets.specs.Pick.{pick, either};
+ghost use Rattle.octets.specs.Octets.{part, same};
+ghost use Rattle.rows.specs.Row.{rowAt, kindAt, nameAt, typeRowAt, modeAt, numberAt, presenceAt, membersAt};
+ghost use Rattle.table.specs.Types.{untagged, taggingOf, unfilled, memberOf, membersFrom, typeFrom};
 ghost use Rattle.table.specs.Work.{Sound};
 ghost use Rattle.trail.specs.Opened.{ownHeader, openOwn, openAt};
+ghost use Rattle.value.specs.Work.{marked};
+ghost use Rattle.trail.specs.Trail as trail;
 ghost use Rattle.trail.specs.Trail.{countFrom};
 ghost use Rattle.trail.specs.Work as work;
 
@@ -27,6 +32,23 @@ pub enum Nth {
     Of(usize, usize, usize),
     Past,
     Misfit,
+}
+
+// The member or alternative with a name: the row of its type and where it stands; a member that is absent, by its row; none, or an alternative not
+// chosen; or a header that doesn't fit.
+pub enum Found {
+    At(usize, usize, usize, usize),
+    Lacking(usize),
+    Nothing,
+    Broken,
+}
+
+// One member on the way to the one with a name: the next place, or what is found.
+enum Look {
+    Next(usize),
+    At(usize, usize, usize, usize),
+    Lacking(usize),
+    Broken,
 }
 
 // ---- headers
@@ -215,4 +237,164 @@ pub fn nth_element(
         left = less_one(left);
     }
     Nth::Past
+}
+
+// ---- members of a SEQUENCE
+// Whether the member row at p has to be there, or can begin here.
+fn is_there(t: &[u8], m: &[u64], p: usize, v: &[u8], stop: usize, i: usize) -> bool
+    ensures { λ r. ⌜ r ≡ either (eqb (presenceAt (now (t .entry)) p) 0) (marked (now (m .entry)) (now (t .entry)) p (now (v .entry)) stop i) ⌝ }
+{
+    if rows::presence_at(t, p) == 0 {
+        return true;
+    }
+    value::starts_here(t, m, p, v, stop, i)
+}
+
+// A member that is there.
+fn look_there(
+    t: &[u8],
+    s: &[usize],
+    m: &[u64],
+    v: &[u8],
+    row: usize,
+    r: &[u8],
+    a: usize,
+    b: usize,
+    i: usize,
+    stop: usize,
+) -> Look
+    requires sound { do ⌜ Sound (← ⟦rows::Table::MAX_CHAIN⟧) (now t) (now s) (now m) ⌝ }
+    requires target { ⌜ typeRowAt (now t) (rowAt (now s) row) < length (now s) ⌝ }
+    ensures { λ l. do ⌜ work.lookTold (← ⟦rows::Table::MAX_CHAIN⟧ .entry) (now (t .entry)) (now (s .entry)) l ≡ work.orBroken (work.thereOr (same (unfilled (nameAt (now (t .entry)) (rowAt (now (s .entry)) row))) (part (now (r .entry)) a (b - a))) (typeFrom (← ⟦rows::Table::MAX_CHAIN⟧ .entry) (now (t .entry)) (now (s .entry)) (typeRowAt (now (t .entry)) (rowAt (now (s .entry)) row)))) (openAt (typeFrom (← ⟦rows::Table::MAX_CHAIN⟧ .entry) (now (t .entry)) (now (s .entry)) (typeRowAt (now (t .entry)) (rowAt (now (s .entry)) row))) (taggingOf (modeAt (now (t .entry)) (rowAt (now (s .entry)) row)) (numberAt (now (t .entry)) (rowAt (now (s .entry)) row))) (now (v .entry)) i stop) ⌝ }
+{
+    let p = rows::row_at(s, row);
+    let Opening::Of(place, start, span) = open_member(t, s, m, v, row, i, stop) else {
+        return Look::Broken;
+    };
+    if reference::is_named(t, p, r, a, b) {
+        return Look::At(rows::type_row_at(t, p), place, start, span);
+    }
+    Look::Next(start + span)
+}
+
+// A member that is not there.
+fn look_absent(t: &[u8], s: &[usize], row: usize, r: &[u8], a: usize, b: usize, i: usize) -> Look
+    ensures { λ l. do ⌜ work.lookTold (← ⟦rows::Table::MAX_CHAIN⟧ .entry) (now (t .entry)) (now (s .entry)) l ≡ pick (same (unfilled (nameAt (now (t .entry)) (rowAt (now (s .entry)) row))) (part (now (r .entry)) a (b - a))) (work.landed (trail.lacking (memberOf (now (t .entry)) row (rowAt (now (s .entry)) row)))) (work.onward i) ⌝ }
+{
+    if reference::is_named(t, rows::row_at(s, row), r, a, b) {
+        return Look::Lacking(row);
+    }
+    Look::Next(i)
+}
+
+// The member of a row at a place, on the way to the one whose name stands from a to b.
+fn look_member(
+    t: &[u8],
+    s: &[usize],
+    m: &[u64],
+    v: &[u8],
+    row: usize,
+    r: &[u8],
+    a: usize,
+    b: usize,
+    i: usize,
+    stop: usize,
+) -> Look
+    requires sound { do ⌜ Sound (← ⟦rows::Table::MAX_CHAIN⟧) (now t) (now s) (now m) ⌝ }
+    requires here { ⌜ row < length (now s) ⌝ }
+    requires member { ⌜ kindAt (now t) (rowAt (now s) row) ≡ 16 ⌝ }
+    requires target { ⌜ typeRowAt (now t) (rowAt (now s) row) < length (now s) ⌝ }
+    ensures { λ l. do ⌜ work.lookTold (← ⟦rows::Table::MAX_CHAIN⟧ .entry) (now (t .entry)) (now (s .entry)) l ≡ work.memberLook (part (now (r .entry)) a (b - a)) (memberOf (now (t .entry)) row (rowAt (now (s .entry)) row)) (typeFrom (← ⟦rows::Table::MAX_CHAIN⟧ .entry) (now (t .entry)) (now (s .entry)) (typeRowAt (now (t .entry)) (rowAt (now (s .entry)) row))) (now (v .entry)) stop i ⌝ }
+{
+    if is_there(t, m, rows::row_at(s, row), v, stop, i) {
+        return look_there(t, s, m, v, row, r, a, b, i, stop);
+    }
+    look_absent(t, s, row, r, a, b, i)
+}
+
+// The member of a SEQUENCE's row whose name stands from a to b, among its members from start up to stop.
+pub fn find_member(
+    t: &[u8],
+    s: &[usize],
+    m: &[u64],
+    v: &[u8],
+    row: usize,
+    r: &[u8],
+    a: usize,
+    b: usize,
+    start: usize,
+    stop: usize,
+) -> Found
+    requires sound { do ⌜ Sound (← ⟦rows::Table::MAX_CHAIN⟧) (now t) (now s) (now m) ⌝ }
+    requires here { ⌜ row < length (now s) ⌝ }
+    ensures { λ f. do ⌜ work.foundTold (← ⟦rows::Table::MAX_CHAIN⟧ .entry) (now (t .entry)) (now (s .entry)) f ≡ trail.findMember (part (now (r .entry)) a (b - a)) (membersFrom (typeFrom (← ⟦rows::Table::MAX_CHAIN⟧ .entry) (now (t .entry)) (now (s .entry))) (now (t .entry)) (now (s .entry)) (row + 1) (membersAt (now (t .entry)) (rowAt (now (s .entry)) row))) (now (v .entry)) stop start ⌝ }
+{
+    let n = rows::members_at(t, rows::row_at(s, row));
+    let mut i = start;
+    let mut j = 0;
+    while j < n {
+        match look_member(t, s, m, v, row + 1 + j, r, a, b, i, stop) {
+            Look::Next(next) => {
+                i = next;
+                j += 1;
+            }
+            Look::At(target, place, from, span) => return Found::At(target, place, from, span),
+            Look::Lacking(absent) => return Found::Lacking(absent),
+            Look::Broken => return Found::Broken,
+        }
+    }
+    Found::Nothing
+}
+
+// ---- alternatives of a CHOICE
+// The alternative of a member row that can begin here, if its name stands from a to b.
+fn look_chosen(
+    t: &[u8],
+    s: &[usize],
+    m: &[u64],
+    v: &[u8],
+    row: usize,
+    r: &[u8],
+    a: usize,
+    b: usize,
+    at: usize,
+    stop: usize,
+) -> Found
+    requires sound { do ⌜ Sound (← ⟦rows::Table::MAX_CHAIN⟧) (now t) (now s) (now m) ⌝ }
+    requires target { ⌜ typeRowAt (now t) (rowAt (now s) row) < length (now s) ⌝ }
+    ensures { λ f. do ⌜ work.foundTold (← ⟦rows::Table::MAX_CHAIN⟧ .entry) (now (t .entry)) (now (s .entry)) f ≡ work.chosenAs (same (unfilled (nameAt (now (t .entry)) (rowAt (now (s .entry)) row))) (part (now (r .entry)) a (b - a))) (typeFrom (← ⟦rows::Table::MAX_CHAIN⟧ .entry) (now (t .entry)) (now (s .entry)) (typeRowAt (now (t .entry)) (rowAt (now (s .entry)) row))) (openAt (typeFrom (← ⟦rows::Table::MAX_CHAIN⟧ .entry) (now (t .entry)) (now (s .entry)) (typeRowAt (now (t .entry)) (rowAt (now (s .entry)) row))) (taggingOf (modeAt (now (t .entry)) (rowAt (now (s .entry)) row)) (numberAt (now (t .entry)) (rowAt (now (s .entry)) row))) (now (v .entry)) at stop) ⌝ }
+{
+    let p = rows::row_at(s, row);
+    if !reference::is_named(t, p, r, a, b) {
+        return Found::Nothing;
+    }
+    let Opening::Of(place, start, span) = open_member(t, s, m, v, row, at, stop) else {
+        return Found::Broken;
+    };
+    Found::At(rows::type_row_at(t, p), place, start, span)
+}
+
+// The alternative of a CHOICE's row that can begin at a place, if its name stands from a to b.
+pub fn find_chosen(
+    t: &[u8],
+    s: &[usize],
+    m: &[u64],
+    v: &[u8],
+    row: usize,
+    r: &[u8],
+    a: usize,
+    b: usize,
+    at: usize,
+    stop: usize,
+) -> Found
+    requires sound { do ⌜ Sound (← ⟦rows::Table::MAX_CHAIN⟧) (now t) (now s) (now m) ⌝ }
+    requires here { ⌜ row < length (now s) ⌝ }
+    ensures { λ f. do ⌜ work.foundTold (← ⟦rows::Table::MAX_CHAIN⟧ .entry) (now (t .entry)) (now (s .entry)) f ≡ trail.findAlternative (part (now (r .entry)) a (b - a)) (membersFrom (typeFrom (← ⟦rows::Table::MAX_CHAIN⟧ .entry) (now (t .entry)) (now (s .entry))) (now (t .entry)) (now (s .entry)) (row + 1) (membersAt (now (t .entry)) (rowAt (now (s .entry)) row))) (now (v .entry)) stop at ⌝ }
+{
+    let n = rows::members_at(t, rows::row_at(s, row));
+    let j = value::find_alternative(t, s, m, v, row, n, at, stop);
+    if n <= j {
+        return Found::Broken;
+    }
+    look_chosen(t, s, m, v, row + 1 + j, r, a, b, at, stop)
 }

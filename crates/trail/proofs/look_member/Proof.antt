@@ -1,0 +1,15 @@
+use Rattle.trail.proofs.FindSteps.{look-is-there, look-is-absent}
+use borrow.Author.Needs.{needs}
+use Rattle.trail.proofs.look_member.Statement.{statement}
+use Rattle.trail.proofs.look_member.Tie as tie
+
+pub look-member-spec : {M : Type 1} → statement M
+look-member-spec =
+    tie.close
+    (tie.spec
+    (λ c κs. search needs)  -- row-at-requires
+    (λ c κs. search needs)  -- is-there-requires
+    (λ c κs. search needs)  -- look-there-requires
+    (λ c. search look-is-there)  -- returns
+    (λ c κs. search needs)  -- look-absent-requires
+    (λ c. search look-is-absent))  -- returns-2
