@@ -18,7 +18,7 @@ use Rattle.assertion.proofs.Laws.{some-is, none-not, if-some, bind-some}
 use Rattle.assertion.proofs.Progress.{Further}
 use Rattle.filter.specs.Limits.{Limits}
 use Rattle.filter.specs.Filter.{Join, Filter, Filters, item, list, inverse, endFilters, next, depth, items}
-use Rattle.filter.specs.Parse.{Head, assertion, emptyList, openList, negation, noHead, headAt, Tail, another, closed, noTail, tailAt, made, byHead, byTail, afterFirst, filterFrom, filtersFrom, filterAt, filtersAt, ifWhole, withinLimits, whole, parse}
+use Rattle.filter.specs.Parse.{Head, assertion, emptyList, openList, negation, noHead, headAt, Tail, another, closed, noTail, tailAt, made, byHead, byTail, afterFirst, filterFrom, filtersFrom, filterAt, filtersAt, ifWhole, withinLimits, whole, parse, parseWithin}
 use Rattle.filter.specs.Answers.{counted}
 use Rattle.filter.proofs.Progress.{read-on, from-on, list-on, head-on, same-head, same-first, same-filter, same-filters}
 
@@ -119,9 +119,9 @@ whole-read s f e = go (utf8 s) refl e
     go false u e = absurd (none-not e)
 
 pub parse-read : (l : Limits) (s : List ℕ) (f : Filter) → parse l s ≡ some f → ((utf8 s ≡ true) × (filterAt s 0 ≡ readTo f (length s))) × ((depth f ≤ l .depth) × (items f ≤ l .items))
-unfolding parse
+unfolding parseWithin
 parse-read l s f e =
-    let z = bind-some (whole s) (withinLimits l) f e in
+    let z = bind-some (whole s) (withinLimits (l .depth) (l .items)) f e in
     let g = z .0 in
     let y = if-some (both (leb (depth g) (l .depth)) (leb (items g) (l .items))) g f (z .1 .1) in
     let t = both-true (leb (depth g) (l .depth)) (leb (items g) (l .items)) (y .0) in

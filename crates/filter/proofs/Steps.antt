@@ -23,7 +23,7 @@ use Rattle.assertion.specs.declared.Parts.{Parts}
 use Rattle.assertion.proofs.Laws.{at-place, at-none, word-there, word-not}
 use Rattle.filter.specs.Filter as filter
 use Rattle.filter.specs.Filter.{Filter, item, depth, items}
-use Rattle.filter.specs.Parse.{inBraces, headAt, tailAt, made, byTail, filterAt, filtersAt, ifWhole, withinLimits, whole, parse, assertion, emptyList, openList, negation, noHead, another, closed, noTail}
+use Rattle.filter.specs.Parse.{inBraces, headAt, tailAt, made, byTail, filterAt, filtersAt, ifWhole, withinLimits, whole, parse, parseWithin, assertion, emptyList, openList, negation, noHead, another, closed, noTail}
 use Rattle.filter.specs.Limits.{Limits}
 use Rattle.filter.specs.Answers.{joinOf, headOf, tailOf, bounded, boundedIn, limits, counted}
 use Rattle.filter.proofs.Progress.{TailOn, tail-on}
@@ -190,7 +190,7 @@ module _ (s : List ℕ) (at d room i left : ℕ) (inv : Listed s at d room i lef
 -- ---- the whole text
 -- of a filter that was read at the start of a text, what is one of the whole text and within the limits
 abbrev ofWhole : List ℕ → Limits → Option (Read Filter) → Option Filter
-ofWhole s l x = bind (bind x (ifWhole s)) (withinLimits l)
+ofWhole s l x = bind (bind x (ifWhole s)) (withinLimits (l .depth) (l .items))
 
 whole-bad : (s : List ℕ) (l : Limits) (x : Option (Read Filter)) → Span.Bad ≡ bounded (l .depth) (l .items) x → none ≡ counted (ofWhole s l x)
 unfolding bounded
@@ -202,7 +202,7 @@ whole-bad s l (some r) e = whole (eqb (r .after) (length s))
     fits true false e = refl
     fits false b e = refl
 
-    whole : (t : Bool) → none ≡ counted (bind (pick t (some (r .is)) none) (withinLimits l))
+    whole : (t : Bool) → none ≡ counted (bind (pick t (some (r .is)) none) (withinLimits (l .depth) (l .items)))
     whole true = fits (leb (depth (r .is)) (l .depth)) (leb (items (r .is)) (l .items)) e
     whole false = refl
 
@@ -214,12 +214,12 @@ read-left d room x y end left e q =
 
 module _ (s : List ℕ) (most deepest many : ℕ) (u : Bool) (valid : u ≡ utf8 s) where
   pub read-other : not u ≡ true → none ≡ counted (parse (limits most deepest many) s)
-  unfolding parse whole
+  unfolding parseWithin whole
   read-other h = rw (sym valid ∙ not-true u h)
 
   module _ (h : not u ≡ false) (x : Span) (e : x ≡ bounded deepest many (filterAt s 0)) where
     parsed : parse (limits most deepest many) s ≡ ofWhole s (limits most deepest many) (filterAt s 0)
-    unfolding parse whole
+    unfolding parseWithin whole
     parsed = rw (sym valid ∙ not-false u h)
 
     pub read-bad : x ≡ Span.Bad → none ≡ counted (parse (limits most deepest many) s)

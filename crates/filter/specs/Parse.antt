@@ -90,8 +90,8 @@ filtersAt s at = filtersFrom (length s + 2) s at
 abbrev pub ifWhole : List ℕ → Read Filter → Option Filter
 ifWhole s p = pick (eqb (p .after) (length s)) (some (p .is)) none
 
-abbrev pub withinLimits : Limits → Filter → Option Filter
-withinLimits l f = pick (both (leb (depth f) (l .depth)) (leb (items f) (l .items))) (some f) none
+abbrev pub withinLimits : ℕ → ℕ → Filter → Option Filter
+withinLimits deepest many f = pick (both (leb (depth f) deepest) (leb (items f) many)) (some f) none
 
 -- refusal 1: the text's size
 unfoldable pub filterFits : Limits → List ℕ → Bool
@@ -101,5 +101,9 @@ filterFits l s = inRange 1 (l .bytes) (length s)
 unfoldable pub whole : List ℕ → Option Filter
 whole s = pick (utf8 s) (bind (filterAt s 0) (ifWhole s)) none
 
-unfoldable pub parse : Limits → List ℕ → Option Filter
-parse l s = bind (whole s) (withinLimits l)
+-- within a depth and so many items
+unfoldable pub parseWithin : ℕ → ℕ → List ℕ → Option Filter
+parseWithin deepest many s = bind (whole s) (withinLimits deepest many)
+
+abbrev pub parse : Limits → List ℕ → Option Filter
+parse l s = parseWithin (l .depth) (l .items) s

@@ -37,6 +37,29 @@ pub ids-over : (r : List ℕ) (k : ℕ) → length r < k → idsAt r k ≡ some 
 unfolding idsAt
 ids-over r k h = rw (lt-leb k (length r) h)
 
+-- ---- a reference has an identifier
+pieces-some : (s : List ℕ) → (p : List ℕ) × (ps : List (List ℕ)) × (pieces s ≡ p ∷ ps)
+pieces-some [] = ([], [], pieces-nil)
+pieces-some (b ∷ s) = go (eqb b 46) (pieces s) (pieces-cons b s)
+  where
+    go : (u : Bool) (qs : List (List ℕ)) → pieces (b ∷ s) ≡ pick u ([] ∷ qs) (ontoFirst b qs) → (p : List ℕ) × (ps : List (List ℕ)) × (pieces (b ∷ s) ≡ p ∷ ps)
+    go true qs e = ([], qs, e)
+    go false [] e = (b ∷ [], [], e)
+    go false (q ∷ qs) e = (b ∷ q, qs, e)
+
+pub read-some : (s : List ℕ) (is : List Id) → readReference s ≡ some is → (i : Id) × (js : List Id) × (is ≡ i ∷ js)
+unfolding readReference idsOf
+read-some s is e = let w = pieces-some s in go (idOf (w .0)) (idsOf (w .1)) (sym (ap idsOf (w .2)) ∙ e)
+  where
+    go : (o : Option Id) (l : Option (List Id)) → bind o (λ i. consed i l) ≡ some is → (i : Id) × (js : List Id) × (is ≡ i ∷ js)
+    go none l q = absurd (let z : _≡_ {A = ℕ} 0 1 = cc in omega arith)
+    go (some i) none q = absurd (let z : _≡_ {A = ℕ} 0 1 = cc in omega arith)
+    go (some i) (some js) q = (i, js, cc)
+
+pub ids-within : (r : List ℕ) (k : ℕ) (is : List Id) → k ≤ length r → idsAt r k ≡ some is → (i : Id) × (js : List Id) × (is ≡ i ∷ js)
+unfolding idsAt
+ids-within r k is h e = read-some (drop k r) is (rw (le-leb k (length r) h) at e)
+
 -- ---- what one step says: s is the code's step at place k
 headed : (i : Id) (l o : Option (List Id)) (is : List Id) → consed i l ≡ headCapped o → o ≡ some is
     → (j : Id) × (js : List Id) × (is ≡ j ∷ js) × (l ≡ some js) × (capped j ≡ i)

@@ -15,12 +15,10 @@ use Rattle.der.specs.Kind.{isString}
 use Rattle.der.specs.Contents.{legal}
 use Rattle.der.proofs.Laws.{integer-octets, legal-integer}
 use Rattle.der.proofs.MeaningLaws.{string-kinds}
-use Rattle.rows.specs.Limits.{Limits}
-use Rattle.rows.specs.Row.{kindAt, elementAt, typeRowAt, modeAt, numberAt, isList, rows, rowAt, membersAt}
+use Rattle.rows.specs.Row.{kindAt, elementAt, typeRowAt, modeAt, numberAt, isList, rowAt, membersAt}
 use Rattle.rows.proofs.KindLaws.{list-kinds}
-use Rattle.table.specs.Types.{untagged, explicit, implicit, Ty, basic, sequence, choice, listOf, Members, taggingOf, membersFrom, typed, typeAt}
-use Rattle.table.specs.Admitted.{admitted}
-use Rattle.table.proofs.Laws.{type-step, names-later}
+use Rattle.table.specs.Types.{untagged, explicit, implicit, Ty, basic, sequence, choice, listOf, Members, taggingOf, membersFrom, typed, typeFrom}
+use Rattle.table.specs.Work.{Sound}
 use Rattle.table.proofs.TypeCases.{tagging-cases, member-tagging, members-none, members-more}
 use Rattle.reference.specs.Allowed.{ofType}
 use Rattle.rules.specs.Rule.{Syntax, booleans, integers, objectIdentifiers, octetStrings, bitStrings, strings, times, Rule, present, equal, less}
@@ -129,42 +127,39 @@ untagged-mode mode n = ap isUntagged (tagging-cases mode n) ∙ go (eqb mode 0) 
     go false false = refl
 
 -- ---- the rule for a row of an admitted table is the rule for its type
-module _ (l : Limits) (t : List ℕ) (ok : admitted l t ≡ true) where
-  abbrev s : List ℕ
-  s = rows (l .rows) t
-
+module _ (chain : ℕ) (t s m : List ℕ) (ok : Sound chain t s m) where
   stringAt : ℕ → Bool
   stringAt a = both (eqb (modeAt t (rowAt s a)) 0) (isString (kindAt t (rowAt s (typeRowAt t (rowAt s a)))))
 
-  string-type : (r : ℕ) → r < length s → isStringType (typeAt l t r) ≡ isString (kindAt t (rowAt s r))
-  string-type r h = ap isStringType (type-step l t ok r h) ∙ typed-string (kindAt t (rowAt s r)) (typeAt l t (elementAt t (rowAt s r))) (membersFrom (typeAt l t) t s (r + 1) (membersAt t (rowAt s r)))
+  string-type : (r : ℕ) → r < length s → isStringType (typeFrom chain t s r) ≡ isString (kindAt t (rowAt s r))
+  string-type r h = ap isStringType (ok .step r h) ∙ typed-string (kindAt t (rowAt s r)) (typeFrom chain t s (elementAt t (rowAt s r))) (membersFrom (typeFrom chain t s) t s (r + 1) (membersAt t (rowAt s r)))
 
-  string-rows : (n a : ℕ) → ((j : ℕ) → j < n → typeRowAt t (rowAt s (a + j)) < length s) → allStrings (membersFrom (typeAt l t) t s a n) ≡ front stringAt a n
+  string-rows : (n a : ℕ) → ((j : ℕ) → j < n → typeRowAt t (rowAt s (a + j)) < length s) → allStrings (membersFrom (typeFrom chain t s) t s a n) ≡ front stringAt a n
   unfolding allStrings front stringAt
-  string-rows zero a h = ap allStrings (members-none (typeAt l t) t s a)
+  string-rows zero a h = ap allStrings (members-none (typeFrom chain t s) t s a)
   string-rows (suc n) a h =
       let z : a + 0 ≡ a = omega arith in
       let first : typeRowAt t (rowAt s a) < length s = subst (λ (x : ℕ). typeRowAt t (rowAt s x) < length s) z (h 0 (omega arith)) in
-      ap allStrings (members-more (typeAt l t) t s a n)
+      ap allStrings (members-more (typeFrom chain t s) t s a n)
       ∙ ap₂ both
       (ap₂ both (ap isUntagged (member-tagging t a (rowAt s a)) ∙ untagged-mode (modeAt t (rowAt s a)) (numberAt t (rowAt s a))) (string-type (typeRowAt t (rowAt s a)) first))
       (string-rows n (a + 1) (λ j d. let e : a + suc j ≡ a + 1 + j = omega arith in subst (λ (x : ℕ). typeRowAt t (rowAt s x) < length s) e (h (suc j) (omega arith))))
 
   module _ (i : ℕ) (here : i < length s) where
-    alternatives : all (stringRow t s i) (membersAt t (rowAt s i)) ≡ allStrings (membersFrom (typeAt l t) t s (i + 1) (membersAt t (rowAt s i)))
+    alternatives : all (stringRow t s i) (membersAt t (rowAt s i)) ≡ allStrings (membersFrom (typeFrom chain t s) t s (i + 1) (membersAt t (rowAt s i)))
     unfolding stringRow stringAt
     alternatives =
         all-front stringAt (stringRow t s i) (i + 1) (membersAt t (rowAt s i)) (λ j. refl)
-        ∙ sym (string-rows (membersAt t (rowAt s i)) (i + 1) (λ j d. names-later l t ok .of-member i here j d .1))
+        ∙ sym (string-rows (membersAt t (rowAt s i)) (i + 1) (λ j d. ok .later .of-member i here j d .1))
 
-    pub suits-syntax : (x : Syntax) → suitsRow x t s i ≡ suitsTarget x (ofType (typeAt l t i))
+    pub suits-syntax : (x : Syntax) → suitsRow x t s i ≡ suitsTarget x (ofType (typeFrom chain t s i))
     unfolding suitsRow
     suits-syntax x =
         ap (λ (y : Bool). pick (eqb (kindAt t (rowAt s i)) 13) (both (suitsKind x 8) y) (suitsKind x (kindAt t (rowAt s i)))) alternatives
-        ∙ sym (typed-suits x (kindAt t (rowAt s i)) (typeAt l t (elementAt t (rowAt s i))) (membersFrom (typeAt l t) t s (i + 1) (membersAt t (rowAt s i))))
-        ∙ ap (λ (y : Ty). suitsTarget x (ofType y)) (sym (type-step l t ok i here))
+        ∙ sym (typed-suits x (kindAt t (rowAt s i)) (typeFrom chain t s (elementAt t (rowAt s i))) (membersFrom (typeFrom chain t s) t s (i + 1) (membersAt t (rowAt s i))))
+        ∙ ap (λ (y : Ty). suitsTarget x (ofType y)) (sym (ok .step i here))
 
-    pub suits-row : (r : Rule) → ruleSuitsRow r t s i ≡ suits r (ofType (typeAt l t i))
+    pub suits-row : (r : Rule) → ruleSuitsRow r t s i ≡ suits r (ofType (typeFrom chain t s i))
     unfolding ruleSuitsRow suits
     suits-row present = refl
     suits-row (equal x) = suits-syntax x

@@ -7,3 +7,4 @@ pub mod AdmitSteps
 pub mod Laws
 pub mod SoundLaws
 pub mod TypeCases
+pub mod NameLaws
