@@ -55,6 +55,16 @@ unfoldable pub laid : List Held → Trail
 laid [] = done
 laid (h ∷ hs) = reach (component h) (laid hs)
 
+pub laid-sound : (hs : List Held) → faulty (laid hs) ≡ false
+unfolding faulty laid
+laid-sound [] = refl
+laid-sound (h ∷ hs) = laid-sound hs
+
+pub laid-reached : (hs : List Held) → reached (laid hs) ≡ map component hs
+unfolding reached laid
+laid-reached [] = refl
+laid-reached (h ∷ hs) = ap (λ (cs : List Component). component h ∷ cs) (laid-reached hs)
+
 laid-then : (a b : List Held) → then (laid a) (laid b) ≡ laid (a ++ b)
 unfolding then laid
 laid-then [] b = refl

@@ -19,8 +19,12 @@ use Rattle.value.proofs.LeafSteps.{first-none, first-step}
 use Rattle.value.proofs.MemberSteps.{starts-as}
 use Rattle.trail.specs.Opened.{Opened, openAt}
 use Rattle.trail.specs.Trail as trail
-use Rattle.trail.specs.Work.{openingTold, chosenAs}
+use Rattle.trail.specs.Work.{openingTold, landsIn, chosenAs}
 use Rattle.trail.specs.declared.Opening.{Opening}
+use Rattle.trail.specs.declared.Found.{Found}
+
+pub chosen-lands : (s : List ℕ) (stop : ℕ) (f : Found) → landsIn s stop f ≡ true → landsIn s stop f ≡ true
+chosen-lands s stop f e = e
 
 -- ---- one alternative
 module _ (chain : ℕ) (t s : List ℕ) (row : ℕ) (x : List ℕ) (o : Option Opened) (p : ℕ) (u : Bool) (placed : p ≡ rowAt s row) (named : u ≡ same (unfilled (nameAt t p)) x) where

@@ -5,10 +5,10 @@ use mathlib.Core.Option.{Option, none, some}
 use mathlib.Core.List.{List}
 use Prim.Native.Nat.{ℕ, zero, suc, _≤_, _<_, _+_, _-_}
 use native.Mathlib.Omega.{arith}
-use borrow.Author.Tests.{eq-eqb, ne-eqb}
+use borrow.Author.Tests.{eq-eqb, ne-eqb, lt-ltb, le-leb}
 use lib.ListN.{length}
-use lib.Dec.{eqb}
-use Rattle.octets.specs.Pick.{pick, either}
+use lib.Dec.{ltb, leb, eqb}
+use Rattle.octets.specs.Pick.{pick, both, either}
 use Rattle.octets.specs.Octets.{part, same}
 use Rattle.rows.specs.Row.{rowAt, kindAt, nameAt, typeRowAt, membersAt, modeAt, numberAt, presenceAt, defaultAt}
 use Rattle.table.specs.Types.{Tagging, taggingOf, presenceOf, unfilled, Member, memberOf, Ty, Members, noMore, more, membersFrom, typeFrom}
@@ -20,7 +20,7 @@ use Rattle.value.specs.Work.{marked}
 use Rattle.value.proofs.MemberSteps.{starts-as}
 use Rattle.trail.specs.Opened.{Opened, after, openAt}
 use Rattle.trail.specs.Trail as trail
-use Rattle.trail.specs.Work.{openingTold, foundTold, Looked, onward, landed, lookTold, thereOr, orBroken, memberLook, thenLook}
+use Rattle.trail.specs.Work.{openingTold, foundTold, looksIn, Looked, onward, landed, lookTold, thereOr, orBroken, memberLook, thenLook}
 use Rattle.trail.specs.declared.Opening.{Opening}
 use Rattle.trail.specs.declared.Found.{Found}
 use Rattle.trail.specs.declared.Look.{Look}
@@ -33,6 +33,36 @@ module _ (t m : List ℕ) (p : ℕ) (v : List ℕ) (stop i pr : ℕ) (read : pr 
 
   pub there-marked : (r : Bool) → (pr ≡ 0 → ⊥) → r ≡ marked m t p v stop i → r ≡ either (eqb (presenceAt t p) 0) (marked m t p v stop i)
   there-marked r h e = rw (← read, ne-eqb pr 0 h) e
+
+-- ---- what is found: of one of the rows, and within the end
+pub both-hold : (a b : Bool) → a ≡ true → b ≡ true → both a b ≡ true
+both-hold a b e q = rw e q
+
+-- none is found, or none yet
+pub none-lands : _≡_ {A = Bool} true true
+none-lands = refl
+
+-- the value of a member row's type, as the code has opened it
+pub opened-lands : (t s : List ℕ) (row p target : ℕ) (ty : Ty) (g : Tagging) (v : List ℕ) (i stop place start span : ℕ) (c : Opening) → p ≡ rowAt s row → target ≡ typeRowAt t p → typeRowAt t (rowAt s row) < length s
+    → openingTold c ≡ openAt ty g v i stop → c ≡ Opening.Of place start span → both (ltb target (length s)) (leb (start + span) stop) ≡ true
+opened-lands t s row p target ty g v i stop place start span c placed targeted h told e =
+    let w = open-long ty g v i stop (record { place = place; start = start; span = span }) (sym told ∙ ap openingTold e) .1 in
+    let q : target ≡ typeRowAt t (rowAt s row) = targeted ∙ ap (typeRowAt t) placed in
+    both-hold (ltb target (length s)) (leb (start + span) stop) (lt-ltb target (length s) (omega arith)) (le-leb (start + span) stop w)
+
+-- a member that is absent
+pub absent-lands : (chain : ℕ) (t s : List ℕ) (stop i : ℕ) (b : Bool) (m : Member) (l : Look) → lookTold chain t s l ≡ pick b (landed (trail.lacking m)) (onward i) → looksIn s stop l ≡ true
+absent-lands chain t s stop i b m (Look.Next j) e = refl
+absent-lands chain t s stop i b m (Look.Lacking row) e = refl
+absent-lands chain t s stop i b m Look.Broken e = refl
+absent-lands chain t s stop i true m (Look.At row place start span) e = absurd (let z : _≡_ {A = ℕ} 0 1 = cc in omega arith)
+absent-lands chain t s stop i false m (Look.At row place start span) e = absurd (let z : _≡_ {A = ℕ} 0 1 = cc in omega arith)
+
+pub look-lands : (s : List ℕ) (stop : ℕ) (l : Look) → looksIn s stop l ≡ true → looksIn s stop l ≡ true
+look-lands s stop l e = e
+
+pub find-lands : (s : List ℕ) (stop g place from span : ℕ) (c : Look) → looksIn s stop c ≡ true → c ≡ Look.At g place from span → both (ltb g (length s)) (leb (from + span) stop) ≡ true
+find-lands s stop g place from span c e q = sym (ap (looksIn s stop) q) ∙ e
 
 -- ---- one member
 module _ (chain : ℕ) (t s : List ℕ) (row : ℕ) (x : List ℕ) (p : ℕ) (placed : p ≡ rowAt s row) where

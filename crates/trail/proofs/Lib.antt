@@ -5,3 +5,5 @@ pub mod OpenSteps
 pub mod ListSteps
 pub mod FindSteps
 pub mod ChosenSteps
+pub mod LocateSteps
+pub mod Locating

@@ -1,15 +1,17 @@
 -- What the functions of the walk answer, by the definitions.
 use Prim.Native.Nat.{ℕ, zero, suc, _+_, _-_}
-use mathlib.Core.Bool.{Bool}
+use mathlib.Core.Bool.{Bool, true}
 use mathlib.Core.Option.{Option, none, some}
 use mathlib.Core.List.{List}
-use lib.Dec.{ltb, eqb}
-use Rattle.octets.specs.Pick.{pick, either}
+use lib.ListN.{length}
+use lib.Dec.{ltb, leb, eqb}
+use Rattle.octets.specs.Pick.{pick, both, either}
 use Rattle.octets.specs.Octets.{same}
 use Rattle.rows.specs.Row.{rowAt}
-use Rattle.table.specs.Types.{Member, memberOf, Ty, typeFrom}
+use Rattle.table.specs.Types.{untagged, Member, memberOf, Ty, basic, sequence, choice, listOf, typeFrom}
 use Rattle.table.specs.Begins.{isMandatory}
 use Rattle.value.specs.Decode.{startsHere}
+use Rattle.reference.specs.Reference.{Index, position, fromEnd, count, all, Id, name, index}
 use Rattle.trail.specs.Opened.{Opened, after, openAt}
 use Rattle.trail.specs.Trail as trail
 use Rattle.trail.specs.declared.Found.{Found}
@@ -17,6 +19,10 @@ use Rattle.trail.specs.declared.Look.{Look}
 use Rattle.trail.specs.declared.Opening.{Opening}
 use Rattle.trail.specs.declared.Counted.{Counted}
 use Rattle.trail.specs.declared.Nth.{Nth}
+
+-- a value by its place, its contents' start and their length
+abbrev pub standing : ℕ → ℕ → ℕ → Opened
+standing place start span = record { place = place; start = start; span = span }
 
 -- a value that has been opened
 abbrev pub openingTold : Opening → Option Opened
@@ -34,6 +40,13 @@ foundTold chain t s (Found.Lacking row) = trail.lacking (memberOf t row (rowAt s
 foundTold chain t s Found.Nothing = trail.nothing
 foundTold chain t s Found.Broken = trail.broken
 
+-- what is found is of one of the rows s, and its value ends at stop or before
+abbrev pub landsIn : List ℕ → ℕ → Found → Bool
+landsIn s stop (Found.At row place start span) = both (ltb row (length s)) (leb (start + span) stop)
+landsIn s stop (Found.Lacking row) = true
+landsIn s stop Found.Nothing = true
+landsIn s stop Found.Broken = true
+
 -- the alternative that can begin here, if it has the name
 abbrev pub chosenAs : Bool → Ty → Option Opened → trail.Found
 chosenAs named ty o = pick named (trail.orBroken (trail.found ty) o) trail.nothing
@@ -48,6 +61,13 @@ lookTold chain t s (Look.Next i) = onward i
 lookTold chain t s (Look.At row place start span) = landed (trail.found (typeFrom chain t s row) (record { place = place; start = start; span = span }))
 lookTold chain t s (Look.Lacking row) = landed (trail.lacking (memberOf t row (rowAt s row)))
 lookTold chain t s Look.Broken = landed trail.broken
+
+-- the same of one member
+abbrev pub looksIn : List ℕ → ℕ → Look → Bool
+looksIn s stop (Look.Next i) = true
+looksIn s stop (Look.At row place start span) = both (ltb row (length s)) (leb (start + span) stop)
+looksIn s stop (Look.Lacking row) = true
+looksIn s stop Look.Broken = true
 
 abbrev pub thereOr : Bool → Ty → Opened → Looked
 thereOr named ty o = pick named (landed (trail.found ty o)) (onward (after o))
@@ -88,3 +108,41 @@ nthFrom o zero stop n i = pick (ltb i stop) unfit past
 nthFrom o (suc k) stop n i =
     let elements = orUnfit (reachedOr n (λ j. nthFrom o k stop (n - 1) j)) (o i stop) in
     pick (ltb i stop) elements past
+
+-- ---- where one identifier leads from an opened value, to one value at most: the count and all of a list's elements are no one value
+abbrev pub elementFound : Ty → Reached → trail.Found
+elementFound ty (reached x) = trail.found ty x
+elementFound ty past = trail.nothing
+elementFound ty unfit = trail.broken
+
+-- the element at a position from 1, of a list's contents
+unfoldable pub nthFound : Ty → List ℕ → ℕ → ℕ → ℕ → trail.Found
+nthFound ty v start span n = elementFound ty (nthFrom (openAt ty untagged v) span (start + span) n start)
+
+-- the one at a position from the end, among so many; f finds one by its position from 1
+abbrev pub ofLast : ℕ → (ℕ → trail.Found) → Option ℕ → trail.Found
+ofLast n f none = trail.broken
+ofLast n f (some size) = pick (leb n size) (f (size + 1 - n)) trail.nothing
+
+unfoldable pub lastFound : Ty → List ℕ → ℕ → ℕ → ℕ → trail.Found
+lastFound ty v start span n = ofLast n (nthFound ty v start span) (trail.countFrom (openAt ty untagged v) span (start + span) 0 start)
+
+abbrev pub byIndex : Index → Ty → List ℕ → Opened → trail.Found
+byIndex (position n) ty v o = nthFound ty v (o .start) (o .span) n
+byIndex (fromEnd n) ty v o = lastFound ty v (o .start) (o .span) n
+byIndex count ty v o = trail.nothing
+byIndex all ty v o = trail.nothing
+
+abbrev pub inElements : Id → Ty → List ℕ → Opened → trail.Found
+inElements (name x) ty v o = trail.nothing
+inElements (index i) ty v o = byIndex i ty v o
+
+abbrev pub byName : Id → (List ℕ → trail.Found) → trail.Found
+byName (name x) find = find x
+byName (index i) find = trail.nothing
+
+unfoldable pub located : Id → Ty → List ℕ → Opened → trail.Found
+located i (basic k) v o = trail.nothing
+located i (sequence ms) v o = byName i (λ x. trail.findMember x ms v (after o) (o .start))
+located i (choice ms) v o = byName i (λ x. trail.findAlternative x ms v (after o) (o .place))
+located i (listOf k ty) v o = inElements i ty v o

@@ -1,6 +1,7 @@
 // The walk along a reference, on the octets: values whose header has been read, elements and members found.
 use der::Inside;
 ghost use mathlib.Core.Path.{_≡_};
+ghost use mathlib.Core.Bool.{true};
 ghost use Prim.Native.Nat.{_≤_, _<_, _+_, _-_};
 ghost use lib.ListN.{length};
 ghost use lib.Dec.{eqb};
@@ -9,6 +10,7 @@ ghost use Rattle.octets.specs.Octets.{part, same};
 ghost use Rattle.rows.specs.Row.{rowAt, kindAt, nameAt, typeRowAt, modeAt, numberAt, presenceAt, membersAt};
 ghost use Rattle.table.specs.Types.{untagged, taggingOf, unfilled, memberOf, membersFrom, typeFrom};
 ghost use Rattle.table.specs.Work.{Sound};
+ghost use Rattle.reference.specs.Reference.{name, index, position, fromEnd};
 ghost use Rattle.trail.specs.Opened.{ownHeader, openOwn, openAt};
 ghost use Rattle.value.specs.Work.{marked};
 ghost use Rattle.trail.specs.Trail as trail;
@@ -265,7 +267,8 @@ fn look_there(
 ) -> Look
     requires sound { do ⌜ Sound (← ⟦rows::Table::MAX_CHAIN⟧) (now t) (now s) (now m) ⌝ }
     requires target { ⌜ typeRowAt (now t) (rowAt (now s) row) < length (now s) ⌝ }
-    ensures { λ l. do ⌜ work.lookTold (← ⟦rows::Table::MAX_CHAIN⟧ .entry) (now (t .entry)) (now (s .entry)) l ≡ work.orBroken (work.thereOr (same (unfilled (nameAt (now (t .entry)) (rowAt (now (s .entry)) row))) (part (now (r .entry)) a (b - a))) (typeFrom (← ⟦rows::Table::MAX_CHAIN⟧ .entry) (now (t .entry)) (now (s .entry)) (typeRowAt (now (t .entry)) (rowAt (now (s .entry)) row)))) (openAt (typeFrom (← ⟦rows::Table::MAX_CHAIN⟧ .entry) (now (t .entry)) (now (s .entry)) (typeRowAt (now (t .entry)) (rowAt (now (s .entry)) row))) (taggingOf (modeAt (now (t .entry)) (rowAt (now (s .entry)) row)) (numberAt (now (t .entry)) (rowAt (now (s .entry)) row))) (now (v .entry)) i stop) ⌝ }
+    ensures looks { λ l. do ⌜ work.lookTold (← ⟦rows::Table::MAX_CHAIN⟧ .entry) (now (t .entry)) (now (s .entry)) l ≡ work.orBroken (work.thereOr (same (unfilled (nameAt (now (t .entry)) (rowAt (now (s .entry)) row))) (part (now (r .entry)) a (b - a))) (typeFrom (← ⟦rows::Table::MAX_CHAIN⟧ .entry) (now (t .entry)) (now (s .entry)) (typeRowAt (now (t .entry)) (rowAt (now (s .entry)) row)))) (openAt (typeFrom (← ⟦rows::Table::MAX_CHAIN⟧ .entry) (now (t .entry)) (now (s .entry)) (typeRowAt (now (t .entry)) (rowAt (now (s .entry)) row))) (taggingOf (modeAt (now (t .entry)) (rowAt (now (s .entry)) row)) (numberAt (now (t .entry)) (rowAt (now (s .entry)) row))) (now (v .entry)) i stop) ⌝ }
+    ensures lands { λ l. ⌜ work.looksIn (now (s .entry)) stop l ≡ true ⌝ }
 {
     let p = rows::row_at(s, row);
     let Opening::Of(place, start, span) = open_member(t, s, m, v, row, i, stop) else {
@@ -304,7 +307,8 @@ fn look_member(
     requires here { ⌜ row < length (now s) ⌝ }
     requires member { ⌜ kindAt (now t) (rowAt (now s) row) ≡ 16 ⌝ }
     requires target { ⌜ typeRowAt (now t) (rowAt (now s) row) < length (now s) ⌝ }
-    ensures { λ l. do ⌜ work.lookTold (← ⟦rows::Table::MAX_CHAIN⟧ .entry) (now (t .entry)) (now (s .entry)) l ≡ work.memberLook (part (now (r .entry)) a (b - a)) (memberOf (now (t .entry)) row (rowAt (now (s .entry)) row)) (typeFrom (← ⟦rows::Table::MAX_CHAIN⟧ .entry) (now (t .entry)) (now (s .entry)) (typeRowAt (now (t .entry)) (rowAt (now (s .entry)) row))) (now (v .entry)) stop i ⌝ }
+    ensures looks { λ l. do ⌜ work.lookTold (← ⟦rows::Table::MAX_CHAIN⟧ .entry) (now (t .entry)) (now (s .entry)) l ≡ work.memberLook (part (now (r .entry)) a (b - a)) (memberOf (now (t .entry)) row (rowAt (now (s .entry)) row)) (typeFrom (← ⟦rows::Table::MAX_CHAIN⟧ .entry) (now (t .entry)) (now (s .entry)) (typeRowAt (now (t .entry)) (rowAt (now (s .entry)) row))) (now (v .entry)) stop i ⌝ }
+    ensures lands { λ l. ⌜ work.looksIn (now (s .entry)) stop l ≡ true ⌝ }
 {
     if is_there(t, m, rows::row_at(s, row), v, stop, i) {
         return look_there(t, s, m, v, row, r, a, b, i, stop);
@@ -327,7 +331,8 @@ pub fn find_member(
 ) -> Found
     requires sound { do ⌜ Sound (← ⟦rows::Table::MAX_CHAIN⟧) (now t) (now s) (now m) ⌝ }
     requires here { ⌜ row < length (now s) ⌝ }
-    ensures { λ f. do ⌜ work.foundTold (← ⟦rows::Table::MAX_CHAIN⟧ .entry) (now (t .entry)) (now (s .entry)) f ≡ trail.findMember (part (now (r .entry)) a (b - a)) (membersFrom (typeFrom (← ⟦rows::Table::MAX_CHAIN⟧ .entry) (now (t .entry)) (now (s .entry))) (now (t .entry)) (now (s .entry)) (row + 1) (membersAt (now (t .entry)) (rowAt (now (s .entry)) row))) (now (v .entry)) stop start ⌝ }
+    ensures found { λ f. do ⌜ work.foundTold (← ⟦rows::Table::MAX_CHAIN⟧ .entry) (now (t .entry)) (now (s .entry)) f ≡ trail.findMember (part (now (r .entry)) a (b - a)) (membersFrom (typeFrom (← ⟦rows::Table::MAX_CHAIN⟧ .entry) (now (t .entry)) (now (s .entry))) (now (t .entry)) (now (s .entry)) (row + 1) (membersAt (now (t .entry)) (rowAt (now (s .entry)) row))) (now (v .entry)) stop start ⌝ }
+    ensures lands { λ f. ⌜ work.landsIn (now (s .entry)) stop f ≡ true ⌝ }
 {
     let n = rows::members_at(t, rows::row_at(s, row));
     let mut i = start;
@@ -362,7 +367,8 @@ fn look_chosen(
 ) -> Found
     requires sound { do ⌜ Sound (← ⟦rows::Table::MAX_CHAIN⟧) (now t) (now s) (now m) ⌝ }
     requires target { ⌜ typeRowAt (now t) (rowAt (now s) row) < length (now s) ⌝ }
-    ensures { λ f. do ⌜ work.foundTold (← ⟦rows::Table::MAX_CHAIN⟧ .entry) (now (t .entry)) (now (s .entry)) f ≡ work.chosenAs (same (unfilled (nameAt (now (t .entry)) (rowAt (now (s .entry)) row))) (part (now (r .entry)) a (b - a))) (typeFrom (← ⟦rows::Table::MAX_CHAIN⟧ .entry) (now (t .entry)) (now (s .entry)) (typeRowAt (now (t .entry)) (rowAt (now (s .entry)) row))) (openAt (typeFrom (← ⟦rows::Table::MAX_CHAIN⟧ .entry) (now (t .entry)) (now (s .entry)) (typeRowAt (now (t .entry)) (rowAt (now (s .entry)) row))) (taggingOf (modeAt (now (t .entry)) (rowAt (now (s .entry)) row)) (numberAt (now (t .entry)) (rowAt (now (s .entry)) row))) (now (v .entry)) at stop) ⌝ }
+    ensures found { λ f. do ⌜ work.foundTold (← ⟦rows::Table::MAX_CHAIN⟧ .entry) (now (t .entry)) (now (s .entry)) f ≡ work.chosenAs (same (unfilled (nameAt (now (t .entry)) (rowAt (now (s .entry)) row))) (part (now (r .entry)) a (b - a))) (typeFrom (← ⟦rows::Table::MAX_CHAIN⟧ .entry) (now (t .entry)) (now (s .entry)) (typeRowAt (now (t .entry)) (rowAt (now (s .entry)) row))) (openAt (typeFrom (← ⟦rows::Table::MAX_CHAIN⟧ .entry) (now (t .entry)) (now (s .entry)) (typeRowAt (now (t .entry)) (rowAt (now (s .entry)) row))) (taggingOf (modeAt (now (t .entry)) (rowAt (now (s .entry)) row)) (numberAt (now (t .entry)) (rowAt (now (s .entry)) row))) (now (v .entry)) at stop) ⌝ }
+    ensures lands { λ f. ⌜ work.landsIn (now (s .entry)) stop f ≡ true ⌝ }
 {
     let p = rows::row_at(s, row);
     if !reference::is_named(t, p, r, a, b) {
@@ -389,7 +395,8 @@ pub fn find_chosen(
 ) -> Found
     requires sound { do ⌜ Sound (← ⟦rows::Table::MAX_CHAIN⟧) (now t) (now s) (now m) ⌝ }
     requires here { ⌜ row < length (now s) ⌝ }
-    ensures { λ f. do ⌜ work.foundTold (← ⟦rows::Table::MAX_CHAIN⟧ .entry) (now (t .entry)) (now (s .entry)) f ≡ trail.findAlternative (part (now (r .entry)) a (b - a)) (membersFrom (typeFrom (← ⟦rows::Table::MAX_CHAIN⟧ .entry) (now (t .entry)) (now (s .entry))) (now (t .entry)) (now (s .entry)) (row + 1) (membersAt (now (t .entry)) (rowAt (now (s .entry)) row))) (now (v .entry)) stop at ⌝ }
+    ensures found { λ f. do ⌜ work.foundTold (← ⟦rows::Table::MAX_CHAIN⟧ .entry) (now (t .entry)) (now (s .entry)) f ≡ trail.findAlternative (part (now (r .entry)) a (b - a)) (membersFrom (typeFrom (← ⟦rows::Table::MAX_CHAIN⟧ .entry) (now (t .entry)) (now (s .entry))) (now (t .entry)) (now (s .entry)) (row + 1) (membersAt (now (t .entry)) (rowAt (now (s .entry)) row))) (now (v .entry)) stop at ⌝ }
+    ensures lands { λ f. ⌜ work.landsIn (now (s .entry)) stop f ≡ true ⌝ }
 {
     let n = rows::members_at(t, rows::row_at(s, row));
     let j = value::find_alternative(t, s, m, v, row, n, at, stop);
@@ -397,4 +404,135 @@ pub fn find_chosen(
         return Found::Broken;
     }
     look_chosen(t, s, m, v, row + 1 + j, r, a, b, at, stop)
+}
+
+// ---- where one identifier leads from a value whose header has been read
+// The element at a position from 1, of a list's contents.
+fn nth_found(
+    t: &[u8],
+    s: &[usize],
+    m: &[u64],
+    v: &[u8],
+    row: usize,
+    start: usize,
+    span: usize,
+    i: usize,
+) -> Found
+    requires sound { do ⌜ Sound (← ⟦rows::Table::MAX_CHAIN⟧) (now t) (now s) (now m) ⌝ }
+    requires here { ⌜ row < length (now s) ⌝ }
+    requires ends { ⌜ start + span ≤ length (now v) ⌝ }
+    ensures found { λ f. do ⌜ work.foundTold (← ⟦rows::Table::MAX_CHAIN⟧ .entry) (now (t .entry)) (now (s .entry)) f ≡ work.nthFound (typeFrom (← ⟦rows::Table::MAX_CHAIN⟧ .entry) (now (t .entry)) (now (s .entry)) row) (now (v .entry)) start span i ⌝ }
+    ensures lands { λ f. ⌜ work.landsIn (now (s .entry)) (length (now (v .entry))) f ≡ true ⌝ }
+{
+    match nth_element(t, s, m, v, row, start, start + span, i) {
+        Nth::Of(place, from, n) => Found::At(row, place, from, n),
+        Nth::Past => Found::Nothing,
+        Nth::Misfit => Found::Broken,
+    }
+}
+
+// The element at a position from the end: one pass for the count, and one to the position.
+fn last_found(
+    t: &[u8],
+    s: &[usize],
+    m: &[u64],
+    v: &[u8],
+    row: usize,
+    start: usize,
+    span: usize,
+    i: usize,
+) -> Found
+    requires sound { do ⌜ Sound (← ⟦rows::Table::MAX_CHAIN⟧) (now t) (now s) (now m) ⌝ }
+    requires here { ⌜ row < length (now s) ⌝ }
+    requires ends { ⌜ start + span ≤ length (now v) ⌝ }
+    ensures found { λ f. do ⌜ work.foundTold (← ⟦rows::Table::MAX_CHAIN⟧ .entry) (now (t .entry)) (now (s .entry)) f ≡ work.lastFound (typeFrom (← ⟦rows::Table::MAX_CHAIN⟧ .entry) (now (t .entry)) (now (s .entry)) row) (now (v .entry)) start span i ⌝ }
+    ensures lands { λ f. ⌜ work.landsIn (now (s .entry)) (length (now (v .entry))) f ≡ true ⌝ }
+{
+    let Counted::Of(size) = count_elements(t, s, m, v, row, start, start + span) else {
+        return Found::Broken;
+    };
+    if size < i {
+        return Found::Nothing;
+    }
+    nth_found(t, s, m, v, row, start, span, size + 1 - i)
+}
+
+// The member of a SEQUENCE or the alternative of a CHOICE whose name stands from a to b.
+pub fn locate_name(
+    t: &[u8],
+    s: &[usize],
+    m: &[u64],
+    v: &[u8],
+    row: usize,
+    r: &[u8],
+    a: usize,
+    b: usize,
+    place: usize,
+    start: usize,
+    span: usize,
+) -> Found
+    requires sound { do ⌜ Sound (← ⟦rows::Table::MAX_CHAIN⟧) (now t) (now s) (now m) ⌝ }
+    requires here { ⌜ row < length (now s) ⌝ }
+    requires ends { ⌜ start + span ≤ length (now v) ⌝ }
+    ensures found { λ f. do ⌜ work.foundTold (← ⟦rows::Table::MAX_CHAIN⟧ .entry) (now (t .entry)) (now (s .entry)) f ≡ work.located (name (part (now (r .entry)) a (b - a))) (typeFrom (← ⟦rows::Table::MAX_CHAIN⟧ .entry) (now (t .entry)) (now (s .entry)) row) (now (v .entry)) (work.standing place start span) ⌝ }
+    ensures lands { λ f. ⌜ work.landsIn (now (s .entry)) (length (now (v .entry))) f ≡ true ⌝ }
+{
+    let kind = rows::kind_at(t, rows::row_at(s, row));
+    if kind == 12 {
+        return find_member(t, s, m, v, row, r, a, b, start, start + span);
+    }
+    if kind == 13 {
+        return find_chosen(t, s, m, v, row, r, a, b, place, start + span);
+    }
+    Found::Nothing
+}
+
+// The element of a SEQUENCE OF or SET OF at a position from 1.
+pub fn locate_position(
+    t: &[u8],
+    s: &[usize],
+    m: &[u64],
+    v: &[u8],
+    row: usize,
+    i: usize,
+    place: usize,
+    start: usize,
+    span: usize,
+) -> Found
+    requires sound { do ⌜ Sound (← ⟦rows::Table::MAX_CHAIN⟧) (now t) (now s) (now m) ⌝ }
+    requires here { ⌜ row < length (now s) ⌝ }
+    requires ends { ⌜ start + span ≤ length (now v) ⌝ }
+    ensures found { λ f. do ⌜ work.foundTold (← ⟦rows::Table::MAX_CHAIN⟧ .entry) (now (t .entry)) (now (s .entry)) f ≡ work.located (index (position i)) (typeFrom (← ⟦rows::Table::MAX_CHAIN⟧ .entry) (now (t .entry)) (now (s .entry)) row) (now (v .entry)) (work.standing place start span) ⌝ }
+    ensures lands { λ f. ⌜ work.landsIn (now (s .entry)) (length (now (v .entry))) f ≡ true ⌝ }
+{
+    let p = rows::row_at(s, row);
+    if !rows::is_list(rows::kind_at(t, p)) {
+        return Found::Nothing;
+    }
+    nth_found(t, s, m, v, rows::element_at(t, p), start, span, i)
+}
+
+// The element of a SEQUENCE OF or SET OF at a position from the end.
+pub fn locate_from_end(
+    t: &[u8],
+    s: &[usize],
+    m: &[u64],
+    v: &[u8],
+    row: usize,
+    i: usize,
+    place: usize,
+    start: usize,
+    span: usize,
+) -> Found
+    requires sound { do ⌜ Sound (← ⟦rows::Table::MAX_CHAIN⟧) (now t) (now s) (now m) ⌝ }
+    requires here { ⌜ row < length (now s) ⌝ }
+    requires ends { ⌜ start + span ≤ length (now v) ⌝ }
+    ensures found { λ f. do ⌜ work.foundTold (← ⟦rows::Table::MAX_CHAIN⟧ .entry) (now (t .entry)) (now (s .entry)) f ≡ work.located (index (fromEnd i)) (typeFrom (← ⟦rows::Table::MAX_CHAIN⟧ .entry) (now (t .entry)) (now (s .entry)) row) (now (v .entry)) (work.standing place start span) ⌝ }
+    ensures lands { λ f. ⌜ work.landsIn (now (s .entry)) (length (now (v .entry))) f ≡ true ⌝ }
+{
+    let p = rows::row_at(s, row);
+    if !rows::is_list(rows::kind_at(t, p)) {
+        return Found::Nothing;
+    }
+    last_found(t, s, m, v, rows::element_at(t, p), start, span, i)
 }

@@ -1,6 +1,6 @@
 use Prim.Native.Nat.{_-_}
 use Rattle.octets.specs.Octets.{part}
-use Rattle.trail.proofs.FindSteps.{Finding, find-start, find-row-fits, find-fits, find-here, find-member-kind, find-target, find-again, find-at, find-lacking, find-broken, find-done}
+use Rattle.trail.proofs.FindSteps.{Finding, find-start, find-row-fits, find-fits, find-here, find-member-kind, find-target, find-again, find-at, find-lacking, find-broken, find-done, none-lands, find-lands}
 use borrow.Author.Needs.{needs}
 use Rattle.trail.proofs.find_member.Statement.{statement}
 use Rattle.trail.proofs.find_member.Tie as tie
@@ -28,9 +28,9 @@ find-member-spec =
     (λ c. search needs)  -- loop-less
     (λ c. search find-again)  -- loop-again
     (λ c. search needs)  -- enum-known-target
-    (λ c. search find-at)  -- returns
+    (λ c. (search find-at, search find-lands))  -- returns
     (λ c. search needs)  -- enum-known-absent
-    (λ c. search find-lacking)  -- returns-2
+    (λ c. (search find-lacking, search none-lands))  -- returns-2
     (λ c. search needs)  -- enum-told
-    (λ c. search find-broken)  -- returns-3
-    (λ c. search find-done))  -- returns-4
+    (λ c. (search find-broken, search none-lands))  -- returns-3
+    (λ c. (search find-done, search none-lands)))  -- returns-4
