@@ -18,10 +18,10 @@ use Rattle.rules.specs.Rule as rule
 use Rattle.rules.specs.Accepts.{acceptsContents, acceptsCount}
 use Rattle.rules.specs.Answers.{meant, isReadBy}
 use Rattle.rules.specs.declared.Rule.{Rule}
-use Rattle.engine.specs.Run.{componentOf, sourceOf, placeOf, numberOf, Fitting, Seen, seen, acceptsRead, put, listOne, countOne, testOne, visited}
-use Rattle.engine.specs.declared.State.{State}
-use Rattle.engine.specs.declared.Task.{Task}
-use Rattle.engine.specs.declared.Reached.{Reached}
+use Rattle.walk.specs.Run.{componentOf, sourceOf, placeOf, numberOf, Fitting, Seen, seen, acceptsRead, put, listOne, countOne, testOne, visited}
+use Rattle.walk.specs.declared.State.{State}
+use Rattle.walk.specs.declared.Task.{Task}
+use Rattle.walk.specs.declared.Reached.{Reached}
 
 -- ---- counted
 module _ (limit n : ℕ) where

@@ -1,21 +1,25 @@
 -- What is done with the components that a walk reaches, one after another: they are counted, listed in lent memory, or tested.
 use Prim.Native.Nat.{ℕ, _+_, _-_, _*_, _/_, _<_}
 use mathlib.Core.Bool.{Bool}
-use mathlib.Core.List.{List}
+use mathlib.Core.Option.{Option, none, some}
+use mathlib.Core.List.{List, []}
 use lib.ListN.{length, set}
 use lib.Dec.{ltb, leb}
 use Rattle.octets.specs.Pick.{pick, both}
 use Rattle.rows.specs.Row.{rowAt}
-use Rattle.table.specs.Types.{memberOf}
+use Rattle.table.specs.Types.{Ty, memberOf}
 use Rattle.value.specs.Value.{spotAt}
+use Rattle.reference.specs.Reference.{Id}
+use Rattle.reference.specs.Work.{idsAt}
 use Rattle.reference.specs.Numbers.{Component, stored, defaulted, tallied, numbersOf, contentsOf}
 use Rattle.rules.specs.Accepts.{acceptsContents, acceptsCount}
 use Rattle.rules.specs.Answers.{meant, isReadBy}
 use Rattle.rules.specs.Rule as rule
-use Rattle.trail.specs.Trail.{Trail, done, fault, reach}
-use Rattle.engine.specs.declared.State.{State}
-use Rattle.engine.specs.declared.Task.{Task}
-use Rattle.engine.specs.declared.Reached.{Reached}
+use Rattle.trail.specs.Opened.{Opened}
+use Rattle.trail.specs.Trail.{Trail, done, fault, reach, ending, along}
+use Rattle.walk.specs.declared.State.{State}
+use Rattle.walk.specs.declared.Task.{Task}
+use Rattle.walk.specs.declared.Reached.{Reached}
 
 -- a component as the code holds it: a stored value by its place and contents, a default by the place and the member's row, a count
 unfoldable pub componentOf : List ℕ → List ℕ → List ℕ → Reached → Component
@@ -89,3 +93,20 @@ unfoldable pub run : Task → List ℕ → Seen → Trail → Seen
 run task x w done = w
 run task x w fault = onward faulted w
 run task x w (reach c a) = run task x (onward (visited task x c) w) a
+
+-- identifiers that have been read
+abbrev pub idsOr : Option (List Id) → List Id
+idsOr none = []
+idsOr (some is) = is
+
+-- the identifiers of the reference r from place k on
+abbrev pub idsFrom : List ℕ → ℕ → List Id
+idsFrom r k = idsOr (idsAt r k)
+
+-- the walk along the rest of the identifiers, from a value of a type
+abbrev pub goingOn : Bool → List Id → List ℕ → Ty → Opened → Trail
+goingOn d is v ty o = along d is ty v o
+
+-- the count n of the list at a place
+abbrev pub tally : List Id → ℕ → ℕ → Trail
+tally is place n = ending is (tallied place n)

@@ -1,0 +1,4 @@
+pub mod VisitSteps
+pub mod RunLaws
+pub mod ListLaws
+pub mod WalkSteps
