@@ -1,0 +1,145 @@
+-- What a reference names in a stored value is of the type that it leads to; so a rule that is for that type reads the contents to the end.
+use mathlib.Core.Path.{_≡_, refl, sym, ap, ap₂, _∙_, subst}
+use mathlib.Core.Bool.{Bool, true, false, false≢true}
+use mathlib.Core.List.{List, [], _∷_}
+use Prim.Native.Nat.{ℕ, zero, suc, _≤_, _<_, _+_}
+use native.Mathlib.Omega.{arith}
+use borrow.Author.Tests.{eqb-true, eqb-false, eq-eqb, leb-true}
+use lib.ListN.{length}
+use lib.Dec.{leb, eqb}
+use Rattle.octets.specs.Pick.{pick, either, no}
+use Rattle.octets.specs.Octets.{same}
+use Rattle.octets.specs.Text.{within}
+use Rattle.octets.proofs.Laws.{both-true}
+use Rattle.der.specs.Contents.{legal, legalBoolean}
+use Rattle.der.proofs.Laws.{integer-octets, legal-boolean, legal-integer, legal-enumerated}
+use Rattle.rows.specs.Row.{nameAt, kindAt, elementAt, typeRowAt, presenceAt, defaultLengthAt, defaultAt, isList, rowAt, membersAt}
+use Rattle.groups.specs.Clauses.{defaultAllowed, defaultLegal}
+use Rattle.table.specs.Types.{mandatory, optional, default, Ty, basic, sequence, choice, listOf, Members, noMore, more, unfilled, presenceOf, memberOf, membersFrom, typeFrom}
+use Rattle.table.specs.Work.{Sound}
+use Rattle.reference.specs.Numbers.{contentsOf}
+use Rattle.judge.specs.Work.{NamesDiffer}
+
+-- ---- lists of octets
+pub same-is : (a b : List ℕ) → same a b ≡ true → a ≡ b
+unfolding same
+same-is [] [] e = refl
+same-is [] (b ∷ bs) e = absurd (false≢true e)
+same-is (a ∷ l) [] e = absurd (false≢true e)
+same-is (a ∷ l) (b ∷ bs) e = let w = both-true (eqb a b) (same l bs) e in ap₂ (λ (x : ℕ) (y : List ℕ). x ∷ y) (eqb-true a b (w .0)) (same-is l bs (w .1))
+
+-- ---- defaults of at most 8 octets
+boolean-short : (c : List ℕ) → legalBoolean c ≡ true → length c ≤ 8
+unfolding legalBoolean
+boolean-short c e = go (same c (0 ∷ [])) refl e
+  where
+    one : (b : ℕ) → same c (b ∷ []) ≡ true → length c ≤ 8
+    one b q = let z : length c ≡ 1 = ap length (same-is c (b ∷ []) q) in omega arith
+
+    go : (u : Bool) → same c (0 ∷ []) ≡ u → either u (same c (255 ∷ [])) ≡ true → length c ≤ 8
+    go true q f = one 0 q
+    go false q f = one 255 f
+
+small-kind : (k : ℕ) (P : ℕ → Type 0) → 1 ≤ k → k ≤ 3 → P 1 → P 2 → P 3 → P k
+small-kind k P a b p q r = go (eqb k 1) refl (eqb k 2) refl
+  where
+    go : (x : Bool) → eqb k 1 ≡ x → (y : Bool) → eqb k 2 ≡ y → P k
+    go true e y f = subst P (sym (eqb-true k 1 e)) p
+    go false e true f = subst P (sym (eqb-true k 2 f)) q
+    go false e false f = let u = eqb-false k 1 e in let w = eqb-false k 2 f in let z : 3 ≡ k = omega arith in subst P z r
+
+default-short : (k : ℕ) (c : List ℕ) → defaultAllowed k c ≡ true → length c ≤ 8
+unfolding defaultAllowed
+default-short k c e =
+    let w = both-true (within 1 3 k) (legal k c) e in
+    let u = both-true (leb 1 k) (leb k 3) (w .0) in
+    small-kind k (λ (y : ℕ). legal y c ≡ true → length c ≤ 8) (leb-true 1 k (u .0)) (leb-true k 3 (u .1))
+    (λ h. boolean-short c (sym (legal-boolean c) ∙ h))
+    (λ h. integer-octets c (sym (legal-integer c) ∙ h) .1)
+    (λ h. integer-octets c (sym (legal-enumerated c) ∙ h) .1)
+    (w .1)
+
+-- ---- types whose defaults are short and whose names differ
+-- none of these members has the name
+unfoldable pub Fresh : List ℕ → Members → Type 0
+Fresh x noMore = Unit {0}
+Fresh x (more m ty ms) = (same (m .name) x ≡ false) × Fresh x ms
+
+unfoldable mutual
+  pub Fine : Ty → Type 0
+  Fine (basic k) = Unit {0}
+  Fine (sequence ms) = FineIn ms
+  Fine (choice ms) = FineIn ms
+  Fine (listOf k ty) = Fine ty
+
+  pub FineIn : Members → Type 0
+  FineIn noMore = Unit {0}
+  FineIn (more m ty ms) = (length (contentsOf (m .presence)) ≤ 8) × (Fresh (m .name) ms × (Fine ty × FineIn ms))
+
+module _ (chain : ℕ) (t s m : List ℕ) (ok : Sound chain t s m) (names : NamesDiffer t s) where
+  -- the default of a member row
+  row-short : (i : ℕ) → i < length s → kindAt t (rowAt s i) ≡ 16 → length (contentsOf (memberOf t i (rowAt s i) .presence)) ≤ 8
+  unfolding memberOf presenceOf defaultLegal
+  row-short i h k = go (eqb (presenceAt t (rowAt s i)) 0) refl (eqb (presenceAt t (rowAt s i)) 1) refl
+    where
+      legal-default : (a b : Bool) → eqb (presenceAt t (rowAt s i)) 2 ≡ true → either (no (eqb (kindAt t (rowAt s i)) 16)) (pick (eqb (presenceAt t (rowAt s i)) 2) a b) ≡ true → a ≡ true
+      legal-default a b e f = rw (eq-eqb (kindAt t (rowAt s i)) 16 k, e) at f
+
+      allowed : eqb (presenceAt t (rowAt s i)) 2 ≡ true → length (defaultAt t (rowAt s i)) ≤ 8
+      allowed e =
+          let k = kindAt t (rowAt s (typeRowAt t (rowAt s i))) in
+          default-short k (defaultAt t (rowAt s i)) (legal-default (defaultAllowed k (defaultAt t (rowAt s i))) (eqb (defaultLengthAt t (rowAt s i)) 0) e (ok .defaults i h))
+
+      go : (x : Bool) → eqb (presenceAt t (rowAt s i)) 0 ≡ x → (y : Bool) → eqb (presenceAt t (rowAt s i)) 1 ≡ y → length (contentsOf (pick x mandatory (pick y optional (default (defaultAt t (rowAt s i)))))) ≤ 8
+      go true e y f = omega arith
+      go false e true f = omega arith
+      go false e false f =
+          let a = eqb-false (presenceAt t (rowAt s i)) 0 e in
+          let b = eqb-false (presenceAt t (rowAt s i)) 1 f in
+          let c = ok .presence i h k in
+          let d : presenceAt t (rowAt s i) ≡ 2 = omega arith in
+          allowed (eq-eqb (presenceAt t (rowAt s i)) 2 d)
+
+  fresh-rows : (f : ℕ → Ty) (x : List ℕ) (k a : ℕ) → ((j : ℕ) → j < k → same (unfilled (nameAt t (rowAt s (a + j)))) x ≡ false) → Fresh x (membersFrom f t s a k)
+  unfolding Fresh membersFrom memberOf
+  fresh-rows f x zero a h = tt
+  fresh-rows f x (suc k) a h = (
+    let z : a + 0 ≡ a = omega arith in subst (λ (y : ℕ). same (unfilled (nameAt t (rowAt s y))) x ≡ false) z (h 0 (omega arith)),
+    fresh-rows f x k (a + 1) (λ j d. let e : a + suc j ≡ a + 1 + j = omega arith in subst (λ (y : ℕ). same (unfilled (nameAt t (rowAt s y))) x ≡ false) e (h (suc j) (omega arith))),
+  )
+
+  -- k members from row a on
+  fine-rows : (f : ℕ → Ty) → ((i : ℕ) → i < length s → Fine (f i)) → (k a : ℕ)
+      → ((j : ℕ) → j < k → (a + j < length s) × (kindAt t (rowAt s (a + j)) ≡ 16) × (typeRowAt t (rowAt s (a + j)) < length s))
+      → ((i j : ℕ) → i < j → j < k → same (unfilled (nameAt t (rowAt s (a + j)))) (unfilled (nameAt t (rowAt s (a + i)))) ≡ false) → FineIn (membersFrom f t s a k)
+  unfolding Fine membersFrom memberOf
+  fine-rows f fine zero a rows apart = tt
+  fine-rows f fine (suc k) a rows apart =
+      let z : a + 0 ≡ a = omega arith in
+      let first = subst (λ (y : ℕ). (y < length s) × (kindAt t (rowAt s y) ≡ 16) × (typeRowAt t (rowAt s y) < length s)) z (rows 0 (omega arith)) in (
+        row-short a (first .0) (first .1),
+        (
+          fresh-rows f _ k (a + 1) (λ j d. shift (λ (y : ℕ). same (unfilled (nameAt t (rowAt s y))) (unfilled (nameAt t (rowAt s a))) ≡ false) j (subst (λ (y : ℕ). same (unfilled (nameAt t (rowAt s (a + suc j)))) (unfilled (nameAt t (rowAt s y))) ≡ false) z (apart 0 (suc j) (omega arith) (omega arith)))),
+          (
+            fine (typeRowAt t (rowAt s a)) (first .2),
+            fine-rows f fine k (a + 1) (λ j d. shift (λ (y : ℕ). (y < length s) × (kindAt t (rowAt s y) ≡ 16) × (typeRowAt t (rowAt s y) < length s)) j (rows (suc j) (omega arith)))
+                (λ i j l d. shift (λ (y : ℕ). same (unfilled (nameAt t (rowAt s y))) (unfilled (nameAt t (rowAt s (a + 1 + i)))) ≡ false) j (shift (λ (y : ℕ). same (unfilled (nameAt t (rowAt s (a + suc j)))) (unfilled (nameAt t (rowAt s y))) ≡ false) i (apart (suc i) (suc j) (omega arith) (omega arith)))),
+          ),
+        ),
+      )
+    where
+      shift : (P : ℕ → Type 0) (j : ℕ) → P (a + suc j) → P (a + 1 + j)
+      shift P j w = let e : a + suc j ≡ a + 1 + j = omega arith in subst P e w
+
+  -- the type of a row
+  pub fine-type : (n i : ℕ) → i < length s → Fine (typeFrom n t s i)
+  unfolding Fine typeFrom
+  fine-type zero i h = tt
+  fine-type (suc n) i h = go (eqb (kindAt t (rowAt s i)) 12) (eqb (kindAt t (rowAt s i)) 13) (isList (kindAt t (rowAt s i))) refl (λ j d. fine-type n j d)
+    where
+      go : (x y z : Bool) → isList (kindAt t (rowAt s i)) ≡ z → ((j : ℕ) → j < length s → Fine (typeFrom n t s j))
+          → Fine (pick x (sequence (membersFrom (typeFrom n t s) t s (i + 1) (membersAt t (rowAt s i)))) (pick y (choice (membersFrom (typeFrom n t s) t s (i + 1) (membersAt t (rowAt s i)))) (pick z (listOf (kindAt t (rowAt s i)) (typeFrom n t s (elementAt t (rowAt s i)))) (basic (kindAt t (rowAt s i))))))
+      go true y z e f = fine-rows (typeFrom n t s) f (membersAt t (rowAt s i)) (i + 1) (λ j d. (ok .stands i h j d, ok .members i h j d, ok .later .of-member i h j d .1)) (λ a b l d. names .differ i h a b l d)
+      go false true z e f = fine-rows (typeFrom n t s) f (membersAt t (rowAt s i)) (i + 1) (λ j d. (ok .stands i h j d, ok .members i h j d, ok .later .of-member i h j d .1)) (λ a b l d. names .differ i h a b l d)
+      go false false true e f = f (elementAt t (rowAt s i)) (ok .later .of-list i h e .1)
+      go false false false e f = tt

@@ -1,0 +1,16 @@
+use Rattle.judge.proofs.FilterSteps.{text-at, text-over, text-fault}
+use borrow.Author.Needs.{needs}
+use Rattle.judge.proofs.judge.Statement.{statement}
+use Rattle.judge.proofs.judge.Tie as tie
+
+pub judge-spec : {M : Type 1} → statement M
+judge-spec =
+    tie.close
+    (tie.spec
+    (λ c κs. search needs)  -- judge-filter-requires
+    (λ c. search needs)  -- enum-known-u
+    (λ c. search needs)  -- enum-told
+    (λ c. search needs)  -- enum-told-2
+    (λ c. search text-at)  -- returns
+    (λ c. search text-over)  -- returns-2
+    (λ c. search text-fault))  -- returns-3

@@ -1,0 +1,17 @@
+use Rattle.judge.proofs.ItemSteps.{suits-row-told, suits-count-told}
+use borrow.Author.Needs.{needs}
+use Rattle.judge.proofs.suits_target.Statement.{statement}
+use Rattle.judge.proofs.suits_target.Tie as tie
+
+pub suits-target-spec : {M : Type 1} → statement M
+suits-target-spec =
+    tie.close
+    (tie.spec
+    (λ c. search needs)  -- enum-known-target
+    (λ c κs. search needs)  -- suits-requires
+    (λ c. search needs)  -- enum-told
+    (λ c κs. search needs)  -- suits-count-requires
+    (λ c. search needs)  -- enum-told-2
+    (λ c. search suits-row-told)  -- returns
+    (λ c. search suits-count-told)  -- returns-2
+    (λ c. search needs))  -- returns-3

@@ -1,0 +1,52 @@
+-- Rules: "An assertion is Undefined exactly if its reference is malformed or not allowed by the type, its rule is unknown or not for that type, or
+-- its value text doesn't conform. Else TRUE if some named value is accepted, FALSE if none."
+use Prim.Native.Nat.{ℕ, _+_}
+use mathlib.Core.Bool.{Bool}
+use mathlib.Core.Option.{Option, none, some}
+use mathlib.Core.List.{List, []}
+use Rattle.octets.specs.Pick.{pick, both, _>>=_}
+use Rattle.table.specs.Types.{Ty}
+use Rattle.reference.specs.Reference.{Id, readReference}
+use Rattle.reference.specs.Allowed.{allowed}
+use Rattle.reference.specs.Numbers.{Component}
+use Rattle.rules.specs.Rule.{Rule, ruleOf}
+use Rattle.rules.specs.Suits.{suits}
+use Rattle.rules.specs.Asserted.{conforms}
+use Rattle.rules.specs.Accepts.{accepts}
+use Rattle.filter.specs.Filter.{Item}
+use Rattle.trail.specs.Trail.{Trail, done, fault, reach, trail}
+use Rattle.judge.specs.Truth.{TRUE, FALSE, UNDEFINED}
+use Rattle.judge.specs.Reading.{Outcome, settled, faulted}
+
+-- the identifiers of a reference; a missing one has none
+abbrev pub identifiers : Option (List ℕ) → Option (List Id)
+identifiers none = some []
+identifiers (some s) = readReference s
+
+-- what an assertion asks of a type, where it isn't Undefined: the identifiers of its reference, and its rule
+pub record Asked : Type 0 where
+  pub ids : List Id
+  pub rule : Rule
+
+unfoldable pub asked : Ty → Item → Option Asked
+asked ty i = do
+  is ← identifiers (i .component)
+  target ← allowed is ty
+  r ← ruleOf (i .rule)
+  pick (both (suits r target) (conforms r (i .value))) (some (record { ids = is; rule = r })) none
+
+-- "one [test] per value a rule is applied to. An assertion stops at its first accepted value": after n tests
+unfoldable pub testing : (Component → Bool) → ℕ → Trail → Outcome
+testing accepted n done = settled FALSE n
+testing accepted n fault = faulted n
+testing accepted n (reach c a) =
+    let rest = testing accepted (n + 1) a in
+    pick (accepted c) (settled TRUE (n + 1)) rest
+
+-- "an Undefined assertion makes no test"
+abbrev pub outcomeOf : Ty → List ℕ → Item → Option Asked → Outcome
+outcomeOf ty v i none = settled UNDEFINED 0
+outcomeOf ty v i (some a) = testing (accepts (a .rule) (i .value)) 0 (trail (i .defaults) (a .ids) ty v)
+
+unfoldable pub outcome : Ty → List ℕ → Item → Outcome
+outcome ty v i = outcomeOf ty v i (asked ty i)
