@@ -1,2 +1,3 @@
-pub mod Laws
-pub mod VisitSteps
+pub mod ListSteps
+pub mod Answers
+pub mod AskSteps

@@ -4,18 +4,22 @@ use Prim.Native.Nat.{ℕ}
 use mathlib.Core.Bool.{Bool}
 use mathlib.Core.Option.{Option, none, some}
 use mathlib.Core.List.{List}
-use lib.Dec.{leb}
-use Rattle.octets.specs.Pick.{pick, both}
-use Rattle.table.specs.Types.{typeAt}
+use lib.Dec.{leb, eqb}
+use Rattle.octets.specs.Pick.{pick, both, isSome}
+use Rattle.table.specs.Types.{Ty, typeAt}
 use Rattle.table.specs.Admitted.{admitted}
 use Rattle.table.specs.Check.{tableFits}
-use Rattle.value.specs.Check.{valueFits, isStored}
+use Rattle.value.specs.Decode.{storedValue}
+use Rattle.value.specs.Check.{valueFits}
 use Rattle.filter.specs.Filter.{Filter}
 use Rattle.filter.specs.Parse.{filterFits, parse}
 use Rattle.engine.specs.Limits.{Limits}
-use Rattle.engine.specs.Truth.{Truth}
-use Rattle.engine.specs.Reading.{Outcome, settled, faulted, reading}
-use Rattle.engine.specs.Assertion.{outcome}
+use Rattle.judge.specs.Truth.{Truth, TRUE, FALSE, UNDEFINED}
+use Rattle.judge.specs.Reading.{Outcome, settled, faulted, reading}
+use Rattle.judge.specs.Assertion.{outcome}
+use Rattle.judge.specs.declared.Verdict.{Verdict}
+use Rattle.judge.specs.declared.Judged.{Judged}
+use Rattle.engine.specs.declared.Answer.{Answer}
 
 -- a refusal number, 0 for none; the truth and the number of tests. A refusal "returns its number, no truth and count 0"
 pub record Report : Type 0 where
@@ -34,25 +38,47 @@ unfoldable pub budgeted : ℕ → Outcome → Report
 budgeted budget (settled t n) = pick (leb n budget) (answers t n) (refused 5)
 budgeted budget (faulted n) = pick (leb n budget) (refused 7) (refused 5)
 
--- 1: a size or the budget out of its limits
+-- 1: a size or the budget out of its limits: the most octets of a table, whether the value's octets and the filter's are within theirs, the largest
+-- budget
+unfoldable pub questionWithin : ℕ → Bool → Bool → ℕ → List ℕ → ℕ → Bool
+questionWithin bytes value filter most t budget = both (tableFits bytes t) (both value (both filter (leb budget most)))
+
 unfoldable pub questionFits : Limits → List ℕ → List ℕ → List ℕ → ℕ → Bool
-questionFits l t v s budget =
-    both (tableFits (l .bytes) t)
-    (both (valueFits (l .value) v)
-    (both (filterFits (l .filter) s)
-    (leb budget (l .budget))))
+questionFits l t v s budget = questionWithin (l .bytes) (valueFits (l .value) v) (filterFits (l .filter) s) (l .budget) t budget
 
--- a filter that has been read, put to a table and value
-unfoldable pub evaluated : Limits → List ℕ → List ℕ → Filter → Outcome
-evaluated l t v f = reading (outcome (typeAt (l .table) t 0) v) f
+-- a filter that has been read, put to a value of a type
+unfoldable pub evaluated : Ty → List ℕ → Filter → Outcome
+evaluated ty v f = reading (outcome ty v) f
 
--- 3, then 4
-abbrev pub afterParse : Limits → List ℕ → List ℕ → ℕ → Option Filter → Report
-afterParse l t v budget none = refused 3
-afterParse l t v budget (some f) = pick (isStored (l .table) t v) (budgeted budget (evaluated l t v f)) (refused 4)
+-- 3: "filter not of the form above, or over depth or items"; then 4: "value not as above", by the type of row 0
+unfoldable pub withFilter : Ty → List ℕ → ℕ → Option Filter → Report
+withFilter ty v budget none = refused 3
+withFilter ty v budget (some f) = pick (isSome (storedValue ty v)) (budgeted budget (evaluated ty v f)) (refused 4)
 
 unfoldable pub askReport : Limits → List ℕ → List ℕ → List ℕ → ℕ → Report
 askReport l t v s budget =
     pick (questionFits l t v s budget)
-    (pick (admitted (l .table) t) (afterParse l t v budget (parse (l .filter) s)) (refused 2))
+    (pick (admitted (l .table) t) (withFilter (typeAt (l .table) t 0) v budget (parse (l .filter) s)) (refused 2))
     (refused 1)
+
+-- ---- what the code's answer says
+abbrev pub report : Answer → Report
+report (Answer.True n) = answers TRUE n
+report (Answer.False n) = answers FALSE n
+report (Answer.Undefined n) = answers UNDEFINED n
+report (Answer.Refused n) = refused n
+
+-- refused, with this number
+abbrev pub isRefused : ℕ → Report → Bool
+isRefused n r = eqb (r .refusal) n
+
+-- a truth with the tests made, and what the evaluation of a filter comes to
+abbrev pub settledAs : Verdict → ℕ → Answer
+settledAs Verdict.True n = Answer.True n
+settledAs Verdict.False n = Answer.False n
+settledAs Verdict.Undefined n = Answer.Undefined n
+
+abbrev pub judgedReport : Judged → Report
+judgedReport (Judged.Of u n) = report (settledAs u n)
+judgedReport Judged.Over = refused 5
+judgedReport Judged.Fault = refused 7

@@ -15,47 +15,14 @@ use Rattle.value.specs.Paper.{licenceRecord}
 use Rattle.filter.specs.Filter.{Item, Join, and, or, Filter, item, list, inverse, endFilters, next}
 use Rattle.reference.specs.Reference.{position, all, Id, name, index}
 use Rattle.reference.specs.Numbers.{threes}
-use Rattle.engine.specs.Truth.{TRUE, FALSE, UNDEFINED, conjunction, disjunction}
-use Rattle.engine.specs.Reading.{Outcome, settled, faulted, reading}
+use Rattle.judge.specs.Truth.{TRUE, FALSE, UNDEFINED, conjunction, disjunction}
+use Rattle.judge.specs.Reading.{Outcome, settled, faulted, reading}
 use Rattle.trail.specs.Trail.{Trail, trail, faulty, reached}
 use Rattle.engine.specs.Answer as answer
 use Rattle.engine.specs.Answer.{budgeted, askReport}
 use Rattle.engine.specs.Listing.{Listing, listReport, refusedList, lists}
 use Rattle.engine.specs.Paper.{limits}
 use Rattle.engine.specs.Computing.{engineComputes}
-
--- ---- lists and `not`
-joins : conjunction [] ∷ conjunction (TRUE ∷ UNDEFINED ∷ []) ∷ conjunction (UNDEFINED ∷ FALSE ∷ []) ∷ conjunction (TRUE ∷ TRUE ∷ []) ∷ disjunction [] ∷ disjunction (FALSE ∷ UNDEFINED ∷ [])
-    ∷ disjunction (UNDEFINED ∷ TRUE ∷ []) ∷ disjunction (FALSE ∷ FALSE ∷ []) ∷ []
-    ≡ TRUE ∷ UNDEFINED ∷ FALSE ∷ TRUE ∷ FALSE ∷ UNDEFINED ∷ TRUE ∷ FALSE ∷ []
-unfolding engineComputes
-joins = refl
-
--- an item here is its own outcome: its rule has the number of tests, its value text T, F, U, or X for a fault
-abbrev says : List ℕ → List ℕ → Outcome
-says [] n = faulted 0
-says (u ∷ us) [] = faulted 0
-says (u ∷ us) (n ∷ ns) = pick (eqb u 84) (settled TRUE n) (pick (eqb u 70) (settled FALSE n) (pick (eqb u 85) (settled UNDEFINED n) (faulted n)))
-
-abbrev saysItem : Item → Outcome
-saysItem i = says (i .value) (i .rule)
-
-abbrev one : String → ℕ → Filter
-one u n = item (record { component = none; defaults = true; rule = n ∷ []; value = bytes u })
-
-abbrev three : Join → Filter → Filter → Filter → Outcome
-three j a b c = reading saysItem (list j (next a (next b (next c endFilters))))
-
--- `and` stops at its first FALSE, `or` at its first TRUE; Undefined stops nothing; what comes after a stop makes no test, and no fault
-stops : three and (one "T" 1) (one "F" 2) (one "T" 4) ∷ three or (one "F" 1) (one "T" 2) (one "F" 4) ∷ three and (one "U" 0) (one "T" 2) (one "F" 4) ∷ three or (one "U" 0) (one "F" 2) (one "T" 4)
-    ∷ three and (one "U" 0) (one "T" 2) (one "T" 4) ∷ three or (one "F" 1) (one "U" 0) (one "F" 4) ∷ three and (one "F" 1) (one "X" 2) (one "T" 4) ∷ three or (one "F" 1) (one "X" 2) (one "T" 4) ∷ []
-    ≡ settled FALSE 3 ∷ settled TRUE 3 ∷ settled FALSE 6 ∷ settled TRUE 6 ∷ settled UNDEFINED 6 ∷ settled UNDEFINED 5 ∷ settled FALSE 1 ∷ faulted 3 ∷ []
-unfolding engineComputes
-stops = refl
-
-nots : map (λ u. reading saysItem (inverse (one u 1))) ("T" ∷ "F" ∷ "U" ∷ "X" ∷ []) ≡ settled FALSE 1 ∷ settled TRUE 1 ∷ settled UNDEFINED 1 ∷ faulted 1 ∷ []
-unfolding engineComputes
-nots = refl
 
 -- of 5 and 7 the first met: a fault after two tests
 budgets : budgeted 2 (settled TRUE 2) ∷ budgeted 1 (settled TRUE 2) ∷ budgeted 2 (faulted 2) ∷ budgeted 1 (faulted 2) ∷ [] ≡ answer.answers TRUE 2 ∷ answer.refused 5 ∷ answer.refused 7 ∷ answer.refused 5 ∷ []

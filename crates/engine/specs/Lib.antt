@@ -1,8 +1,4 @@
 pub mod Limits
-pub mod Run
-pub mod Truth
-pub mod Reading
-pub mod Assertion
 pub mod Answer
 pub mod Listing
 pub mod Computing

@@ -4,17 +4,21 @@ use mathlib.Core.Bool.{Bool}
 use mathlib.Core.Option.{Option, none, some}
 use mathlib.Core.List.{List, [], _++_}
 use lib.ListN.{length, drop}
-use lib.Dec.{ltb, leb}
+use lib.Dec.{ltb, leb, eqb}
 use Rattle.octets.specs.Pick.{pick, both, either, no, isSome}
-use Rattle.table.specs.Types.{typeAt}
+use Rattle.rows.specs.Limits as table
+use Rattle.table.specs.Types.{Ty, typeAt}
 use Rattle.table.specs.Admitted.{admitted}
 use Rattle.table.specs.Check.{tableFits}
-use Rattle.value.specs.Check.{valueFits, isStored}
+use Rattle.value.specs.Limits as value
+use Rattle.value.specs.Decode.{storedValue}
+use Rattle.value.specs.Check.{valueFits}
 use Rattle.reference.specs.Reference.{Id, readReference}
 use Rattle.reference.specs.Allowed.{allowed}
 use Rattle.reference.specs.Numbers.{Component, threes}
 use Rattle.engine.specs.Limits.{Limits}
 use Rattle.trail.specs.Trail.{Trail, trail, faulty, reached}
+use Rattle.engine.specs.declared.Listed.{Listed}
 
 -- a refusal number, 0 for none; "the count in its answer is the number of named values", and 0 with a refusal
 pub record ListReport : Type 0 where
@@ -48,24 +52,42 @@ listed cs room = pick (ltb (length room) (length cs * 3)) (refusedList 6 room) (
 unfoldable pub walked : Trail → List ℕ → Listing
 walked a room = pick (faulty a) (refusedList 7 room) (listed (reached a) room)
 
--- 1: "a listing's reference above 2,048"; where none is given its octets are not looked at
-unfoldable pub listingFits : Limits → List ℕ → List ℕ → Bool → List ℕ → Bool
-listingFits l t v given r = both (tableFits (l .bytes) t) (both (valueFits (l .value) v) (either (no given) (leb (length r) (l .reference))))
+-- 1: "a listing's reference above 2,048"; where none is given its octets are not looked at. The most octets of a table, the limits of a value, and the
+-- most octets of a reference
+unfoldable pub listingFits : ℕ → value.Limits → ℕ → List ℕ → List ℕ → Bool → List ℕ → Bool
+listingFits bytes vl most t v given r = both (tableFits bytes t) (both (valueFits vl v) (either (no given) (leb (length r) most)))
 
 -- "The listing may be given no reference; an empty one is refused 3."
 abbrev pub givenIds : Bool → List ℕ → Option (List Id)
 givenIds given r = pick given (readReference r) (some [])
 
--- 3: "reference malformed or not allowed"; then 4
-abbrev pub withIds : Limits → List ℕ → List ℕ → Bool → List ℕ → Option (List Id) → Listing
-withIds l t v defaults room none = refusedList 3 room
-withIds l t v defaults room (some is) =
-    pick (isSome (allowed is (typeAt (l .table) t 0)))
-    (pick (isStored (l .table) t v) (walked (trail defaults is (typeAt (l .table) t 0) v) room) (refusedList 4 room))
+-- 3: "reference malformed or not allowed"; then 4: "value not as above", by the type of row 0
+unfoldable pub withIds : Ty → List ℕ → Bool → List ℕ → Option (List Id) → Listing
+withIds ty v defaults room none = refusedList 3 room
+withIds ty v defaults room (some is) =
+    pick (isSome (allowed is ty))
+    (pick (isSome (storedValue ty v)) (walked (trail defaults is ty v) room) (refusedList 4 room))
     (refusedList 3 room)
+
+-- 2, then 3 and the others
+unfoldable pub listingOf : table.Limits → List ℕ → List ℕ → Bool → List ℕ → Bool → List ℕ → Listing
+listingOf l t v given r defaults room = pick (admitted l t) (withIds (typeAt l t 0) v defaults room (givenIds given r)) (refusedList 2 room)
 
 unfoldable pub listReport : Limits → List ℕ → List ℕ → Bool → List ℕ → Bool → List ℕ → Listing
 listReport l t v given r defaults room =
-    pick (listingFits l t v given r)
-    (pick (admitted (l .table) t) (withIds l t v defaults room (givenIds given r)) (refusedList 2 room))
+    pick (listingFits (l .bytes) (l .value) (l .reference) t v given r)
+    (listingOf (l .table) t v given r defaults room)
     (refusedList 1 room)
+
+-- ---- what the code's answer says
+abbrev pub listedReport : Listed → ListReport
+listedReport (Listed.Values n) = lists n
+listedReport (Listed.Refused n) = refused n
+
+-- with the lent memory
+abbrev pub listedTold : Listed → List ℕ → Listing
+listedTold r memory = record { report = listedReport r; memory = memory }
+
+-- refused, with this number
+abbrev pub isRefused : ℕ → ListReport → Bool
+isRefused n r = eqb (r .refusal) n
