@@ -1,0 +1,4 @@
+pub mod Steps
+pub mod Thin
+pub mod Above
+pub mod Laws

@@ -1,0 +1,4 @@
+pub mod There
+pub mod Sees
+pub mod Computing
+pub mod Examples
