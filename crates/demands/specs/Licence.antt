@@ -9,7 +9,7 @@ use Rattle.octets.specs.Octets.{bytes, hex}
 use Rattle.table.specs.Paper.{licence}
 use Rattle.value.specs.Paper.{licenceRecord}
 use Rattle.engine.specs.Paper.{limits}
-use Rattle.engine.specs.Truth.{Truth, TRUE, FALSE, UNDEFINED}
+use Rattle.judge.specs.Truth.{Truth, TRUE, FALSE, UNDEFINED}
 use Rattle.engine.specs.Answer as answer
 use Rattle.engine.specs.Listing as listing
 use Rattle.engine.specs.Computing.{engineComputes}

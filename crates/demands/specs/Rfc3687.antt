@@ -7,7 +7,7 @@ use Prim.Native.String.{String}
 use Rattle.octets.specs.Octets.{bytes, hex}
 use Rattle.table.specs.Paper.{memberRow}
 use Rattle.engine.specs.Paper.{limits}
-use Rattle.engine.specs.Truth.{TRUE, FALSE, UNDEFINED}
+use Rattle.judge.specs.Truth.{TRUE, FALSE, UNDEFINED}
 use Rattle.engine.specs.Answer.{Report, answers, askReport}
 use Rattle.engine.specs.Computing.{engineComputes}
 use Rattle.demands.specs.Shown.{shownTable, shownValue, shownList}

@@ -15,7 +15,7 @@ use Rattle.value.specs.Paper.{valueLimits}
 use Rattle.value.specs.Check as value
 use Rattle.value.specs.Part as part
 use Rattle.engine.specs.Paper.{limits}
-use Rattle.engine.specs.Truth.{Truth, TRUE, FALSE, UNDEFINED}
+use Rattle.judge.specs.Truth.{Truth, TRUE, FALSE, UNDEFINED}
 use Rattle.engine.specs.Answer as answer
 use Rattle.engine.specs.Listing as listing
 
