@@ -2,6 +2,7 @@
 
     python3 second/corpus.py            writes crates/cases/stdin and crates/cases/stdout
     python3 second/corpus.py --check    fails if they are not what is drawn and answered here
+    python3 second/corpus.py --count    prints how often each answer occurs
 
 docs/CASES.md describes both files.
 """
@@ -9,9 +10,11 @@ docs/CASES.md describes both files.
 import pathlib
 import random
 import sys
+from collections import Counter
 
 import draw
 import engine
+import questions
 import written
 from samples import choice, member, of, sequence, tlv
 
@@ -162,24 +165,45 @@ def given(octets):
     return len(octets).to_bytes(2, "big") + octets
 
 
+def cases():
+    """What the program reads and prints, case by case: its kind, its octets and its line."""
+    for table in tables():
+        yield "t", b"t" + given(table), "%s %d\n" % engine.check_table(table)
+    for table, value in value_cases():
+        line = " ".join(str(word) for word in engine.check_value(table, value)) + "\n"
+        yield "v", b"v" + given(table) + given(value), line
+    for value, place, length in parts():
+        answer = engine.part(value, place, length)
+        line = "refused %d\n" % answer[1] if answer[0] == "refused" else "part %s\n" % answer[1].hex().upper()
+        yield "p", b"p" + given(value) + place.to_bytes(8, "big") + length.to_bytes(8, "big"), line
+    for (table, value), asked in questions.subjects(hostile_values().values()).items():
+        head = b"q" + given(table) + given(value) + len(asked).to_bytes(2, "big")
+        for question in asked:
+            yield question[0], head + questions.octets_of(question), questions.answered(table, value, question)
+            head = b""
+
+
 def files():
     """The program's input and its output."""
     asked, told = [], []
-    for table in tables():
-        asked.append(b"t" + given(table))
-        told.append("%s %d\n" % engine.check_table(table))
-    for table, value in value_cases():
-        asked.append(b"v" + given(table) + given(value))
-        told.append(" ".join(str(word) for word in engine.check_value(table, value)) + "\n")
-    for value, place, length in parts():
-        asked.append(b"p" + given(value) + place.to_bytes(8, "big") + length.to_bytes(8, "big"))
-        answer = engine.part(value, place, length)
-        told.append("refused %d\n" % answer[1] if answer[0] == "refused" else "part %s\n" % answer[1].hex().upper())
+    for _, octets, line in cases():
+        asked.append(octets)
+        told.append(line)
     return {"stdin": b"".join(asked), "stdout": "".join(told).encode()}
 
 
+def word_of(line):
+    """The answer of a line: its first word, with the number of a refusal."""
+    words = line.split(":")[0].split()
+    return " ".join(words[:2]) if words[0] == "refused" else words[0]
+
+
 def main():
-    """Write the files, or compare them."""
+    """Write the files, compare them, or count the answers."""
+    if sys.argv[1:] == ["--count"]:
+        for (kind, word), number in sorted(Counter((kind, word_of(line)) for kind, _, line in cases()).items()):
+            print(kind, word, number)
+        return
     for name, octets in files().items():
         path = FOLDER / name
         if sys.argv[1:] == ["--check"]:

@@ -4,6 +4,8 @@ An answer is a tuple: ("refused", n), or ("admitted", rows), ("good",), ("part",
 ("answer", truth, tests), ("listed", triples). The part's refusal has a third place, b"".
 """
 
+import functools
+
 import filters
 import reference
 import rules
@@ -44,17 +46,22 @@ def answering(entry):
     return answer
 
 
+# Many questions about one table and value follow one another: what was read last is kept.
+read_table = functools.lru_cache(maxsize=1)(types.Table)
+read_value = functools.lru_cache(maxsize=1)(values.decode)
+
+
 def admitted(octets):
     """The table, or refusal 2."""
     try:
-        return types.Table(octets)
+        return read_table(octets)
     except types.NotAdmitted:
         raise Refused(2) from None
 
 
 def decoded(table, octets):
     """The tree of the value, or refusal 4."""
-    tree = values.decode(table, octets)
+    tree = read_value(table, octets)
     refuse_unless(tree is not None, 4)
     return tree
 

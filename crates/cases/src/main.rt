@@ -1,4 +1,7 @@
 // Answers the cases of standard input, a line for each. docs/CASES.md describes both formats.
+use engine::Answer;
+use engine::Listed;
+use filter::Filter;
 use libc::STDIN_FILENO;
 use libc::STDOUT_FILENO;
 use rows::Table;
@@ -29,10 +32,14 @@ fn print_word(word: &[u8]) {
     io::write_all(STDOUT_FILENO, word);
 }
 
-fn print_line(word: &[u8], n: u64) {
+fn print_count(word: &[u8], n: u64) {
     io::write_all(STDOUT_FILENO, word);
     io::print_decimal(STDOUT_FILENO, n);
-    io::write_all(STDOUT_FILENO, b"\n");
+}
+
+fn print_line(word: &[u8], n: u64) {
+    print_count(word, n);
+    print_word(b"\n");
 }
 
 // An input's length: two octets, most significant first; 0 at the end of the input.
@@ -144,6 +151,121 @@ fn part_case() {
     }
 }
 
+// A flag: one octet that is not 0.
+fn read_flag() -> bool {
+    let mut flag = [0u8; 1];
+    let got = io::read_full(STDIN_FILENO, &mut flag);
+    got == 1 && flag[0] != 0
+}
+
+fn print_listed(listed: Listed) {
+    match listed {
+        Listed::Values(n) => print_count(b"listed ", n as u64),
+        Listed::Refused(refusal) => print_count(b"refused ", refusal as u64),
+    }
+}
+
+// The numbers of a room after a listing.
+fn print_room(room: &[u64]) {
+    print_word(b":");
+    let mut i = 0;
+    while i < room.len() {
+        print_count(b" ", room[i]);
+        i += 1;
+    }
+    print_word(b"\n");
+}
+
+fn list_all(
+    table: &[u8],
+    value: &[u8],
+    given: bool,
+    reference: &[u8],
+    defaults: bool,
+    room: &mut [u64],
+) {
+    let listed = engine::list(table, value, given, reference, defaults, room);
+    print_listed(listed);
+    print_room(room);
+}
+
+// A listing into the first n numbers of room, or into all.
+fn list_into(
+    table: &[u8],
+    value: &[u8],
+    given: bool,
+    reference: &[u8],
+    defaults: bool,
+    n: usize,
+    room: &mut [u64],
+) {
+    if n <= room.len() {
+        list_all(table, value, given, reference, defaults, &mut room[..n]);
+    } else {
+        list_all(table, value, given, reference, defaults, room);
+    }
+}
+
+// A listing. Before it each number of the room is 9999, which no listing writes.
+fn list_case(table: &[u8], value: &[u8]) {
+    let mut reference = [0u8; Listed::MAX_REFERENCE + 1];
+    let mut room = [9999u64; Value::MAX_BYTES / 2 * 3];
+    let given = read_flag();
+    let k = read_length();
+    let r = read_part(&mut reference, k);
+    let defaults = read_flag();
+    let n = read_length();
+    list_into(table, value, given, &reference[..r], defaults, n, &mut room);
+}
+
+fn filter_case(table: &[u8], value: &[u8]) {
+    let mut filter = [0u8; Filter::MAX_BYTES + 1];
+    let k = read_length();
+    let f = read_part(&mut filter, k);
+    let budget = read_number();
+    match engine::ask(table, value, &filter[..f], budget as u64) {
+        Answer::True(n) => print_line(b"TRUE ", n as u64),
+        Answer::False(n) => print_line(b"FALSE ", n as u64),
+        Answer::Undefined(n) => print_line(b"UNDEFINED ", n as u64),
+        Answer::Refused(refusal) => print_line(b"refused ", refusal as u64),
+    }
+}
+
+// One question about a table and a value; false at the end of the input and at a kind of question that there is not.
+fn question(table: &[u8], value: &[u8]) -> bool {
+    let mut kind = [0u8; 1];
+    let got = io::read_full(STDIN_FILENO, &mut kind);
+    if got < 1 {
+        return false;
+    }
+    if kind[0] == b'l' {
+        list_case(table, value);
+        return true;
+    }
+    if kind[0] == b'f' {
+        filter_case(table, value);
+        return true;
+    }
+    false
+}
+
+fn questions(table: &[u8], value: &[u8]) {
+    let mut left = read_length();
+    while left > 0 && question(table, value) {
+        left -= 1;
+    }
+}
+
+fn questions_case() {
+    let mut table = [0u8; Table::MAX_BYTES + 1];
+    let mut value = [0u8; Value::MAX_BYTES + 1];
+    let n = read_length();
+    let t = read_part(&mut table, n);
+    let k = read_length();
+    let v = read_part(&mut value, k);
+    questions(&table[..t], &value[..v]);
+}
+
 // One case; false at the end of the input and at a kind of case that there is not.
 fn one() -> bool {
     let mut kind = [0u8; 1];
@@ -161,6 +283,10 @@ fn one() -> bool {
     }
     if kind[0] == b'p' {
         part_case();
+        return true;
+    }
+    if kind[0] == b'q' {
+        questions_case();
         return true;
     }
     false

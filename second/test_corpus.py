@@ -1,0 +1,143 @@
+"""Tests of the cases of crates/cases, read back from its files."""
+
+import unittest
+from collections import Counter
+
+import corpus
+import engine
+import filters
+import questions
+import reference
+import table as types
+import value as values
+from samples import LICENCE, RECORD, item
+
+
+class Reader:
+    """Reads the cases of standard input as docs/CASES.md describes them."""
+
+    def __init__(self, octets):
+        self.octets, self.place = octets, 0
+
+    def take(self, size):
+        """The next octets."""
+        self.place += size
+        if self.place > len(self.octets):
+            raise ValueError("a case is cut off")
+        return self.octets[self.place - size:self.place]
+
+    def number(self, size):
+        """A number of so many octets."""
+        return int.from_bytes(self.take(size), "big")
+
+    def input(self):
+        """An input of octets."""
+        return self.take(self.number(2))
+
+    def question(self):
+        """A listing or a filter."""
+        if self.take(1) == b"f":
+            return ("f", self.input(), self.number(8))
+        return ("l", self.number(1) == 1, self.input(), self.number(1) == 1, self.number(2))
+
+    def cases(self):
+        """Each case: its kind, and for a question its table, value and inputs."""
+        while self.place < len(self.octets):
+            kind = self.take(1).decode()
+            if kind == "q":
+                table, value = self.input(), self.input()
+                for _ in range(self.number(2)):
+                    question = self.question()
+                    yield question[0], (table, value) + question[1:]
+                continue
+            inputs = (self.input(),) + ((self.input(),) if kind == "v" else ())
+            yield kind, inputs + ((self.number(8), self.number(8)) if kind == "p" else ())
+
+
+class Files(unittest.TestCase):
+    """What stands in crates/cases/stdin and stdout."""
+
+    @classmethod
+    def setUpClass(cls):
+        lines = (corpus.FOLDER / "stdout").read_text(encoding="utf-8").splitlines()
+        found = [*Reader((corpus.FOLDER / "stdin").read_bytes()).cases()]
+        cls.lines, cls.cases = len(lines), [(*case, line) for case, line in zip(found, lines)]
+        cls.number = len(found)
+
+    def test_a_line_each(self):
+        self.assertEqual(self.lines, self.number)
+
+    def test_each_answer_often(self):
+        seen = Counter((kind, corpus.word_of(line)) for kind, _, line in self.cases)
+        self.assertGreaterEqual(sum(seen[one] for one in seen if one[0] == "l"), 5000)
+        self.assertGreaterEqual(sum(seen[one] for one in seen if one[0] == "f"), 20000)
+        for kind, words in (("l", ["listed"] + ["refused %d" % number for number in (1, 2, 3, 4, 6)]),
+                            ("f", ["TRUE", "FALSE", "UNDEFINED"] + ["refused %d" % number for number in range(1, 6)])):
+            self.assertEqual(sorted(word for one, word in seen if one == kind), sorted(words))
+            for word in words:
+                self.assertGreaterEqual(seen[kind, word], 150, (kind, word))
+
+    def test_around_the_need(self):
+        rooms, budgets = Counter(), Counter()
+        for kind, inputs, line in self.cases:
+            if kind == "l" and line.startswith("listed"):
+                rooms[inputs[5] - 3 * int(line.split(":")[0].split()[1])] += 1
+            if kind == "f" and line[0] in "TFU":
+                budgets[inputs[3] - int(line.split()[1])] += 1
+        for more in (0, 1, 2):
+            self.assertGreaterEqual(rooms[more], 300)
+        self.assertEqual(min(rooms), 0)
+        self.assertGreaterEqual(budgets[0], 3000)
+        self.assertEqual(min(budgets), 0)
+
+    def test_short_by_one(self):
+        rooms = budgets = 0
+        for kind, inputs, line in self.cases:
+            if kind == "l" and line.startswith("refused 6"):
+                rooms += engine.listing(*inputs[:5], inputs[5] + 1)[0] == "listed"
+            if kind == "f" and line == "refused 5" and inputs[3] < 65535 and len(inputs[1]) < 1000:
+                budgets += engine.ask(*inputs[:3], inputs[3] + 1)[0] == "answer"
+        self.assertGreaterEqual(rooms, 300)
+        self.assertGreaterEqual(budgets, 2000)
+
+    def test_paper(self):
+        answers = {(kind, inputs): line for kind, inputs, line in self.cases if inputs[0] == LICENCE}
+        copies = "parts.*.copies"
+        for text, budget, line in [
+                (item(copies, "integerMatch", "3"), 65535, "TRUE 2"),
+                (item(copies, "integerMatch", "3"), 1, "refused 5"),
+                (item(copies, "integerMatch", "7"), 65535, "FALSE 2"),
+                (item(copies, "integerMatch", "1", "FALSE"), 65535, "FALSE 1"),
+                (item(copies, "integerOrderingMatch", "2"), 65535, "TRUE 1"),
+                (item("event", "integerMatch", "3"), 65535, "UNDEFINED 0"),
+                ("not:" + item("event", "integerMatch", "3"), 65535, "UNDEFINED 0"), ("and:{ }", 65535, "TRUE 0"),
+                ("or:{ }", 65535, "FALSE 0"), (item("seats", "integerMatch", "9223372036854775808"), 65535, "FALSE 1"),
+                (item("parts.3", "presentMatch", "NULL"), 65535, "FALSE 0")]:
+            self.assertEqual(answers["f", (LICENCE, RECORD, text.encode(), budget)], line)
+        for text, room, line in [("parts.*.copies", 6, "listed 2: 1 8 9 0 20 3"), ("parts.0", 3, "listed 1: 2 6 2"),
+                                 ("parts.*.copies", 5, "refused 6: 9999 9999 9999 9999 9999")]:
+            self.assertEqual(answers["l", (LICENCE, RECORD, True, text.encode(), True, room)], line)
+        stored = bytes.fromhex("30180C026531020101300F30041302566C300713025661800103")
+        self.assertEqual(answers["l", (LICENCE, stored, True, b"seats", True, 3)], "refused 4: 9999 9999 9999")
+
+    def test_laws(self):
+        kept = None, None, None
+        for kind, inputs, line in self.cases:
+            if kind == "f" and line[0] in "TFU":
+                items = filters.items(filters.parse(inputs[2]))
+                self.assertLessEqual(int(line.split()[1]), items * (len(inputs[1]) // 2))
+            if kind == "l" and line.startswith("listed"):
+                if kept[0] != inputs[:2]:
+                    rows = types.Table(inputs[0])
+                    kept = inputs[:2], rows, values.decode(rows, inputs[1])
+                steps = reference.parse(inputs[3].decode()) if inputs[2] else []
+                named = reference.named_in_tree(kept[1], kept[2], steps, inputs[4])
+                numbers = [number for one in named for number in (one.source, one.place, one.number)]
+                told = [int(number) for number in line.split(":")[1].split()]
+                self.assertEqual(told, numbers + [questions.UNWRITTEN] * (inputs[5] - len(numbers)))
+                self.assertNotIn(questions.UNWRITTEN, numbers)
+                self.assertTrue(all(one.place < other.place for one, other in zip(named, named[1:])))
+
+
+if __name__ == "__main__":
+    unittest.main()
