@@ -1,0 +1,370 @@
+//! Matching rules: their names, the types they are for, asserted values, acceptance.
+
+use crate::der;
+use crate::reference::Target;
+use crate::table::{Basic, Form, Tagging, Type};
+use std::cmp::Ordering;
+
+#[derive(Clone, Copy, Debug, PartialEq, Eq)]
+pub enum Rule {
+    Present,
+    Boolean,
+    Integer,
+    IntegerOrdering,
+    ObjectIdentifier,
+    OctetString,
+    OctetStringOrdering,
+    BitString,
+    CaseIgnore,
+    CaseExact,
+    GeneralizedTime,
+    GeneralizedTimeOrdering,
+}
+
+const RULES: [(&str, &str, Rule); 12] = [
+    ("presentMatch", "1.2.36.79672281.1.13.5", Rule::Present),
+    ("booleanMatch", "2.5.13.13", Rule::Boolean),
+    ("integerMatch", "2.5.13.14", Rule::Integer),
+    ("integerOrderingMatch", "2.5.13.15", Rule::IntegerOrdering),
+    ("objectIdentifierMatch", "2.5.13.0", Rule::ObjectIdentifier),
+    ("octetStringMatch", "2.5.13.17", Rule::OctetString),
+    ("octetStringOrderingMatch", "2.5.13.18", Rule::OctetStringOrdering),
+    ("bitStringMatch", "2.5.13.16", Rule::BitString),
+    ("caseIgnoreMatch", "2.5.13.2", Rule::CaseIgnore),
+    ("caseExactMatch", "2.5.13.5", Rule::CaseExact),
+    ("generalizedTimeMatch", "2.5.13.27", Rule::GeneralizedTime),
+    ("generalizedTimeOrderingMatch", "2.5.13.28", Rule::GeneralizedTimeOrdering),
+];
+
+impl Rule {
+    /// The rule of this name or dotted OID. An OID has one dotted form, so that texts are compared.
+    pub fn find(text: &[u8]) -> Option<Rule> {
+        RULES
+            .iter()
+            .find(|(name, oid, _)| name.as_bytes().eq_ignore_ascii_case(text) || oid.as_bytes() == text)
+            .map(|&(_, _, rule)| rule)
+    }
+
+    fn is_for(self, target: Target) -> bool {
+        let ty = match target {
+            Target::Count => return matches!(self, Rule::Present | Rule::Integer | Rule::IntegerOrdering),
+            Target::Type(ty) => ty,
+        };
+        let is = |basic: Basic| matches!(ty.form, Form::Basic(own) if own == basic);
+        match self {
+            Rule::Present => true,
+            Rule::Boolean => is(Basic::Boolean),
+            Rule::Integer | Rule::IntegerOrdering => is(Basic::Integer),
+            Rule::ObjectIdentifier => is(Basic::ObjectIdentifier),
+            Rule::OctetString | Rule::OctetStringOrdering => is(Basic::OctetString),
+            Rule::BitString => is(Basic::BitString),
+            Rule::CaseIgnore | Rule::CaseExact => is_string(ty),
+            Rule::GeneralizedTime | Rule::GeneralizedTimeOrdering => is(Basic::GeneralizedTime),
+        }
+    }
+}
+
+/// A string kind, or a CHOICE of untagged ones.
+fn is_string(ty: &Type) -> bool {
+    let kind = |ty: &Type| matches!(ty.form, Form::Basic(basic) if basic.is_string());
+    match &ty.form {
+        Form::Choice(members) => members.iter().all(|m| m.tagging == Tagging::None && kind(&m.ty)),
+        _ => kind(ty),
+    }
+}
+
+/// A letter, then letters, digits, hyphens.
+pub fn is_name(text: &[u8]) -> bool {
+    text.first().is_some_and(u8::is_ascii_alphabetic)
+        && text.iter().all(|&b| b.is_ascii_alphanumeric() || b == b'-')
+}
+
+pub fn is_dotted(text: &[u8]) -> bool {
+    subidentifiers(text).is_some()
+}
+
+/// The subidentifiers of a dotted OID: the first two arcs are joined. One that doesn't fit is given as
+/// the largest number, which no stored one has.
+fn subidentifiers(text: &[u8]) -> Option<Vec<u64>> {
+    let mut arcs = text.split(|&b| b == b'.').map(arc);
+    let first = arcs.next()??;
+    let second = arcs.next()??;
+    if first > 2 || first < 2 && second >= 40 {
+        return None;
+    }
+    let joined = second.saturating_add(40 * first);
+    std::iter::once(Some(joined)).chain(arcs).collect()
+}
+
+fn arc(digits: &[u8]) -> Option<u64> {
+    if digits.is_empty() || digits.len() > 1 && digits[0] == b'0' {
+        return None;
+    }
+    digits.iter().try_fold(0u64, |n, d| {
+        d.is_ascii_digit().then(|| n.saturating_mul(10).saturating_add(u64::from(d - b'0')))
+    })
+}
+
+/// A rule with the value it is to compare with.
+#[derive(Debug)]
+pub enum Matcher<'f> {
+    Present,
+    Boolean(bool),
+    Integer(Relation, i128),
+    ObjectIdentifier(Vec<u64>),
+    Octets(Relation, Vec<u8>),
+    /// Bits from the first on, the last octet filled with zeros, and their number.
+    Bits(Vec<u8>, usize),
+    Text {
+        ignore_case: bool,
+        asserted: Vec<u8>,
+    },
+    Time(Relation, &'f [u8]),
+}
+
+/// How a stored value that is accepted compares with the asserted one.
+#[derive(Clone, Copy, Debug)]
+pub enum Relation {
+    Equal,
+    Less,
+}
+
+impl Relation {
+    fn holds(self, stored_to_asserted: Ordering) -> bool {
+        match self {
+            Relation::Equal => stored_to_asserted.is_eq(),
+            Relation::Less => stored_to_asserted.is_lt(),
+        }
+    }
+}
+
+impl<'f> Matcher<'f> {
+    /// The matcher of a rule and a value text; `None` if the rule is not for the type or the text doesn't
+    /// conform.
+    pub fn new(rule: Rule, target: Target, text: &'f [u8]) -> Option<Matcher<'f>> {
+        if !rule.is_for(target) {
+            return None;
+        }
+        Some(match rule {
+            Rule::Present => (text == b"NULL").then_some(Matcher::Present)?,
+            Rule::Boolean => Matcher::Boolean(match text {
+                b"TRUE" => true,
+                b"FALSE" => false,
+                _ => return None,
+            }),
+            Rule::Integer => Matcher::Integer(Relation::Equal, integer(text)?),
+            Rule::IntegerOrdering => Matcher::Integer(Relation::Less, integer(text)?),
+            Rule::ObjectIdentifier => Matcher::ObjectIdentifier(subidentifiers(text)?),
+            Rule::OctetString => Matcher::Octets(Relation::Equal, octets(text)?),
+            Rule::OctetStringOrdering => Matcher::Octets(Relation::Less, octets(text)?),
+            Rule::BitString => {
+                let (packed, number) = bits(text)?;
+                Matcher::Bits(packed, number)
+            }
+            Rule::CaseIgnore => Matcher::Text { ignore_case: true, asserted: string(text)? },
+            Rule::CaseExact => Matcher::Text { ignore_case: false, asserted: string(text)? },
+            Rule::GeneralizedTime => Matcher::Time(Relation::Equal, time(text)?),
+            Rule::GeneralizedTimeOrdering => Matcher::Time(Relation::Less, time(text)?),
+        })
+    }
+
+    /// Whether the rule accepts a value with these contents, stored or default.
+    pub fn accepts(&self, contents: &[u8]) -> bool {
+        match self {
+            Matcher::Present => true,
+            Matcher::Boolean(asserted) => (contents != [0]) == *asserted,
+            Matcher::Integer(relation, asserted) => {
+                relation.holds(i128::from(der::integer(contents)).cmp(asserted))
+            }
+            Matcher::ObjectIdentifier(asserted) => is_same_identifier(contents, asserted),
+            Matcher::Octets(relation, asserted) => relation.holds(contents.cmp(asserted)),
+            Matcher::Bits(packed, number) => match contents {
+                [unused, stored @ ..] => {
+                    stored.len() * 8 == number + usize::from(*unused) && stored == packed
+                }
+                [] => false,
+            },
+            Matcher::Text { ignore_case, asserted } => is_same_text(contents, asserted, *ignore_case),
+            Matcher::Time(relation, asserted) => relation.holds(der::compare_times(contents, asserted)),
+        }
+    }
+
+    /// Whether the rule accepts a count.
+    pub fn accepts_count(&self, count: usize) -> bool {
+        match self {
+            Matcher::Present => true,
+            Matcher::Integer(relation, asserted) => relation.holds((count as i128).cmp(asserted)),
+            _ => false,
+        }
+    }
+}
+
+/// An integer. One that doesn't fit is given as the nearest that does: it is beyond every stored one.
+fn integer(text: &[u8]) -> Option<i128> {
+    let (negative, digits) = match text {
+        [b'-', digits @ ..] => (true, digits),
+        digits => (false, digits),
+    };
+    match digits {
+        [] => return None,
+        [b'0', ..] if negative || digits.len() > 1 => return None,
+        _ => {}
+    }
+    let size = digits.iter().try_fold(0i128, |n, d| {
+        d.is_ascii_digit().then(|| n.saturating_mul(10).saturating_add(i128::from(d - b'0')))
+    })?;
+    Some(if negative { -size } else { size })
+}
+
+fn is_same_identifier(contents: &[u8], asserted: &[u64]) -> bool {
+    let mut rest = contents;
+    for &number in asserted {
+        match der::subidentifier(rest) {
+            Some((stored, after)) if u64::from(stored) == number => rest = after,
+            _ => return false,
+        }
+    }
+    rest.is_empty()
+}
+
+/// The text between single quotes, before `suffix`.
+fn single_quoted<'f>(text: &'f [u8], suffix: &[u8]) -> Option<&'f [u8]> {
+    text.strip_prefix(b"'")?.strip_suffix(suffix)?.strip_suffix(b"'")
+}
+
+fn nibble(digit: u8) -> Option<u8> {
+    match digit {
+        b'0'..=b'9' => Some(digit - b'0'),
+        b'A'..=b'F' => Some(digit - b'A' + 10),
+        _ => None,
+    }
+}
+
+/// Hexadecimal digits packed into octets, an odd last one as the upper half.
+fn pack_hex(digits: &[u8]) -> Option<Vec<u8>> {
+    digits
+        .chunks(2)
+        .map(|pair| {
+            let low = pair.get(1).map_or(Some(0), |&d| nibble(d))?;
+            Some(nibble(pair[0])? << 4 | low)
+        })
+        .collect()
+}
+
+fn octets(text: &[u8]) -> Option<Vec<u8>> {
+    let digits = single_quoted(text, b"H")?;
+    if digits.len() % 2 != 0 {
+        return None;
+    }
+    pack_hex(digits)
+}
+
+fn bits(text: &[u8]) -> Option<(Vec<u8>, usize)> {
+    if let Some(digits) = single_quoted(text, b"H") {
+        return Some((pack_hex(digits)?, digits.len() * 4));
+    }
+    let digits = single_quoted(text, b"B")?;
+    let mut packed = vec![0u8; digits.len().div_ceil(8)];
+    for (i, digit) in digits.iter().enumerate() {
+        match digit {
+            b'0' => {}
+            b'1' => packed[i / 8] |= 0x80 >> (i % 8),
+            _ => return None,
+        }
+    }
+    Some((packed, digits.len()))
+}
+
+/// The text between double quotes, as it stands.
+fn double_quoted(text: &[u8]) -> Option<&[u8]> {
+    text.strip_prefix(b"\"")?.strip_suffix(b"\"")
+}
+
+/// A quoted string of at least one character, each doubled quote made one.
+fn string(text: &[u8]) -> Option<Vec<u8>> {
+    let inner = double_quoted(text)?;
+    let mut found = Vec::with_capacity(inner.len());
+    let mut rest = inner.iter();
+    while let Some(&b) = rest.next() {
+        if b == b'"' && rest.next() != Some(&b'"') {
+            return None;
+        }
+        found.push(b);
+    }
+    (!found.is_empty()).then_some(found)
+}
+
+fn time(text: &[u8]) -> Option<&[u8]> {
+    double_quoted(text).filter(|inner| der::is_generalized_time(inner))
+}
+
+/// Prepared strings are equal exactly if their words are the same: spaces at the ends are dropped and
+/// runs of them made one.
+fn is_same_text(stored: &[u8], asserted: &[u8], ignore_case: bool) -> bool {
+    let mut left = words(stored);
+    let mut right = words(asserted);
+    loop {
+        match (left.next(), right.next()) {
+            (None, None) => return true,
+            (Some(l), Some(r)) if l == r || ignore_case && l.eq_ignore_ascii_case(r) => {}
+            _ => return false,
+        }
+    }
+}
+
+fn words(text: &[u8]) -> impl Iterator<Item = &[u8]> {
+    text.split(|&b| b == b' ').filter(|word| !word.is_empty())
+}
+
+#[cfg(test)]
+mod tests {
+    use super::*;
+
+    #[test]
+    fn integers() {
+        assert_eq!(integer(b"-12"), Some(-12));
+        assert_eq!(integer(b"0"), Some(0));
+        for bad in ["", "-", "-0", "01", "+1", "1 ", "-01"] {
+            assert_eq!(integer(bad.as_bytes()), None, "{bad}");
+        }
+        let huge = [b'9'; 100];
+        assert_eq!(integer(&huge), Some(i128::MAX));
+    }
+
+    #[test]
+    fn identifiers() {
+        assert_eq!(subidentifiers(b"2.999.3"), Some(vec![1079, 3]));
+        assert_eq!(subidentifiers(b"1.39"), Some(vec![79]));
+        for bad in ["", "2", "3.1", "1.40", "2.05", "2..5", "2.5.", "iso", "99999999999999999999999.1"] {
+            assert!(!is_dotted(bad.as_bytes()), "{bad}");
+        }
+        assert!(is_dotted(b"2.99999999999999999999999999"));
+        assert!(is_same_identifier(&[0x2A, 3, 4], &[42, 3, 4]));
+        assert!(!is_same_identifier(&[0x2A, 3, 4], &[42, 3]));
+    }
+
+    #[test]
+    fn bit_texts() {
+        assert_eq!(bits(b"'101'B"), Some((vec![0xA0], 3)));
+        assert_eq!(bits(b"'ABC'H"), Some((vec![0xAB, 0xC0], 12)));
+        assert_eq!(bits(b"''B"), Some((vec![], 0)));
+        assert_eq!(bits(b"'"), None);
+        assert_eq!(bits(b"'B"), None);
+        assert_eq!(octets(b"'0AF'H"), None);
+        assert_eq!(octets(b"'0a'H"), None);
+    }
+
+    #[test]
+    fn texts() {
+        assert_eq!(string(b"\"a\"\"b\""), Some(b"a\"b".to_vec()));
+        assert_eq!(string(b"\"\"\"\""), Some(b"\"".to_vec()));
+        for bad in ["\"", "\"\"", "\"\"\"", "a", "\"a\"b\""] {
+            assert_eq!(string(bad.as_bytes()), None, "{bad}");
+        }
+        assert!(is_same_text(b"  a  b ", b"a b", false));
+        assert!(is_same_text(b"", b" ", false));
+        assert!(!is_same_text(b"ab", b"a b", true));
+        assert!(is_same_text("\u{e9}A".as_bytes(), "\u{e9}a".as_bytes(), true));
+        assert!(!is_same_text("\u{c9}".as_bytes(), "\u{e9}".as_bytes(), true));
+    }
+}

@@ -1,0 +1,78 @@
+//! Broken inputs: every entry ends with an answer, and the answers agree with each other.
+
+mod common;
+
+use common::{licence_table, LICENCE};
+use independent::{ask, check_table, check_value, list, part, Truth};
+
+/// Numbers drawn by SplitMix64.
+struct Draw(u64);
+
+impl Draw {
+    fn next(&mut self) -> u64 {
+        self.0 = self.0.wrapping_add(0x9E37_79B9_7F4A_7C15);
+        let mut z = self.0;
+        z = (z ^ (z >> 30)).wrapping_mul(0xBF58_476D_1CE4_E5B9);
+        z = (z ^ (z >> 27)).wrapping_mul(0x94D0_49BB_1331_11EB);
+        z ^ (z >> 31)
+    }
+
+    fn below(&mut self, limit: usize) -> usize {
+        (self.next() % limit as u64) as usize
+    }
+
+    /// Changes, drops or puts in a few octets, perhaps none.
+    fn broken(&mut self, octets: &[u8]) -> Vec<u8> {
+        let mut octets = octets.to_vec();
+        for _ in 0..self.below(3) {
+            let at = self.below(octets.len() + 1);
+            let octet =
+                [self.next() as u8, b"\"{},.* 0-'"[self.below(10)], self.below(20) as u8][self.below(3)];
+            match self.below(3) {
+                0 => octets.insert(at, octet),
+                1 if at < octets.len() => drop(octets.remove(at)),
+                _ if at < octets.len() => octets[at] = octet,
+                _ => {}
+            }
+        }
+        octets
+    }
+}
+
+#[test]
+fn broken_inputs() {
+    let references = ["parts.*.copies", "parts.-1.name", "seats", "parts.0", "event", "parts.2", "parts.*"];
+    let mut draw = Draw(1);
+    let mut agreed = 0;
+    for _ in 0..60_000 {
+        let table = draw.broken(&licence_table());
+        let value = draw.broken(&LICENCE);
+        let reference = references[draw.below(references.len())];
+        let reference = draw.broken(reference.as_bytes());
+        let admitted = check_table(&table);
+        let good = check_value(&table, &value);
+        assert!(good.is_err() || admitted.is_ok());
+        let _ = part(&value, draw.below(30), draw.below(30));
+
+        let mut room = [9999; 6144];
+        let listed = list(&table, &value, Some(&reference), true, &mut room);
+        let mut filter = b"item:{component \"".to_vec();
+        filter.extend(&reference);
+        filter.extend(b"\",rule presentMatch,value NULL}");
+        let asked = ask(&table, &value, &filter, 1);
+        if !reference.contains(&b'"') {
+            match (listed, asked) {
+                (Ok(count), Ok((truth, tests))) => {
+                    assert_eq!((truth, tests), if count > 0 { (Truth::True, 1) } else { (Truth::False, 0) });
+                    assert!(room[..3 * count].chunks(3).is_sorted_by(|a, b| a[1] < b[1]));
+                    agreed += 1;
+                }
+                (Err(3), Ok((truth, tests))) => assert_eq!((truth, tests), (Truth::Undefined, 0)),
+                (Err(3), Err(number)) => assert!(number == 3 || number == 4),
+                (listed, asked) => assert_eq!(listed.err(), asked.err()),
+            }
+        }
+        let _ = ask(&table, &value, &draw.broken(&filter), draw.next() % 4);
+    }
+    assert!(agreed > 1000);
+}
