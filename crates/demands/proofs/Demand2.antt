@@ -54,7 +54,7 @@ module _ (l : Limits) (t v s : List ℕ) (budget : ℕ) (f : Filter) (parses : p
       go true false c e = absurd (let z : _≡_ {A = ℕ} 2 0 = ap (λ (r : Report). r .refusal) e in omega arith)
       go false b c e = absurd (let z : _≡_ {A = ℕ} 1 0 = ap (λ (r : Report). r .refusal) e in omega arith)
 
-  -- and it is what lists and `not` make of the assertions' own truths (RFC 3687 section 4)
+  -- "a larger filter's, where it isn't refused, nor any of its items alone with budget enough for it, is what its lists and `not` make of these"
   pub is-truth : u ≡ truth (itemTruth l t v) f
   is-truth = go (reading (outcome (typeAt (l .table) t 0) v) f) is-reading (reading-truth f (outcome (typeAt (l .table) t 0) v))
     where
@@ -81,7 +81,7 @@ module _ (l : Limits) (t v s : List ℕ) (budget : ℕ) (f : Filter) (parses : p
       go none e h = absurd (false≢true h)
       go (some x) e h = subst (λ (o : Outcome). testsOf o ≤ items f * (length v / 2)) is-reading (tests-few (typeAt (l .table) t 0) v x f e)
 
--- an assertion's own truth is the engine's answer for a filter of that assertion alone
+-- "An assertion's truth there is the engine's for a filter of that item alone"
 pub item-alone : (l : Limits) (t v s : List ℕ) (budget : ℕ) (i : Item) → parse (l .filter) s ≡ some (item i) → (u : Truth) (n : ℕ) → askReport l t v s budget ≡ answers u n → u ≡ itemTruth l t v i
 unfolding truth
 item-alone l t v s budget i parses u n answered = is-truth l t v s budget (item i) parses u n answered

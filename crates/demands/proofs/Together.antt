@@ -61,35 +61,49 @@ module _ (κs : Lfts 4) (κs′ : Lfts 3) (t v r room s : RefT (List ℕ)) (give
   asked-is : Asks → report b ≡ askReport limits (now t) (now v) (now s) budget
   asked-is w = answer-here (now t) (now v) (now s) budget b (w .0) (w .1 .0) (w .1 .1)
 
-  -- demand 1: each refusal exactly where document 01 says, with no truth and count 0, and the room as it was
-  pub demand-1-filter : Asks → (report b ≡ askReport limits (now t) (now v) (now s) budget) × Refuses limits (now t) (now v) (now s) budget
-  demand-1-filter w = (asked-is w, refuses limits (now t) (now v) (now s) budget)
+  -- Demand 1: "For all tables, values, filters and budgets, the engine ends with TRUE, FALSE, Undefined or one numbered refusal. Each refusal is given
+  -- exactly where document 01 says and nowhere else; it brings back no truth and a count of 0, and lent memory is not written."
+  pub record Demand1 : Type 0 where
+    pub answer : report b ≡ askReport limits (now t) (now v) (now s) budget
+    pub refusals : Refuses limits (now t) (now v) (now s) budget
+    pub listing : listedTold a memory ≡ listReport limits (now t) (now v) given (now r) defaults (now room)
+    pub listing-refusals : RefusesListing limits (now t) (now v) given (now r) defaults (now room)
 
-  pub demand-1-listing : Lists → (listedTold a memory ≡ listReport limits (now t) (now v) given (now r) defaults (now room)) × RefusesListing limits (now t) (now v) given (now r) defaults (now room)
-  demand-1-listing w = (listed-is w, refuses-listing limits (now t) (now v) given (now r) defaults (now room))
+  pub demand-1 : Lists → Asks → Demand1
+  demand-1 lists asks = record {
+    answer = asked-is asks;
+    refusals = refuses limits (now t) (now v) (now s) budget;
+    listing = listed-is lists;
+    listing-refusals = refuses-listing limits (now t) (now v) given (now r) defaults (now room);
+  }
 
-  -- demand 2: a truth is the one that lists and `not` make of the assertions' own; the tests are the reading's, and few
+  -- Demand 2: "Otherwise the truth is the one RFC 3687 gives the filter for that value, .. and the reported tests are those of the stated left-to-right
+  -- reading." The truth is what lists and `not` make of the assertions' own truths; and "The count is at most items times half the value's length"
   pub demand-2 : Asks → (f : Filter) → parse (limits .filter) (now s) ≡ some f → (u : Truth) (n : ℕ) → report b ≡ answers u n
       → (u ≡ truth (itemTruth limits (now t) (now v)) f) × (reading (outcome (typeAt (limits .table) (now t) 0) (now v)) f ≡ settled u n) × (n ≤ items f * (length (now v) / 2))
   demand-2 w f p u n e =
       let q = sym (asked-is w) ∙ e in
       (is-truth limits (now t) (now v) (now s) budget f p u n q, is-reading limits (now t) (now v) (now s) budget f p u n q, few-tests limits (now t) (now v) (now s) budget f p u n q)
 
-  -- for every admitted table, value of its type, allowed reference or none, and choice about defaults
+  -- Demand 3: "Take any admitted table, any value of its type, any component reference allowed there or none, and either choice about defaults, with
+  -- sizes within limits": by `Taken`. There is no cause for refusal 7, since the walk along a stored value has no fault
   module _ (x : Value) (is : List Id) (target : Target) where
     abbrev cs : List Component
     cs = components defaults is x
 
     pub record Owed : Type 0 where
-      -- with room enough the listing is exactly the three numbers of each named value, and the rest of the room as it was
+      -- "With enough room, the listing is, in document 01's three numbers, exactly the component values that the reference names: every one of them, ..
+      -- and no other"; the rest of the room is as it was
       pub enough : length cs * 3 ≤ length (now room) → listedTold a memory ≡ record { report = lists (length cs); memory = threes cs ++ drop (length cs * 3) (now room) }
       -- with too little room it is refused 6, and nothing is written
       pub short : length (now room) < length cs * 3 → listedTold a memory ≡ refusedList 6 (now room)
-      -- each once, by rising place
+      -- "each once, by rising place in the record"
       pub rising : Spread 0 (length (now v)) cs
-      -- an assertion with the same reference and choice is Undefined exactly where document 01 says
+      -- "Now put any assertion to the same table and value, with the same reference and choice, whatever its rule and whatever value it asserts": where
+      -- document 01 makes it Undefined
       pub undefined : (i : Item) → Put limits given (now r) defaults (now s) i budget → ruleFor target i ≡ none → report b ≡ answers UNDEFINED 0
-      -- else TRUE if its rule accepts at least one value on that list, else FALSE
+      -- "With filter and budget within their limits and budget enough, if document 01 .. doesn't make it Undefined, it is TRUE if its rule accepts at least
+      -- one value on that list, else FALSE."
       pub defined : (i : Item) → Put limits given (now r) defaults (now s) i budget → (u : Rule) → ruleFor target i ≡ some u → needed (accepts u (i .value)) cs ≤ budget
           → report b ≡ answers (truthBy (accepts u (i .value)) cs) (needed (accepts u (i .value)) cs)
 
