@@ -1,0 +1,67 @@
+/*
+ * Tezqulom: component filters (RFC 3687) over DER records whose types are given by a table.
+ *
+ * Link with the archive libcapi.a, which `rt staticlib capi` writes (docs/BINDINGS.md).
+ *
+ * Every function takes any octets and any numbers, and answers for all of them: nothing has to be checked first. As for every C function, a pointer
+ * and the length after it are memory that may be read (for `room`: written) for the whole call; where the length is 0 nothing is read, and the
+ * pointer may be any. `room` shares no memory with the other arguments. Nothing is allocated, nothing is kept between calls, and only
+ * tezqulom_list writes, into `room` alone. So calls may run on several threads at once.
+ */
+#ifndef TEZQULOM_H
+#define TEZQULOM_H
+
+#include <stdint.h>
+
+#ifdef __cplusplus
+extern "C" {
+#endif
+
+/* What an answer's `number` is: done, a refusal by its number, or, from tezqulom_ask alone, a truth. */
+enum {
+    TEZQULOM_DONE = 0,          /* admitted, good, listed, a part */
+    TEZQULOM_REFUSED_SIZE = 1,  /* a size or the budget is not within its limits */
+    TEZQULOM_REFUSED_TABLE = 2, /* the table is not admitted */
+    TEZQULOM_REFUSED_FORM = 3,  /* the filter is not of the form, or over depth or items; a listing's reference is malformed or not allowed */
+    TEZQULOM_REFUSED_VALUE = 4, /* the value is not one of the table's type; a part passes the value's end */
+    TEZQULOM_REFUSED_TESTS = 5, /* the tests needed exceed the budget */
+    TEZQULOM_REFUSED_ROOM = 6,  /* the room is under three numbers for each named value */
+    TEZQULOM_REFUSED_WALK = 7,  /* a header on the way along a reference doesn't fit */
+    TEZQULOM_FALSE = 16,
+    TEZQULOM_TRUE = 17,
+    TEZQULOM_UNDEFINED = 18
+};
+
+/* An answer: a number from above, and a count, which is 0 with a refusal. */
+typedef struct tezqulom_answer {
+    uint64_t number;
+    uint64_t count;
+} tezqulom_answer;
+
+/* Whether a table is admitted: TEZQULOM_DONE with the number of its rows, or refusal 1 or 2. */
+tezqulom_answer tezqulom_check_table(const uint8_t *table, uint64_t table_length);
+
+/* Whether a value is one of the type of the table's row 0: TEZQULOM_DONE with count 0, or refusal 1, 2 or 4. */
+tezqulom_answer tezqulom_check_value(const uint8_t *table, uint64_t table_length, const uint8_t *value, uint64_t value_length);
+
+/* The octets of a stored value from a place on: TEZQULOM_DONE with their number, and they are value[place] to value[place + count - 1]; or refusal 1
+ * or 4. */
+tezqulom_answer tezqulom_part(const uint8_t *value, uint64_t value_length, uint64_t place, uint64_t length);
+
+/* What a component reference names: TEZQULOM_DONE with the number of named values, and three numbers for each from room[0] on (source, place,
+ * number), by rising place; or refusal 1, 2, 3, 4, 6 or 7 with the room as it was. `given` 0: no reference, the whole value is named and `reference`
+ * is not looked at; any other: the reference is the text without quotes. `defaults` 0: an absent member with a default names nothing; any other: it
+ * names its default. `room_length` is in numbers. */
+tezqulom_answer tezqulom_list(const uint8_t *table, uint64_t table_length, const uint8_t *value, uint64_t value_length, uint64_t given,
+                              const uint8_t *reference, uint64_t reference_length, uint64_t defaults, uint64_t *room, uint64_t room_length);
+
+/* The truth of a filter over a value: TEZQULOM_TRUE, TEZQULOM_FALSE or TEZQULOM_UNDEFINED with the number of tests made, or refusal 1, 2, 3, 4, 5
+ * or 7. */
+tezqulom_answer tezqulom_ask(const uint8_t *table, uint64_t table_length, const uint8_t *value, uint64_t value_length, const uint8_t *filter,
+                             uint64_t filter_length, uint64_t budget);
+
+#ifdef __cplusplus
+}
+#endif
+
+#endif
