@@ -1,7 +1,7 @@
 /* Asks the questions of a file of all implementations, in one process.
  *
  *   harness check QUESTIONS                   sees that all give the expected answers
- *   harness time QUESTIONS                    the same, then prints a line for each sample: question, implementation, nanoseconds per call
+ *   harness time QUESTIONS ROUNDS             the same, then prints a line for each sample: question, implementation, nanoseconds per call
  *   harness count QUESTIONS NAME SIDE CALLS   makes so many calls and nothing else, for a tool that counts instructions
  *
  * A line of QUESTIONS: timed or checked, name, comparing by hand, truth, tests, then table, value and filter in hexadecimal digits.
@@ -14,7 +14,7 @@
 #include "question.h"
 #include "tezqulom.h"
 
-enum { MOST_QUESTIONS = 64, LONGEST = 5000, SAMPLES = 7 };
+enum { MOST_QUESTIONS = 64, LONGEST = 5000 };
 static const double SAMPLE_NS = 50e6, BATCH_NS = 1e6;
 static const uint64_t BUDGET = 65535;
 
@@ -187,14 +187,14 @@ static double sample(const side *s, const question *q, long batch)
 }
 
 /* Rounds over all questions, in which the implementations take turns: a load of the machine falls on all alike. */
-static void time_questions(void)
+static void time_questions(long rounds)
 {
     long batch[MOST_QUESTIONS][SIDES];
 
     for (int n = 0; n < question_count; n++)
         for (int i = 0; questions[n].timed && i < SIDES; i++)
             batch[n][i] = batch_of(&sides[i], &questions[n]);
-    for (int round = 0; round < SAMPLES; round++)
+    while (rounds-- > 0)
         for (int n = 0; n < question_count; n++)
             for (int i = 0; questions[n].timed && i < SIDES; i++)
                 printf("%s %s %.2f\n", questions[n].name, sides[i].name, sample(&sides[i], &questions[n], batch[n][i]));
@@ -214,10 +214,10 @@ static void count_calls(const char *name, const char *side_name, long calls)
 int main(int argc, char **argv)
 {
     const char *mode = argc > 2 ? argv[1] : "";
-    int counting = argc == 6 && !strcmp(mode, "count"), timing = argc == 3 && !strcmp(mode, "time");
+    int checking = argc == 3 && !strcmp(mode, "check"), timing = argc == 4 && !strcmp(mode, "time"), counting = argc == 6 && !strcmp(mode, "count");
 
-    if (!counting && !timing && !(argc == 3 && !strcmp(mode, "check")))
-        fail("usage: harness check|time QUESTIONS, harness count QUESTIONS NAME SIDE CALLS", "arguments");
+    if (!checking && !timing && !counting)
+        fail("usage: harness check QUESTIONS, time QUESTIONS ROUNDS or count QUESTIONS NAME SIDE CALLS", "arguments");
     read_questions(argv[2]);
     if (counting) {
         count_calls(argv[3], argv[4], atol(argv[5]));
@@ -226,6 +226,6 @@ int main(int argc, char **argv)
     for (int n = 0; n < question_count; n++)
         check(&questions[n]);
     if (timing)
-        time_questions();
+        time_questions(atol(argv[3]));
     return 0;
 }
