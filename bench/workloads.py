@@ -1,0 +1,155 @@
+"""The questions of the benchmark, for the harness: tables, values, filters and the answers expected.
+
+Tables and texts come from second/samples.py, and the second program has to give the expected answers too.
+"""
+
+import itertools
+import pathlib
+import sys
+
+sys.path.insert(0, str(pathlib.Path(__file__).resolve().parent.parent / "second"))
+
+import samples  # noqa: E402
+
+LONGEST_FILTER, LONGEST_VALUE = 2048, 4096
+PARTS = 250
+SIZES = [64, 128, 256] + list(range(512, LONGEST_VALUE + 1, 512))
+EVENT_TABLE = b"\x08"  # one row, UTF8String
+
+
+class Question:
+    """A question, the truth and tests expected, and the name of its comparing in harness/by_hand.c."""
+
+    def __init__(self, name, by_hand, table, value, text, answer, timed=True):
+        told = samples.asked(table, value, text)
+        if answer not in (told, told.split()[0]):
+            raise SystemExit("bench: %s: the second program answers %s, expected is %s" % (name, told, answer))
+        self.name, self.by_hand, self.timed = name, by_hand, timed
+        self.table, self.value, self.text, self.answer = table, value, text, told
+
+    def line(self):
+        """The harness's line."""
+        return " ".join(["timed" if self.timed else "checked", self.name, self.by_hand, self.answer,
+                         self.table.hex(), self.value.hex(), self.text.encode().hex()])
+
+
+def integer(number):
+    """The shortest contents of an INTEGER."""
+    return number.to_bytes((number if number >= 0 else ~number).bit_length() // 8 + 1, "big", signed=True)
+
+
+def part(name, copies=1):
+    """A Part; a default is not stored."""
+    return samples.tlv(0x30, samples.tlv(0x13, name.encode()), b"" if copies == 1 else samples.tlv(0x80, integer(copies)))
+
+
+def licence(event="e1", seats=1, parts=()):
+    """A Licence; a default is not stored."""
+    return samples.tlv(0x30, samples.tlv(0x0C, event.encode()), b"" if seats == 1 else samples.tlv(2, integer(seats)),
+                       samples.tlv(0x30, *parts))
+
+
+def parts_of_16_octets(count):
+    """Parts by turns without and with stored copies."""
+    return [part("Part no. %03d" % at) if at % 2 else part("Part %04d" % at, 3) for at in range(1, count + 1)]
+
+
+def sized(size, parts):
+    """A licence of so many octets; its event fills it up. None if there is none."""
+    return next((found for length in range(1, 128) if len(found := licence("e" * length, 1, parts)) == size), None)
+
+
+def of_octets(size):
+    """A licence of so many octets with as many parts as fit, and their number."""
+    for count in range(size // 16, 0, -1):
+        value = sized(size, parts_of_16_octets(count))
+        if value:
+            return value, count
+    raise SystemExit("bench: no licence of %d octets" % size)
+
+
+def copies(number):
+    """A filter on the copies of all parts."""
+    return samples.item("parts.*.copies", "integerMatch", number)
+
+
+def of_parts():
+    """P1, 250 parts, growing values; no part has seven copies."""
+    table, seven = samples.LICENCE, copies(7)
+    yield Question("P1", "three_copies", table, samples.RECORD, copies(3), "TRUE 2")
+    yield Question("P1-false", "three_copies", table, licence(parts=[part("Vl")]), copies(3), "FALSE 1", timed=False)
+    parts = parts_of_16_octets(PARTS)
+    yield Question("250-parts", "seven_copies", table, sized(LONGEST_VALUE, parts), seven, "FALSE %d" % PARTS)
+    last = licence(parts=parts[:-1] + [part("Last", 7)])
+    yield Question("250-parts-true", "seven_copies", table, last, seven, "TRUE %d" % PARTS, timed=False)
+    for size in SIZES:
+        value, count = of_octets(size)
+        yield Question("%d-octets" % size, "seven_copies", table, value, seven, "FALSE %d" % count)
+
+
+# What the items of the two `or` filters assert. An item: the comparing in harness/by_hand.c, reference, rule, asserted value (a text or a number).
+
+
+def event_items():
+    """64 items on a record that is one string: two texts of one character, the others of two, so that the filter has 2,048 octets."""
+    texts = ["a", "b"] + ["e" + last for last in "23456789abcdefghijklmnopqrstuv"]
+    return [item for text in texts for item in (("whole_is", None, "2.5.13.5", text), ("whole_like", None, "2.5.13.2", text))]
+
+
+def licence_item_forms(n):
+    """Items of several rules that no two numbers n make alike, each with a licence that it accepts. None accepts the record of document 01."""
+    return [
+        (("event_like", "event", "2.5.13.2", "f%d" % n), licence(event="  F%d " % n)),
+        (("seats_equal", "seats", "2.5.13.14", n + 2), licence(seats=n + 2)),
+        (("parts_counted", "parts.0", "integerMatch", n + 3), licence(parts=[part("A")] * (n + 3))),
+        (("some_copies_equal", "parts.*.copies", "2.5.13.14", n + 4), licence(parts=[part("A"), part("B", n + 4)])),
+        (("some_name_is", "parts.*.name", "2.5.13.5", "V%d" % n), licence(parts=[part("A"), part("V%d" % n)])),
+        (("seats_less", "seats", "2.5.13.15", 1 - n), licence(seats=-n)),
+        (("first_name_like", "parts.1.name", "2.5.13.2", "w%d x" % n), licence(parts=[part("W%d   X" % n)])),
+        (("event_is", "event", "caseExactMatch", "E%d" % n), licence(event="E%d" % n)),
+    ]
+
+
+def or_of(items):
+    """The filter that is TRUE if one of the items is."""
+    quoted = (item[:3] + ('"%s"' % item[3] if isinstance(item[3], str) else item[3],) for item in items)
+    return "or:{%s}" % ",".join(samples.item(*item[1:]) for item in quoted)
+
+
+def licence_items():
+    """As many items as the limit on a filter's text lets in."""
+    items = []
+    for item in (item for n in itertools.count() for item, _ in licence_item_forms(n)):
+        if len(or_of(items + [item])) > LONGEST_FILTER:
+            return items
+        items.append(item)
+
+
+def of_items():
+    """The two filters of many items, all FALSE, and values that make them TRUE."""
+    text = or_of(event_items())
+    yield Question("64-items", "event_items", EVENT_TABLE, samples.leaf(8, b"e1"), text, "FALSE 64")
+    for stored, answer in ((b"a", "TRUE 1"), (b" A ", "TRUE 2"), (b"ev", "TRUE 63"), (b"  EV  ", "TRUE 64")):
+        yield Question("64-items-true", "event_items", EVENT_TABLE, samples.leaf(8, stored), text, answer, timed=False)
+    items = licence_items()
+    text = or_of(items)
+    yield Question("%d-items" % len(items), "licence_items", samples.LICENCE, samples.RECORD, text, "FALSE")
+    for item, value in licence_item_forms(1):
+        yield Question(item[0], "licence_items", samples.LICENCE, value, text, "TRUE", timed=False)
+
+
+def questions():
+    """All questions."""
+    return list(of_parts()) + list(of_items())
+
+
+def asserted_header():
+    """What by_hand.c compares with, as C."""
+    lines = []
+    for name, items in (("LICENCE_ITEMS", licence_items()), ("EVENT_ITEMS", event_items())):
+        lines.append("#define %s" % name)
+        for test, _, _, asserted in items:
+            form = 'TEXT(%s, "%s")' if isinstance(asserted, str) else "NUMBER(%s, %d)"
+            lines[-1] += " \\"
+            lines.append("    " + form % (test, asserted))
+    return "\n".join(lines) + "\n"
