@@ -8,7 +8,9 @@
 
 #![forbid(unsafe_code)]
 
+pub mod cases;
 pub mod der;
+pub mod draw;
 pub mod engine;
 pub mod filter;
 pub mod reference;

@@ -1,5 +1,6 @@
 //! Answers cases from standard input, a line for each (docs/CASES.md).
 
+use independent::cases::{read_case, read_question, Case, Input, Question};
 use independent::{ask, check_table, check_value, list, part, Truth};
 use std::io::{self, BufWriter, Read, Write};
 
@@ -10,57 +11,9 @@ fn main() -> io::Result<()> {
     let mut octets = Vec::new();
     io::stdin().lock().read_to_end(&mut octets)?;
     let mut out = BufWriter::new(io::stdout().lock());
-    let mut input = Input(&octets);
+    let mut input = Input::new(&octets);
     while case(&mut input, &mut out)?.is_some() {}
     out.flush()
-}
-
-struct Input<'a>(&'a [u8]);
-
-impl<'a> Input<'a> {
-    fn take(&mut self, length: usize) -> Option<&'a [u8]> {
-        if length > self.0.len() {
-            return None;
-        }
-        let (taken, rest) = self.0.split_at(length);
-        self.0 = rest;
-        Some(taken)
-    }
-
-    fn number(&mut self, size: usize) -> Option<u64> {
-        Some(self.take(size)?.iter().fold(0, |n, &b| n << 8 | u64::from(b)))
-    }
-
-    fn size(&mut self) -> Option<usize> {
-        usize::try_from(self.number(2)?).ok()
-    }
-
-    fn octets(&mut self) -> Option<&'a [u8]> {
-        let length = self.size()?;
-        self.take(length)
-    }
-
-    fn whether(&mut self) -> Option<bool> {
-        Some(self.number(1)? != 0)
-    }
-}
-
-/// What the input has after the kind of a case.
-enum Case<'a> {
-    Table(&'a [u8]),
-    Value(&'a [u8], &'a [u8]),
-    Part(&'a [u8], u64, u64),
-    Questions(&'a [u8], &'a [u8], usize),
-}
-
-fn read_case<'a>(input: &mut Input<'a>) -> Option<Case<'a>> {
-    Some(match input.number(1)? as u8 {
-        b't' => Case::Table(input.octets()?),
-        b'v' => Case::Value(input.octets()?, input.octets()?),
-        b'p' => Case::Part(input.octets()?, input.number(8)?, input.number(8)?),
-        b'q' => Case::Questions(input.octets()?, input.octets()?, input.size()?),
-        _ => return None,
-    })
 }
 
 fn case(input: &mut Input, out: &mut impl Write) -> io::Result<Option<()>> {
@@ -94,24 +47,6 @@ fn case(input: &mut Input, out: &mut impl Write) -> io::Result<Option<()>> {
         }
     }
     Ok(Some(()))
-}
-
-enum Question<'a> {
-    List { reference: Option<&'a [u8]>, defaults: bool, room: usize },
-    Filter(&'a [u8], u64),
-}
-
-fn read_question<'a>(input: &mut Input<'a>) -> Option<Question<'a>> {
-    Some(match input.number(1)? as u8 {
-        b'l' => {
-            let given = input.whether()?;
-            let reference = input.octets()?;
-            let (defaults, room) = (input.whether()?, input.size()?);
-            Question::List { reference: given.then_some(reference), defaults, room }
-        }
-        b'f' => Question::Filter(input.octets()?, input.number(8)?),
-        _ => return None,
-    })
 }
 
 fn answer(table: &[u8], value: &[u8], question: Question, out: &mut impl Write) -> io::Result<()> {

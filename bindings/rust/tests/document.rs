@@ -1,0 +1,121 @@
+//! Document 01's examples, and the numbers of the C header.
+
+use tezqulom::{
+    ask, check_table, check_value, list_into, listing, part, Answer, Component, Refusal, Truth, MOST_TESTS,
+};
+
+const TABLE: &[u8] = include_bytes!("../../../crates/askvalue/data/table");
+const VALUE: &[u8] = include_bytes!("../../../crates/askvalue/data/value");
+const FILTER: &[u8] = include_bytes!("../../../crates/askvalue/data/filter");
+const HEADER: &str = include_str!("../../../include/tezqulom.h");
+const COPIES: Option<&[u8]> = Some(b"parts.*.copies");
+const UNWRITTEN: u64 = 9999;
+
+#[test]
+fn licence() {
+    assert_eq!((TABLE.len(), VALUE.len()), (206, 23));
+    assert_eq!(check_table(TABLE), Ok(12));
+    assert_eq!(check_value(TABLE, VALUE), Ok(()));
+}
+
+#[test]
+fn p1_to_p10() {
+    let item = |rest: &str| format!("item:{{component \"{rest}}}");
+    let p5 = item(r#"event",rule integerMatch,value 3"#);
+    for (filter, truth, tests) in [
+        (item(r#"parts.*.copies",rule integerMatch,value 3"#), Truth::True, 2),
+        (item(r#"parts.*.copies",rule integerMatch,value 7"#), Truth::False, 2),
+        (item(r#"parts.*.copies",useDefaultValues FALSE,rule integerMatch,value 1"#), Truth::False, 1),
+        (item(r#"parts.*.copies",rule integerOrderingMatch,value 2"#), Truth::True, 1),
+        (p5.clone(), Truth::Undefined, 0),
+        (format!("not:{p5}"), Truth::Undefined, 0),
+        ("and:{ }".to_string(), Truth::True, 0),
+        ("or:{ }".to_string(), Truth::False, 0),
+        (item(r#"seats",rule integerMatch,value 9223372036854775808"#), Truth::False, 1),
+        (item(r#"parts.3",rule presentMatch,value NULL"#), Truth::False, 0),
+    ] {
+        let answer = ask(TABLE, VALUE, filter.as_bytes(), MOST_TESTS);
+        assert_eq!(answer, Ok(Answer { truth, tests }), "{filter}");
+    }
+}
+
+#[test]
+fn p11_and_p12() {
+    let copies = [Component::Default { place: 8, row: 9 }, Component::Stored { place: 20, length: 3 }];
+    assert_eq!(listing(TABLE, VALUE, COPIES, true), Ok(copies.to_vec()));
+    assert_eq!(part(VALUE, 20, 3), Ok(&[0x80, 0x01, 0x03][..]));
+    assert_eq!(
+        listing(TABLE, VALUE, Some(b"parts.0"), true),
+        Ok(vec![Component::Count { place: 6, elements: 2 }])
+    );
+}
+
+#[test]
+fn run_only() {
+    assert_eq!(ask(TABLE, VALUE, FILTER, MOST_TESTS), Ok(Answer { truth: Truth::True, tests: 2 }));
+    assert_eq!(ask(TABLE, VALUE, FILTER, 1), Err(Refusal::Tests));
+
+    let mut room = [UNWRITTEN; 7];
+    assert_eq!(list_into(TABLE, VALUE, COPIES, true, &mut room[..5]).err(), Some(Refusal::Room));
+    assert_eq!(room, [UNWRITTEN; 7]);
+    assert_eq!(list_into(TABLE, VALUE, COPIES, true, &mut room[..6]).map(|named| named.len()), Ok(2));
+    assert_eq!(room, [1, 8, 9, 0, 20, 3, UNWRITTEN]);
+
+    let with_seats = |seats| [&[0x30, 0x18], &VALUE[2..6], &[0x02, 0x01, seats], &VALUE[6..]].concat();
+    assert_eq!(check_value(TABLE, &with_seats(1)), Err(Refusal::Value));
+    assert_eq!(check_value(TABLE, &with_seats(2)), Ok(()));
+}
+
+#[test]
+fn references() {
+    assert_eq!(listing(TABLE, VALUE, None, true), Ok(vec![Component::Stored { place: 0, length: 23 }]));
+    assert_eq!(listing(TABLE, VALUE, Some(b""), true), Err(Refusal::Form));
+    assert_eq!(listing(TABLE, VALUE, Some(b"parts.3"), true), Ok(vec![]));
+    assert_eq!(listing(TABLE, VALUE, Some(b"seats"), false), Ok(vec![]));
+    let seats = listing(TABLE, VALUE, Some(b"seats"), true);
+    assert_eq!(seats, Ok(vec![Component::Default { place: 0, row: 2 }]));
+    let places = listing(TABLE, VALUE, Some(b"parts.*.name"), true)
+        .map(|named| named.into_iter().map(Component::place).collect());
+    assert_eq!(places, Ok(vec![10, 16]));
+}
+
+#[test]
+fn empty_slices() {
+    assert_eq!(check_table(&[]), Err(Refusal::Size));
+    assert_eq!(check_value(&[], &[]), Err(Refusal::Size));
+    assert_eq!(part(&[], 0, 0), Err(Refusal::Size));
+    assert_eq!(list_into(TABLE, VALUE, Some(b"parts.3"), true, &mut []).map(|named| named.len()), Ok(0));
+    assert_eq!(list_into(TABLE, VALUE, None, true, &mut []).err(), Some(Refusal::Room));
+    assert_eq!(ask(TABLE, VALUE, &[], MOST_TESTS), Err(Refusal::Size));
+}
+
+/// No number is cut to fewer bits.
+#[test]
+fn large_numbers() {
+    for bit in 12..64 {
+        for large in [1 << bit, (1 << bit) + 2, usize::MAX - (1 << bit)] {
+            assert_eq!(part(VALUE, large, 1), Err(Refusal::Value), "{large}");
+            assert_eq!(part(VALUE, 1, large), Err(Refusal::Value), "{large}");
+            assert_eq!(part(VALUE, large, usize::MAX - large + 1), Err(Refusal::Value), "{large}");
+        }
+    }
+    for bit in 16..64 {
+        assert_eq!(ask(TABLE, VALUE, FILTER, (1 << bit) + 2), Err(Refusal::Size), "{bit}");
+    }
+    assert_eq!(ask(TABLE, VALUE, FILTER, u64::MAX), Err(Refusal::Size));
+}
+
+/// Each refusal of the header is one here under its number, and there is no other.
+#[test]
+fn header() {
+    let refusals: Vec<&str> = HEADER.lines().filter(|line| line.contains("TEZQULOM_REFUSED_")).collect();
+    assert_eq!(refusals.len(), Refusal::ALL.len());
+    for (line, refusal) in refusals.iter().zip(Refusal::ALL) {
+        let named = format!("TEZQULOM_REFUSED_{refusal:?} = {},", refusal.number()).to_uppercase();
+        assert!(line.contains(&named), "{named} in {line}");
+        assert_eq!(Refusal::from_number(u64::from(refusal.number())), Some(refusal));
+        assert!(refusal.to_string().starts_with(&format!("refused {}: ", refusal.number())));
+    }
+    assert_eq!(Refusal::from_number(0), None);
+    assert_eq!(Refusal::from_number(8), None);
+}
