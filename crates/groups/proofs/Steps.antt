@@ -15,6 +15,7 @@ use Rattle.der.specs.Contents.{legal}
 use Rattle.rows.specs.Row.{rowAt, membersAt, isList, defaultAt}
 use Rattle.rows.specs.Body.{rowFormed}
 use Rattle.groups.specs.Clauses.{bodyFormed, isType, laterType, pointsLater, standing, membersStand, memberPlace, sameName, differsFrom, newName, namesDiffer, mandatoryAt, alternativesMandatory, typeKind, noImplicitChoice, defaultAllowed, defaultLegal}
+use Rattle.groups.specs.Work.{membersAgreeAt, rowAgrees}
 
 pub not-no : (t : Bool) → not t ≡ no t
 not-no true = refl
@@ -194,3 +195,38 @@ module _ (t s : List ℕ) (i n p b : ℕ) (placed : p ≡ rowAt s i) (counted : 
 pub mandatory-is : (t s : List ℕ) (i j p o : ℕ) → p ≡ memberPlace s i j → o ≡ octet t (p + 29) → eqb o 0 ≡ mandatoryAt t s i j
 unfolding mandatoryAt
 mandatory-is t s i j p o e f = rw (← e, f)
+
+-- ---- the clauses on one row
+module _ (t s : List ℕ) (i : ℕ) where
+  module _ (a : Bool) (names : a ≡ namesDiffer t s i) where
+    pub agree-names : not a ≡ true → false ≡ membersAgreeAt t s i
+    unfolding membersAgreeAt
+    agree-names e = rw (sym names ∙ not-true a e)
+
+    module _ (ea : not a ≡ false) (b : Bool) (alternatives : b ≡ alternativesMandatory t s i) where
+      pub agree-alternatives : not b ≡ true → false ≡ membersAgreeAt t s i
+      unfolding membersAgreeAt
+      agree-alternatives e = rw (sym names ∙ not-false a ea, sym alternatives ∙ not-true b e)
+
+      module _ (eb : not b ≡ false) (c : Bool) (implicits : c ≡ noImplicitChoice t s i) where
+        pub agree-implicits : not c ≡ true → false ≡ membersAgreeAt t s i
+        unfolding membersAgreeAt
+        agree-implicits e = rw (sym names ∙ not-false a ea, sym alternatives ∙ not-false b eb, sym implicits ∙ not-true c e)
+
+        pub agree-is : (u : Bool) → not c ≡ false → u ≡ defaultLegal t s i → u ≡ membersAgreeAt t s i
+        unfolding membersAgreeAt
+        agree-is u e q = rw (sym names ∙ not-false a ea, sym alternatives ∙ not-false b eb, sym implicits ∙ not-false c e) q
+
+  module _ (most name : ℕ) (a : Bool) (formed : a ≡ bodyFormed most name t s i) where
+    pub row-unformed : not a ≡ true → false ≡ rowAgrees most name t s i
+    unfolding rowAgrees
+    row-unformed e = rw (sym formed ∙ not-true a e)
+
+    module _ (ea : not a ≡ false) (b : Bool) (later : b ≡ pointsLater t s i) where
+      pub row-unnamed : not b ≡ true → false ≡ rowAgrees most name t s i
+      unfolding rowAgrees
+      row-unnamed e = rw (sym formed ∙ not-false a ea, sym later ∙ not-true b e)
+
+      pub row-is : (u : Bool) → not b ≡ false → u ≡ membersAgreeAt t s i → u ≡ rowAgrees most name t s i
+      unfolding rowAgrees
+      row-is u e q = rw (sym formed ∙ not-false a ea, sym later ∙ not-false b e) q

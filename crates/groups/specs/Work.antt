@@ -1,14 +1,22 @@
--- What the pass over the rows computes, from the last row to the first, by the array d that it fills: the longest chain from each row on.
+-- What the passes over the rows compute.
 use Prim.Native.Nat.{ℕ, zero, suc, _<_}
 use mathlib.Core.Path.{_≡_}
-use mathlib.Core.Bool.{true}
+use mathlib.Core.Bool.{Bool, true}
 use lib.ListN.{length}
 use mathlib.Core.List.{List}
 use lib.Dec.{ltb}
-use Rattle.octets.specs.Pick.{pick}
+use Rattle.octets.specs.Pick.{pick, both}
 use Rattle.rows.specs.Row.{kindAt, elementAt, typeRowAt, isList, rowAt, membersAt}
-use Rattle.groups.specs.Clauses.{memberPlace}
+use Rattle.groups.specs.Clauses.{bodyFormed, pointsLater, memberPlace, namesDiffer, alternativesMandatory, noImplicitChoice, defaultLegal}
 
+-- ---- from the first row to the last: the clauses on one row, but for chains and tags
+unfoldable pub membersAgreeAt : List ℕ → List ℕ → ℕ → Bool
+membersAgreeAt t s i = both (namesDiffer t s i) (both (alternativesMandatory t s i) (both (noImplicitChoice t s i) (defaultLegal t s i)))
+
+unfoldable pub rowAgrees : ℕ → ℕ → List ℕ → List ℕ → ℕ → Bool
+rowAgrees most name t s i = both (bodyFormed most name t s i) (both (pointsLater t s i) (membersAgreeAt t s i))
+
+-- ---- from the last row to the first, by the array d that the pass fills: the longest chain from each row on
 abbrev pub memberType : List ℕ → List ℕ → ℕ → ℕ → ℕ
 memberType t s i j = typeRowAt t (memberPlace s i j)
 

@@ -203,83 +203,42 @@ fn default_legal(t: &[u8], s: &[usize], i: usize) -> bool
 }
 
 // ---- every row
-// Whether the bodies of all rows are formed.
-pub fn bodies_formed(t: &[u8], s: &[usize]) -> bool
-    ensures { λ r. do ⌜ r ≡ clause.everyRow (clause.bodyFormed (← ⟦rows::Table::MAX_MEMBERS⟧ .entry) (← ⟦rows::Table::MAX_NAME⟧ .entry) (now (t .entry)) (now (s .entry))) (now (s .entry)) ⌝ }
+// Whether the clauses on members hold of one row: names, alternatives, implicit tags, defaults.
+fn members_agree(t: &[u8], s: &[usize], i: usize) -> bool
+    ensures { λ r. ⌜ r ≡ work.membersAgreeAt (now (t .entry)) (now (s .entry)) i ⌝ }
 {
-    let mut i = 0;
-    while i < s.len() {
-        if !body_formed(t, s, i) {
-            return false;
-        }
-        i += 1;
+    if !names_differ(t, s, i) {
+        return false;
     }
-    true
+    if !alternatives_mandatory(t, s, i) {
+        return false;
+    }
+    if !no_implicit_choice(t, s, i) {
+        return false;
+    }
+    default_legal(t, s, i)
 }
 
-// Whether row numbers point to later rows of types.
-pub fn all_point_later(t: &[u8], s: &[usize]) -> bool
-    ensures { λ r. ⌜ r ≡ clause.everyRow (clause.pointsLater (now (t .entry)) (now (s .entry))) (now (s .entry)) ⌝ }
+// Whether the clauses on one row hold of it: its body, the row that it names, its members.
+fn row_agrees(t: &[u8], s: &[usize], i: usize) -> bool
+    ensures { λ r. do ⌜ r ≡ work.rowAgrees (← ⟦rows::Table::MAX_MEMBERS⟧ .entry) (← ⟦rows::Table::MAX_NAME⟧ .entry) (now (t .entry)) (now (s .entry)) i ⌝ }
 {
-    let mut i = 0;
-    while i < s.len() {
-        if !points_later(t, s, i) {
-            return false;
-        }
-        i += 1;
+    if !body_formed(t, s, i) {
+        return false;
     }
-    true
+    if !points_later(t, s, i) {
+        return false;
+    }
+    members_agree(t, s, i)
 }
 
-// Whether names in one type differ.
-pub fn all_names_differ(t: &[u8], s: &[usize]) -> bool
-    ensures { λ r. ⌜ r ≡ clause.everyRow (clause.namesDiffer (now (t .entry)) (now (s .entry))) (now (s .entry)) ⌝ }
+// The same of all rows, in one pass.
+pub fn rows_agree(t: &[u8], s: &[usize]) -> bool
+    ensures { λ r. do ⌜ r ≡ clause.everyRow (work.rowAgrees (← ⟦rows::Table::MAX_MEMBERS⟧ .entry) (← ⟦rows::Table::MAX_NAME⟧ .entry) (now (t .entry)) (now (s .entry))) (now (s .entry)) ⌝ }
 {
     let mut i = 0;
     while i < s.len() {
-        if !names_differ(t, s, i) {
-            return false;
-        }
-        i += 1;
-    }
-    true
-}
-
-// Whether alternatives are mandatory.
-pub fn all_alternatives_mandatory(t: &[u8], s: &[usize]) -> bool
-    ensures { λ r. ⌜ r ≡ clause.everyRow (clause.alternativesMandatory (now (t .entry)) (now (s .entry))) (now (s .entry)) ⌝ }
-{
-    let mut i = 0;
-    while i < s.len() {
-        if !alternatives_mandatory(t, s, i) {
-            return false;
-        }
-        i += 1;
-    }
-    true
-}
-
-// Whether no CHOICE has an implicit tag.
-pub fn no_implicit_choices(t: &[u8], s: &[usize]) -> bool
-    ensures { λ r. ⌜ r ≡ clause.everyRow (clause.noImplicitChoice (now (t .entry)) (now (s .entry))) (now (s .entry)) ⌝ }
-{
-    let mut i = 0;
-    while i < s.len() {
-        if !no_implicit_choice(t, s, i) {
-            return false;
-        }
-        i += 1;
-    }
-    true
-}
-
-// Whether defaults are legal.
-pub fn defaults_legal(t: &[u8], s: &[usize]) -> bool
-    ensures { λ r. ⌜ r ≡ clause.everyRow (clause.defaultLegal (now (t .entry)) (now (s .entry))) (now (s .entry)) ⌝ }
-{
-    let mut i = 0;
-    while i < s.len() {
-        if !default_legal(t, s, i) {
+        if !row_agrees(t, s, i) {
             return false;
         }
         i += 1;

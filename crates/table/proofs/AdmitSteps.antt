@@ -1,16 +1,17 @@
 -- Admission: one lemma for each return.
-use mathlib.Core.Path.{_≡_, refl, sym, ap, _∙_}
+use mathlib.Core.Path.{_≡_, refl, sym, ap, ap₂, _∙_}
 use mathlib.Core.Bool.{Bool, true, false, not, true≢false}
 use mathlib.Core.List.{List}
-use Prim.Native.Nat.{ℕ, _≤_, _<_}
+use Prim.Native.Nat.{ℕ, zero, suc, _≤_, _<_}
 use native.Mathlib.Omega.{arith}
 use borrow.Author.Tests.{not-true, not-false, lt-leb, le-leb, leb-true}
 use lib.ListN.{length, take}
-use Rattle.octets.specs.Pick.{pick, no}
+use Rattle.octets.specs.Pick.{pick, both, no, all}
 use Rattle.octets.proofs.Laws.{both-true}
 use Rattle.rows.specs.Limits.{limits}
 use Rattle.rows.specs.Row.{rows}
 use Rattle.groups.specs.Clauses.{everyRow, wholeRows, bodyFormed, isType, firstIsType, pointsLater, membersStand, namesDiffer, alternativesMandatory, noImplicitChoice, defaultLegal, chainFits}
+use Rattle.groups.specs.Work.{membersAgreeAt, rowAgrees}
 use Rattle.table.specs.Admitted.{tagsDiffer, rowsFormed, rowsNamed, membersAgree, typesFit, admittedRows, admitted, rowCount}
 use Rattle.table.specs.Work.{Masked, Admits}
 use Rattle.table.specs.Check.{refused, admits, isRefused, tableFits, admission}
@@ -18,33 +19,71 @@ use Rattle.table.specs.Check.{refused, admits, isRefused, tableFits, adm
 pub told-true : (a b : Bool) → a ≡ b → not a ≡ false → b ≡ true
 told-true a b e h = sym e ∙ not-false a h
 
+-- ---- one pass for the clauses on one row
+all-both : (f g : ℕ → Bool) (n : ℕ) → all (λ (i : ℕ). both (f i) (g i)) n ≡ both (all f n) (all g n)
+unfolding all
+all-both f g zero = refl
+all-both f g (suc n) = ap (both (both (f n) (g n))) (all-both f g n) ∙ crossed (f n) (g n) (all f n) (all g n)
+  where
+    crossed : (a b c d : Bool) → both (both a b) (both c d) ≡ both (both a c) (both b d)
+    crossed true true c d = refl
+    crossed true false true d = refl
+    crossed true false false d = refl
+    crossed false b c d = refl
+
 module _ (t s : List ℕ) where
-  pub formed-none : length s < 1 → false ≡ rowsFormed 128 16 24 t s
+  members-each : everyRow (membersAgreeAt t s) s ≡ membersAgree t s
+  unfolding membersAgreeAt membersAgree
+  members-each =
+      all-both (namesDiffer t s) (λ (i : ℕ). both (alternativesMandatory t s i) (both (noImplicitChoice t s i) (defaultLegal t s i))) (length s)
+      ∙ ap (both (everyRow (namesDiffer t s) s)) (all-both (alternativesMandatory t s) (λ (i : ℕ). both (noImplicitChoice t s i) (defaultLegal t s i)) (length s)
+      ∙ ap (both (everyRow (alternativesMandatory t s) s)) (all-both (noImplicitChoice t s) (defaultLegal t s) (length s)))
+
+  -- the clauses on one row, of every row
+  each : (most name : ℕ) → everyRow (rowAgrees most name t s) s ≡ both (everyRow (bodyFormed most name t s) s) (both (everyRow (pointsLater t s) s) (membersAgree t s))
+  unfolding rowAgrees
+  each most name =
+      all-both (bodyFormed most name t s) (λ (i : ℕ). both (pointsLater t s i) (membersAgreeAt t s i)) (length s)
+      ∙ ap (both (everyRow (bodyFormed most name t s) s)) (all-both (pointsLater t s) (membersAgreeAt t s) (length s) ∙ ap (both (everyRow (pointsLater t s) s)) members-each)
+
+  pub fit-none : length s < 1 → false ≡ both (rowsFormed 128 16 24 t s) (both (rowsNamed t s) (membersAgree t s))
   unfolding rowsFormed wholeRows
-  formed-none h = rw (lt-leb 1 (length s) h)
+  fit-none h = rw (lt-leb 1 (length s) h)
 
   module _ (h : 1 ≤ length s) where
-    pub formed-many : 128 < length s → false ≡ rowsFormed 128 16 24 t s
+    pub fit-many : 128 < length s → false ≡ both (rowsFormed 128 16 24 t s) (both (rowsNamed t s) (membersAgree t s))
     unfolding rowsFormed wholeRows
-    formed-many g = rw (le-leb 1 (length s) h, lt-leb (length s) 128 g)
+    fit-many g = rw (le-leb 1 (length s) h, lt-leb (length s) 128 g)
 
-    module _ (g : length s ≤ 128) (r : Bool) (told : r ≡ everyRow (bodyFormed 16 24 t s) s) where
-      pub formed-bodies : not r ≡ true → false ≡ rowsFormed 128 16 24 t s
-      unfolding rowsFormed wholeRows
-      formed-bodies e = rw (le-leb 1 (length s) h, le-leb (length s) 128 g, sym told ∙ not-true r e)
+    module _ (g : length s ≤ 128) (r : Bool) (told : r ≡ everyRow (rowAgrees 16 24 t s) s) where
+      -- by the clauses on one row, that row 0 is a type, and where members stand
+      by-rows : both (rowsFormed 128 16 24 t s) (both (rowsNamed t s) (membersAgree t s)) ≡ both r (both (isType t s 0) (membersStand t s))
+      unfolding rowsFormed wholeRows rowsNamed firstIsType
+      by-rows = rw (le-leb 1 (length s) h, le-leb (length s) 128 g, told ∙ each 16 24) (ordered (everyRow (bodyFormed 16 24 t s) s) (isType t s 0) (everyRow (pointsLater t s) s) (membersStand t s) (membersAgree t s))
+        where
+          ordered : (a d b e c : Bool) → both (both a d) (both (both b e) c) ≡ both (both a (both b c)) (both d e)
+          ordered true true true true c = swap c
+            where
+              swap : (c : Bool) → c ≡ both c true
+              swap true = refl
+              swap false = refl
+          ordered true true true false true = refl
+          ordered true true true false false = refl
+          ordered true true false e c = refl
+          ordered true false true e true = refl
+          ordered true false true e false = refl
+          ordered true false false e c = refl
+          ordered false d b e c = refl
 
-      pub formed-is : (u : Bool) → not r ≡ false → u ≡ isType t s 0 → u ≡ rowsFormed 128 16 24 t s
-      unfolding rowsFormed wholeRows firstIsType
-      formed-is u e q = rw (le-leb 1 (length s) h, le-leb (length s) 128 g, sym told ∙ not-false r e) q
+      pub fit-disagree : not r ≡ true → false ≡ both (rowsFormed 128 16 24 t s) (both (rowsNamed t s) (membersAgree t s))
+      fit-disagree e = sym (by-rows ∙ ap (λ (x : Bool). both x (both (isType t s 0) (membersStand t s))) (not-true r e))
 
-  module _ (r : Bool) (told : r ≡ everyRow (pointsLater t s) s) where
-    pub named-not : not r ≡ true → false ≡ rowsNamed t s
-    unfolding rowsNamed
-    named-not e = rw (sym told ∙ not-true r e)
+      module _ (agree : not r ≡ false) (a : Bool) (typed : a ≡ isType t s 0) where
+        pub fit-untyped : not a ≡ true → false ≡ both (rowsFormed 128 16 24 t s) (both (rowsNamed t s) (membersAgree t s))
+        fit-untyped e = sym (by-rows ∙ ap₂ (λ (x y : Bool). both x (both y (membersStand t s))) (not-false r agree) (sym typed ∙ not-true a e))
 
-    pub named-is : (u : Bool) → not r ≡ false → u ≡ membersStand t s → u ≡ rowsNamed t s
-    unfolding rowsNamed
-    named-is u e q = rw (sym told ∙ not-false r e) q
+        pub fit-is : (u : Bool) → not a ≡ false → u ≡ membersStand t s → u ≡ both (rowsFormed 128 16 24 t s) (both (rowsNamed t s) (membersAgree t s))
+        fit-is u e q = q ∙ sym (by-rows ∙ ap₂ (λ (x y : Bool). both x (both y (membersStand t s))) (not-false r agree) (sym typed ∙ not-false a e))
 
   pub named-points : rowsNamed t s ≡ true → everyRow (pointsLater t s) s ≡ true
   unfolding rowsNamed
@@ -53,25 +92,6 @@ module _ (t s : List ℕ) where
   pub named-stand : rowsNamed t s ≡ true → membersStand t s ≡ true
   unfolding rowsNamed
   named-stand e = both-true (everyRow (pointsLater t s) s) _ e .1
-
-  module _ (a : Bool) (names : a ≡ everyRow (namesDiffer t s) s) where
-    pub agree-names : not a ≡ true → false ≡ membersAgree t s
-    unfolding membersAgree
-    agree-names e = rw (sym names ∙ not-true a e)
-
-    module _ (ea : not a ≡ false) (b : Bool) (alternatives : b ≡ everyRow (alternativesMandatory t s) s) where
-      pub agree-alternatives : not b ≡ true → false ≡ membersAgree t s
-      unfolding membersAgree
-      agree-alternatives e = rw (sym names ∙ not-false a ea, sym alternatives ∙ not-true b e)
-
-      module _ (eb : not b ≡ false) (c : Bool) (implicits : c ≡ everyRow (noImplicitChoice t s) s) where
-        pub agree-implicits : not c ≡ true → false ≡ membersAgree t s
-        unfolding membersAgree
-        agree-implicits e = rw (sym names ∙ not-false a ea, sym alternatives ∙ not-false b eb, sym implicits ∙ not-true c e)
-
-        pub agree-is : (u : Bool) → not c ≡ false → u ≡ everyRow (defaultLegal t s) s → u ≡ membersAgree t s
-        unfolding membersAgree
-        agree-is u e q = rw (sym names ∙ not-false a ea, sym alternatives ∙ not-false b eb, sym implicits ∙ not-false c e) q
 
   module _ (r : Bool) (chains : r ≡ everyRow (chainFits 16 t s) s) where
     pub types-long : not r ≡ true → false ≡ typesFit 16 t s
@@ -82,24 +102,24 @@ module _ (t s : List ℕ) where
     unfolding typesFit
     types-are u e q = rw (sym chains ∙ not-false r e) q
 
-  module _ (a : Bool) (formed : a ≡ rowsFormed 128 16 24 t s) where
-    pub rows-unformed : not a ≡ true → false ≡ admittedRows (limits 128 16 16 24) t s
+  module _ (a : Bool) (fit : a ≡ both (rowsFormed 128 16 24 t s) (both (rowsNamed t s) (membersAgree t s))) where
+    all-clauses : admittedRows (limits 128 16 16 24) t s ≡ both a (typesFit 16 t s)
     unfolding admittedRows
-    rows-unformed e = rw (sym formed ∙ not-true a e)
+    all-clauses = rw fit (grouped (rowsFormed 128 16 24 t s) (rowsNamed t s) (membersAgree t s) (typesFit 16 t s))
+      where
+        grouped : (x y z w : Bool) → both x (both y (both z w)) ≡ both (both x (both y z)) w
+        grouped true true z w = refl
+        grouped true false z w = refl
+        grouped false y z w = refl
 
-    module _ (ea : not a ≡ false) (b : Bool) (named : b ≡ rowsNamed t s) where
-      pub rows-unnamed : not b ≡ true → false ≡ admittedRows (limits 128 16 16 24) t s
-      unfolding admittedRows
-      rows-unnamed e = rw (sym formed ∙ not-false a ea, sym named ∙ not-true b e)
+    pub rows-misfit : not a ≡ true → false ≡ admittedRows (limits 128 16 16 24) t s
+    rows-misfit e = sym (all-clauses ∙ ap (λ (x : Bool). both x (typesFit 16 t s)) (not-true a e))
 
-      module _ (eb : not b ≡ false) (c : Bool) (agree : c ≡ membersAgree t s) where
-        pub rows-disagree : not c ≡ true → false ≡ admittedRows (limits 128 16 16 24) t s
-        unfolding admittedRows
-        rows-disagree e = rw (sym formed ∙ not-false a ea, sym named ∙ not-false b eb, sym agree ∙ not-true c e)
+    pub rows-named : not a ≡ false → rowsNamed t s ≡ true
+    rows-named e = both-true (rowsNamed t s) (membersAgree t s) (both-true (rowsFormed 128 16 24 t s) (both (rowsNamed t s) (membersAgree t s)) (sym fit ∙ not-false a e) .1) .0
 
-        pub rows-are : (u : Bool) → not c ≡ false → u ≡ typesFit 16 t s → u ≡ admittedRows (limits 128 16 16 24) t s
-        unfolding admittedRows
-        rows-are u e q = rw (sym formed ∙ not-false a ea, sym named ∙ not-false b eb, sym agree ∙ not-false c e) q
+    pub rows-are : (u : Bool) → not a ≡ false → u ≡ typesFit 16 t s → u ≡ admittedRows (limits 128 16 16 24) t s
+    rows-are u e q = q ∙ sym (all-clauses ∙ ap (λ (x : Bool). both x (typesFit 16 t s)) (not-false a e))
 
 -- ---- the rows of an admitted table
 module _ (t s m : List ℕ) (n : ℕ) (a : Bool) (found : take n s ≡ rows 128 t) (told : a ≡ admittedRows (limits 128 16 16 24) t (take n s)) where

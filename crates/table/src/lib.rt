@@ -9,7 +9,7 @@ ghost use Rattle.groups.specs.Clauses as clause;
 ghost use Rattle.table.specs.Admitted as admitted;
 ghost use Rattle.rows.specs.Limits.{limits};
 ghost use Rattle.table.specs.Work as work;
-ghost use Rattle.octets.specs.Pick.{no};
+ghost use Rattle.octets.specs.Pick.{both, no};
 ghost use Rattle.table.specs.Check.{report, isRefused, tableFits, admission};
 
 // The answer of the table check: the number of rows, or a refusal.
@@ -176,8 +176,9 @@ fn tags_differ(t: &[u8], s: &[usize], m: &mut [u64]) -> bool
 }
 
 // ---- admission
-fn rows_formed(t: &[u8], s: &[usize]) -> bool
-    ensures { λ r. do ⌜ r ≡ admitted.rowsFormed (← ⟦rows::Table::MAX_ROWS⟧ .entry) (← ⟦rows::Table::MAX_MEMBERS⟧ .entry) (← ⟦rows::Table::MAX_NAME⟧ .entry) (now (t .entry)) (now (s .entry)) ⌝ }
+// Whether all clauses hold but those on chains and tags.
+fn rows_fit(t: &[u8], s: &[usize]) -> bool
+    ensures { λ r. do ⌜ r ≡ both (admitted.rowsFormed (← ⟦rows::Table::MAX_ROWS⟧ .entry) (← ⟦rows::Table::MAX_MEMBERS⟧ .entry) (← ⟦rows::Table::MAX_NAME⟧ .entry) (now (t .entry)) (now (s .entry))) (both (admitted.rowsNamed (now (t .entry)) (now (s .entry))) (admitted.membersAgree (now (t .entry)) (now (s .entry)))) ⌝ }
 {
     if s.len() < 1 {
         return false;
@@ -185,34 +186,13 @@ fn rows_formed(t: &[u8], s: &[usize]) -> bool
     if rows::Table::MAX_ROWS < s.len() {
         return false;
     }
-    if !groups::bodies_formed(t, s) {
+    if !groups::rows_agree(t, s) {
         return false;
     }
-    groups::is_type(t, s, 0)
-}
-
-fn rows_named(t: &[u8], s: &[usize]) -> bool
-    ensures { λ r. ⌜ r ≡ admitted.rowsNamed (now (t .entry)) (now (s .entry)) ⌝ }
-{
-    if !groups::all_point_later(t, s) {
+    if !groups::is_type(t, s, 0) {
         return false;
     }
     groups::members_stand(t, s)
-}
-
-fn members_agree(t: &[u8], s: &[usize]) -> bool
-    ensures { λ r. ⌜ r ≡ admitted.membersAgree (now (t .entry)) (now (s .entry)) ⌝ }
-{
-    if !groups::all_names_differ(t, s) {
-        return false;
-    }
-    if !groups::all_alternatives_mandatory(t, s) {
-        return false;
-    }
-    if !groups::no_implicit_choices(t, s) {
-        return false;
-    }
-    groups::defaults_legal(t, s)
 }
 
 fn types_fit(t: &[u8], s: &[usize], m: &mut [u64]) -> bool
@@ -234,13 +214,7 @@ fn admit_rows(t: &[u8], s: &[usize], m: &mut [u64]) -> bool
     ensures told { λ r. do ⌜ r ≡ admitted.admittedRows (limits (← ⟦rows::Table::MAX_ROWS⟧ .entry) (← ⟦rows::Table::MAX_CHAIN⟧ .entry) (← ⟦rows::Table::MAX_MEMBERS⟧ .entry) (← ⟦rows::Table::MAX_NAME⟧ .entry)) (now (t .entry)) (now (s .entry)) ⌝ }
     ensures sets { λ r. do ⌜ (r ≡ true → work.Masked (← ⟦rows::Table::MAX_CHAIN⟧ .entry) (now (t .entry)) (now (s .entry)) (now (m .exit))) ⌝ }
 {
-    if !rows_formed(t, s) {
-        return false;
-    }
-    if !rows_named(t, s) {
-        return false;
-    }
-    if !members_agree(t, s) {
+    if !rows_fit(t, s) {
         return false;
     }
     types_fit(t, s, m)

@@ -74,35 +74,32 @@ module _ (task : Task) (x m : List ℕ) (n : ℕ) where
   goes : (a b : Trail) (w : Seen) → a ≡ b → w ≡ run task x (seen (State.Going n) m) b → w ≡ run task x (seen (State.Going n) m) a
   goes a b w e q = q ∙ ap (run task x (seen (State.Going n) m)) (sym e)
 
-  module _ (t s r : List ℕ) (k row place : ℕ) (d : Bool) where
+  module _ (t s : List ℕ) (row place : ℕ) (d : Bool) where
     abbrev member : Member
     member = memberOf t row (rowAt s row)
 
-    pub lacking-off : not d ≡ true → seen (State.Going n) m ≡ run task x (seen (State.Going n) m) (lackingTrail d (idsFrom r k) place (memberOf t row (rowAt s row)) (memberOf t row (rowAt s row) .presence))
-    lacking-off h = stays _ (ap (λ (b : Bool). lackingTrail b (idsFrom r k) place member (member .presence)) (not-true d h) ∙ off (idsFrom r k) place member (member .presence))
-
-    pub lacking-further : isSome (idsAt r k) ≡ true → k ≤ length r → seen (State.Going n) m ≡ run task x (seen (State.Going n) m) (lackingTrail d (idsFrom r k) place (memberOf t row (rowAt s row)) (memberOf t row (rowAt s row) .presence))
-    lacking-further read h = let w = ids-some r k h read in stays _ (ap (λ (is : List Id). lackingTrail d is place member (member .presence)) (w .2) ∙ further d (w .0) (w .1) place member (member .presence))
+    pub lacking-off : not d ≡ true → seen (State.Going n) m ≡ run task x (seen (State.Going n) m) (lackingTrail d [] place (memberOf t row (rowAt s row)) (memberOf t row (rowAt s row) .presence))
+    lacking-off h = stays _ (ap (λ (b : Bool). lackingTrail b [] place member (member .presence)) (not-true d h) ∙ off [] place member (member .presence))
 
     module _ (p pr : ℕ) (placed : p ≡ rowAt s row) (told : pr ≡ presenceAt t p) where
       present : member .presence ≡ presenceOf pr (defaultAt t (rowAt s row))
       unfolding memberOf
       present = ap (λ (y : ℕ). presenceOf y (defaultAt t (rowAt s row))) (sym (told ∙ ap (presenceAt t) placed))
 
-      pub lacking-plain : pr < 2 → seen (State.Going n) m ≡ run task x (seen (State.Going n) m) (lackingTrail d (idsFrom r k) place (memberOf t row (rowAt s row)) (memberOf t row (rowAt s row) .presence))
+      pub lacking-plain : pr < 2 → seen (State.Going n) m ≡ run task x (seen (State.Going n) m) (lackingTrail d [] place (memberOf t row (rowAt s row)) (memberOf t row (rowAt s row) .presence))
       unfolding presenceOf
-      lacking-plain h = stays _ (ap (lackingTrail d (idsFrom r k) place member) present ∙ go (eqb pr 0) refl (eqb pr 1) refl)
+      lacking-plain h = stays _ (ap (lackingTrail d [] place member) present ∙ go (eqb pr 0) refl (eqb pr 1) refl)
         where
-          go : (a : Bool) → eqb pr 0 ≡ a → (b : Bool) → eqb pr 1 ≡ b → lackingTrail d (idsFrom r k) place member (pick a mandatory (pick b optional (default (defaultAt t (rowAt s row))))) ≡ done
+          go : (a : Bool) → eqb pr 0 ≡ a → (b : Bool) → eqb pr 1 ≡ b → lackingTrail d [] place member (pick a mandatory (pick b optional (default (defaultAt t (rowAt s row))))) ≡ done
           go true q b u = refl
           go false q true u = refl
           go false q false u = absurd (low pr h (eqb-false pr 0 q) (eqb-false pr 1 u))
 
-      pub lacking-default : (v : List ℕ) (w : Seen) → not d ≡ false → length r < k → 2 ≤ pr → w ≡ visited task x (componentOf t s v (Reached.Default place row)) n m
-          → w ≡ run task x (seen (State.Going n) m) (lackingTrail d (idsFrom r k) place (memberOf t row (rowAt s row)) (memberOf t row (rowAt s row) .presence))
+      pub lacking-default : (v : List ℕ) (w : Seen) → not d ≡ false → 2 ≤ pr → w ≡ visited task x (componentOf t s v (Reached.Default place row)) n m
+          → w ≡ run task x (seen (State.Going n) m) (lackingTrail d [] place (memberOf t row (rowAt s row)) (memberOf t row (rowAt s row) .presence))
       unfolding componentOf presenceOf
-      lacking-default v w on ended high q = visits _ (defaulted place member) w
-          (ap (λ (b : Bool). lackingTrail b (idsFrom r k) place member (member .presence)) (not-false d on) ∙ ap (λ (is : List Id). lackingTrail true is place member (member .presence)) (ids-none r k ended) ∙ ap (lackingTrail true [] place member) present
+      lacking-default v w on high q = visits _ (defaulted place member) w
+          (ap (λ (b : Bool). lackingTrail b [] place member (member .presence)) (not-false d on) ∙ ap (lackingTrail true [] place member) present
           ∙ rw (ne-eqb pr 0 (λ z. omega arith), ne-eqb pr 1 (λ z. omega arith)))
           q
 
@@ -282,20 +279,46 @@ lands-row s stop row at start span f h e = ltb-true row (length s) (both-true (l
 pub lands-end : (s : List ℕ) (stop row at start span : ℕ) (f : Found) → landsIn s stop f ≡ true → f ≡ Found.At row at start span → start + span ≤ stop
 lands-end s stop row at start span f h e = leb-true (start + span) stop (both-true (ltb row (length s)) (leb (start + span) stop) (sym (ap (landsIn s stop) e) ∙ h) .1)
 
-module _ (t s v r : List ℕ) (k : ℕ) (task : Task) (x out : List ℕ) (n place : ℕ) (d : Bool) (f : Found) where
-  pub found-at : (row at start span : ℕ) (w : Seen) → f ≡ Found.At row at start span → w ≡ run task x (seen (State.Going n) out) (along d (idsFrom r k) (typeFrom 16 t s row) v (standing at start span))
-      → w ≡ run task x (seen (State.Going n) out) (onFound d (idsFrom r k) place (goingOn d (idsFrom r k) v) (foundTold 16 t s f))
-  found-at row at start span w e g = goes task x out n _ _ w (ap (λ (y : Found). onFound d (idsFrom r k) place (goingOn d (idsFrom r k) v) (foundTold 16 t s y)) e) g
+pub lands-fits : (s v : List ℕ) (row at start span : ℕ) (f : Found) → length v < 18446744073709551615 → landsIn s (length v) f ≡ true → f ≡ Found.At row at start span → start + span < 18446744073709551616
+lands-fits s v row at start span f h l e = let a = lands-end s (length v) row at start span f l e in omega arith
 
-  pub found-lacking : (row : ℕ) (w : Seen) → f ≡ Found.Lacking row → w ≡ run task x (seen (State.Going n) out) (lackingTrail d (idsFrom r k) place (memberOf t row (rowAt s row)) (memberOf t row (rowAt s row) .presence))
-      → w ≡ run task x (seen (State.Going n) out) (onFound d (idsFrom r k) place (goingOn d (idsFrom r k) v) (foundTold 16 t s f))
-  found-lacking row w e g = goes task x out n _ _ w (ap (λ (y : Found). onFound d (idsFrom r k) place (goingOn d (idsFrom r k) v) (foundTold 16 t s y)) e) g
+module _ (t s v : List ℕ) (task : Task) (x out : List ℕ) (n place : ℕ) (d : Bool) (f : Found) where
+  module _ (is : List Id) where
+    led : (y : Found) → f ≡ y → onFound d is place (goingOn d is v) (foundTold 16 t s f) ≡ onFound d is place (goingOn d is v) (foundTold 16 t s y)
+    led y e = ap (λ (z : Found). onFound d is place (goingOn d is v) (foundTold 16 t s z)) e
 
-  pub found-nothing : f ≡ Found.Nothing → seen (State.Going n) out ≡ run task x (seen (State.Going n) out) (onFound d (idsFrom r k) place (goingOn d (idsFrom r k) v) (foundTold 16 t s f))
-  found-nothing e = stays task x out n _ (ap (λ (y : Found). onFound d (idsFrom r k) place (goingOn d (idsFrom r k) v) (foundTold 16 t s y)) e)
+    pub found-at : (row at start span : ℕ) (w : Seen) → f ≡ Found.At row at start span → w ≡ run task x (seen (State.Going n) out) (along d is (typeFrom 16 t s row) v (standing at start span))
+        → w ≡ run task x (seen (State.Going n) out) (onFound d is place (goingOn d is v) (foundTold 16 t s f))
+    found-at row at start span w e g = goes task x out n _ _ w (led _ e) g
 
-  pub found-broken : f ≡ Found.Broken → seen State.Fault out ≡ run task x (seen (State.Going n) out) (onFound d (idsFrom r k) place (goingOn d (idsFrom r k) v) (foundTold 16 t s f))
-  found-broken e = breaks task x out n _ (ap (λ (y : Found). onFound d (idsFrom r k) place (goingOn d (idsFrom r k) v) (foundTold 16 t s y)) e)
+    pub found-nothing : f ≡ Found.Nothing → seen (State.Going n) out ≡ run task x (seen (State.Going n) out) (onFound d is place (goingOn d is v) (foundTold 16 t s f))
+    found-nothing e = stays task x out n _ (led _ e)
+
+    pub found-broken : f ≡ Found.Broken → seen State.Fault out ≡ run task x (seen (State.Going n) out) (onFound d is place (goingOn d is v) (foundTold 16 t s f))
+    found-broken e = breaks task x out n _ (led _ e)
+
+  -- where the reference ends
+  pub last-at : (row at start span : ℕ) (w : Seen) → f ≡ Found.At row at start span → w ≡ visited task x (componentOf t s v (Reached.Stored at start span)) n out
+      → w ≡ run task x (seen (State.Going n) out) (onFound d [] place (goingOn d [] v) (foundTold 16 t s f))
+  unfolding componentOf
+  last-at row at start span w e g = visits task x out n _ _ w (led [] _ e ∙ along-end d (typeFrom 16 t s row) v (standing at start span)) g
+
+  pub last-lacking : (row : ℕ) (w : Seen) → f ≡ Found.Lacking row → w ≡ run task x (seen (State.Going n) out) (lackingTrail d [] place (memberOf t row (rowAt s row)) (memberOf t row (rowAt s row) .presence))
+      → w ≡ run task x (seen (State.Going n) out) (onFound d [] place (goingOn d [] v) (foundTold 16 t s f))
+  last-lacking row w e g = goes task x out n _ _ w (led [] _ e) g
+
+  module _ (r : List ℕ) (k : ℕ) where
+    pub found-last : (w : Seen) → length r < k → w ≡ run task x (seen (State.Going n) out) (onFound d [] place (goingOn d [] v) (foundTold 16 t s f))
+        → w ≡ run task x (seen (State.Going n) out) (onFound d (idsFrom r k) place (goingOn d (idsFrom r k) v) (foundTold 16 t s f))
+    found-last w h g = goes task x out n _ _ w (ap (λ (is : List Id). onFound d is place (goingOn d is v) (foundTold 16 t s f)) (ids-none r k h)) g
+
+    -- an absent member has no components of its own
+    pub found-lacking : (row : ℕ) → k ≤ length r → isSome (idsAt r k) ≡ true → f ≡ Found.Lacking row
+        → seen (State.Going n) out ≡ run task x (seen (State.Going n) out) (onFound d (idsFrom r k) place (goingOn d (idsFrom r k) v) (foundTold 16 t s f))
+    found-lacking row h read e =
+        let w = ids-some r k h read in
+        let m : Member = memberOf t row (rowAt s row) in
+        stays task x out n _ (led (idsFrom r k) _ e ∙ ap (λ (is : List Id). lackingTrail d is place m (m .presence)) (w .2) ∙ further d (w .0) (w .1) place m (m .presence))
 
 -- ---- one identifier of the reference
 module _ (r : List ℕ) (k : ℕ) (s : Step) (step : stepTold r s ≡ headCapped (idsAt r k)) (read : isSome (idsAt r k) ≡ true) where

@@ -16,7 +16,7 @@ ghost use Rattle.rows.specs.Row.{rowAt, presenceAt, defaultAt};
 ghost use Rattle.table.specs.Types.{untagged, presenceOf, memberOf, typeFrom};
 ghost use Rattle.table.specs.Work.{Sound};
 ghost use Rattle.reference.specs.Reference.{count, all, index, readReference};
-ghost use Rattle.reference.specs.Work.{idsAt};
+ghost use Rattle.reference.specs.Work.{idsAt, headCapped, stepTold, advances};
 ghost use Rattle.reference.specs.Numbers.{contentsOf, tallied};
 ghost use Rattle.trail.specs.Opened.{openAt};
 ghost use Rattle.trail.specs.Trail.{orFault, countFrom, ending, lackingTrail, onFound, eachFrom, along, trail};
@@ -187,14 +187,12 @@ fn visit(
     }
 }
 
-// ---- the walk along a reference
-// A member of a row that is absent: its default, where defaults are on and the reference ends.
-fn walk_lacking(
+// ---- where the reference ends
+// A member of a row that is absent: its default, where defaults are on.
+fn visit_lacking(
     t: &[u8],
     s: &[usize],
     v: &[u8],
-    r: &[u8],
-    k: usize,
     text: &[u8],
     defaults: bool,
     task: Task,
@@ -203,13 +201,9 @@ fn walk_lacking(
     n: usize,
     out: &mut [u64],
 ) -> State
-    requires read { ⌜ isSome (idsAt (now r) k) ≡ true ⌝ }
-    ensures { λ w. ⌜ run.seen w (now (out .exit)) ≡ run.run task (now (text .entry)) (run.seen (State.Going n) (now (out .entry))) (lackingTrail defaults (run.idsFrom (now (r .entry)) k) place (memberOf (now (t .entry)) row (rowAt (now (s .entry)) row)) (memberOf (now (t .entry)) row (rowAt (now (s .entry)) row) .presence)) ⌝ }
+    ensures { λ w. ⌜ run.seen w (now (out .exit)) ≡ run.run task (now (text .entry)) (run.seen (State.Going n) (now (out .entry))) (lackingTrail defaults [] place (memberOf (now (t .entry)) row (rowAt (now (s .entry)) row)) (memberOf (now (t .entry)) row (rowAt (now (s .entry)) row) .presence)) ⌝ }
 {
     if !defaults {
-        return State::Going(n);
-    }
-    if k <= r.len() {
         return State::Going(n);
     }
     if rows::presence_at(t, rows::row_at(s, row)) < 2 {
@@ -218,6 +212,41 @@ fn walk_lacking(
     visit(task, text, t, s, v, Reached::Default(place, row), n, out)
 }
 
+// What the last identifier leads to.
+fn visit_found(
+    t: &[u8],
+    s: &[usize],
+    v: &[u8],
+    text: &[u8],
+    defaults: bool,
+    task: Task,
+    found: Found,
+    place: usize,
+    n: usize,
+    out: &mut [u64],
+) -> State
+    requires small { ⌜ length (now v) < 18446744073709551615 ⌝ }
+    requires lands { ⌜ landsIn (now s) (length (now v)) found ≡ true ⌝ }
+    ensures { λ w. do ⌜ run.seen w (now (out .exit)) ≡ run.run task (now (text .entry)) (run.seen (State.Going n) (now (out .entry))) (onFound defaults [] place (run.goingOn defaults [] (now (v .entry))) (foundTold (← ⟦rows::Table::MAX_CHAIN⟧ .entry) (now (t .entry)) (now (s .entry)) found)) ⌝ }
+{
+    match found {
+        Found::At(_, at, start, span) => visit(
+            task,
+            text,
+            t,
+            s,
+            v,
+            Reached::Stored(at, start, span),
+            n,
+            out,
+        ),
+        Found::Lacking(row) => visit_lacking(t, s, v, text, defaults, task, row, place, n, out),
+        Found::Nothing => State::Going(n),
+        Found::Broken => State::Fault,
+    }
+}
+
+// ---- the walk along a reference
 // The count of a list at a place, where the reference ends.
 fn walk_tally(
     t: &[u8],
@@ -338,38 +367,32 @@ fn walk_found(
     requires read { ⌜ isSome (idsAt (now r) k) ≡ true ⌝ }
     ensures { λ w. do ⌜ run.seen w (now (out .exit)) ≡ run.run task (now (text .entry)) (run.seen (State.Going n) (now (out .entry))) (onFound defaults (run.idsFrom (now (r .entry)) k) place (run.goingOn defaults (run.idsFrom (now (r .entry)) k) (now (v .entry))) (foundTold (← ⟦rows::Table::MAX_CHAIN⟧ .entry) (now (t .entry)) (now (s .entry)) found)) ⌝ }
 {
+    if r.len() < k {
+        return visit_found(t, s, v, text, defaults, task, found, place, n, out);
+    }
     match found {
-        Found::At(row, at, start, span) => walk(
-            t,
-            s,
-            m,
-            v,
-            r,
-            k,
-            text,
-            defaults,
-            task,
-            row,
-            at,
-            start,
-            span,
-            n,
-            out,
-        ),
-        Found::Lacking(row) => walk_lacking(
-            t,
-            s,
-            v,
-            r,
-            k,
-            text,
-            defaults,
-            task,
-            row,
-            place,
-            n,
-            out,
-        ),
+        Found::At(row, at, start, span) => {
+            let step = reference::next_id(r, k);
+            walk(
+                t,
+                s,
+                m,
+                v,
+                r,
+                k,
+                step,
+                text,
+                defaults,
+                task,
+                row,
+                at,
+                start,
+                span,
+                n,
+                out,
+            )
+        }
+        Found::Lacking(_) => State::Going(n),
         Found::Nothing => State::Going(n),
         Found::Broken => State::Fault,
     }
@@ -400,6 +423,7 @@ fn walk_each(
     ensures { λ w. do ⌜ run.seen w (now (out .exit)) ≡ run.run task (now (text .entry)) (run.seen (State.Going n) (now (out .entry))) (eachFrom (openAt (typeFrom (← ⟦rows::Table::MAX_CHAIN⟧ .entry) (now (t .entry)) (now (s .entry)) row) untagged (now (v .entry))) (run.goingOn defaults (run.idsFrom (now (r .entry)) k) (now (v .entry)) (typeFrom (← ⟦rows::Table::MAX_CHAIN⟧ .entry) (now (t .entry)) (now (s .entry)) row)) span (start + span) start) ⌝ }
 {
     let stop = start + span;
+    let step = reference::next_id(r, k);
     let mut i = start;
     let mut reached = n;
     while i < stop {
@@ -414,6 +438,7 @@ fn walk_each(
             v,
             r,
             k,
+            step,
             text,
             defaults,
             task,
@@ -484,7 +509,7 @@ fn walk_all(
     )
 }
 
-// From a value whose header has been read, along the identifiers from place k on.
+// From a value whose header has been read, along the identifiers from place k on, of which the first has been read as step.
 fn walk(
     t: &[u8],
     s: &[usize],
@@ -492,6 +517,7 @@ fn walk(
     v: &[u8],
     r: &[u8],
     k: usize,
+    step: Step,
     text: &[u8],
     defaults: bool,
     task: Task,
@@ -507,9 +533,11 @@ fn walk(
     requires ends { ⌜ start + span ≤ length (now v) ⌝ }
     requires small { ⌜ length (now v) < 18446744073709551615 ⌝ }
     requires read { ⌜ isSome (idsAt (now r) k) ≡ true ⌝ }
+    requires step { ⌜ stepTold (now r) step ≡ headCapped (idsAt (now r) k) ⌝ }
+    requires rises { ⌜ advances (now r) k step ≡ true ⌝ }
     ensures { λ w. do ⌜ run.seen w (now (out .exit)) ≡ run.run task (now (text .entry)) (run.seen (State.Going n) (now (out .entry))) (along defaults (run.idsFrom (now (r .entry)) k) (typeFrom (← ⟦rows::Table::MAX_CHAIN⟧ .entry) (now (t .entry)) (now (s .entry)) row) (now (v .entry)) (standing place start span)) ⌝ }
 {
-    match reference::next_id(r, k) {
+    match step {
         Step::Name(a, b, next) => {
             let found = trail::locate_name(t, s, m, v, row, r, a, b, place, start, span);
             walk_found(
@@ -646,6 +674,7 @@ pub fn walk_value(
             out,
         );
     }
+    let step = reference::next_id(r, 0);
     walk(
         t,
         s,
@@ -653,6 +682,7 @@ pub fn walk_value(
         v,
         r,
         0,
+        step,
         text,
         defaults,
         task,

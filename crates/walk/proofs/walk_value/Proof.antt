@@ -14,6 +14,7 @@ walk-value-spec =
     (λ c κs. search value-fits)  -- visit-requires
     (λ c. search needs)  -- same-length
     (λ c. search value-whole)  -- returns-2
-    (λ c κs. (search needs, (search needs, (search value-ends, (search needs, search value-read)))))  -- walk-requires
+    (λ c κs. search needs)  -- next-id-requires
+    (λ c κs. (search needs, (search needs, (search value-ends, (search needs, (search value-read, (search needs, search needs)))))))  -- walk-requires
     (λ c. search needs)  -- same-length-2
     (λ c. search value-along))  -- returns-3

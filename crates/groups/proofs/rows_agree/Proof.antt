@@ -1,5 +1,5 @@
 use Rattle.octets.proofs.Laws.{all-none, all-more, all-bad, all-done}
-use Rattle.groups.specs.Clauses.{alternativesMandatory}
+use Rattle.groups.specs.Work.{rowAgrees}
 use Rattle.octets.specs.Pick.{all}
 use native.Mathlib.Omega.{arith}
 use mathlib.Core.Bool.{true}
@@ -7,23 +7,23 @@ use mathlib.Core.Path.{_≡_}
 use Prim.Native.Nat.{_-_, _≤_}
 use lib.ListN.{length}
 use borrow.Author.Needs.{needs}
-use Rattle.groups.proofs.all_alternatives_mandatory.Statement.{statement}
-use Rattle.groups.proofs.all_alternatives_mandatory.Tie as tie
+use Rattle.groups.proofs.rows_agree.Statement.{statement}
+use Rattle.groups.proofs.rows_agree.Tie as tie
 
 abbrev Inv-loop : tie.InvT-loop
-Inv-loop t s i₀ i = (i ≤ length s) × (all (alternativesMandatory t s) i ≡ true)
+Inv-loop t s i₀ i = (i ≤ length s) × (all (rowAgrees 16 24 t s) i ≡ true)
 
 abbrev μ-loop : tie.MeasureT-loop
 μ-loop t s i₀ i = length s - i
 
-pub all-alternatives-mandatory-spec : {M : Type 1} → statement M
-all-alternatives-mandatory-spec =
+pub rows-agree-spec : {M : Type 1} → statement M
+rows-agree-spec =
     tie.close
     (tie.spec
     Inv-loop
     μ-loop
-    (λ c. (search needs, all-none (alternativesMandatory _ _)))  -- loop-holds
-    (λ c κs. search needs)  -- alternatives-mandatory-requires
+    (λ c. (search needs, all-none (rowAgrees _ _ _ _)))  -- loop-holds
+    (λ c κs. search needs)  -- row-agrees-requires
     (λ c. search all-bad)  -- returns
     (λ c. search needs)  -- add-i
     (λ c. search needs)  -- loop-less
