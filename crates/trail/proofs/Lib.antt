@@ -6,4 +6,5 @@ pub mod ListSteps
 pub mod FindSteps
 pub mod ChosenSteps
 pub mod LocateSteps
+pub mod KeepSteps
 pub mod Locating

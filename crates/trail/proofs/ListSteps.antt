@@ -25,7 +25,7 @@ module _ (ty : Ty) (v : List ℕ) (i stop : ℕ) (c : Opening) (told : openingTo
   is-unfit e = sym (plainly ty v i stop) ∙ sym told ∙ ap openingTold e
 
   module _ (place start span : ℕ) (e : c ≡ Opening.Of place start span) where
-    is-open : openAt ty untagged v i stop ≡ some (record { place = place; start = start; span = span })
+    pub is-open : openAt ty untagged v i stop ≡ some (record { place = place; start = start; span = span })
     is-open = sym (plainly ty v i stop) ∙ sym told ∙ ap openingTold e
 
     pub element-long : i + 2 ≤ start + span

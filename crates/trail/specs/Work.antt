@@ -1,9 +1,9 @@
 -- What the functions of the walk answer, by the definitions.
-use Prim.Native.Nat.{ℕ, zero, suc, _+_, _-_}
-use mathlib.Core.Bool.{Bool, true}
+use Prim.Native.Nat.{ℕ, zero, suc, _+_, _-_, _*_, _/_}
+use mathlib.Core.Bool.{Bool, true, false}
 use mathlib.Core.Option.{Option, none, some}
 use mathlib.Core.List.{List}
-use lib.ListN.{length}
+use lib.ListN.{length, getD, set}
 use lib.Dec.{ltb, leb, eqb}
 use Rattle.octets.specs.Pick.{pick, both, either}
 use Rattle.octets.specs.Octets.{same}
@@ -126,6 +126,22 @@ ofLast n f (some size) = pick (leb n size) (f (size + 1 - n)) trail.nothing
 
 unfoldable pub lastFound : Ty → List ℕ → ℕ → ℕ → ℕ → trail.Found
 lastFound ty v start span n = ofLast n (nthFound ty v start span) (trail.countFrom (openAt ty untagged v) span (start + span) 0 start)
+
+-- ---- the last elements kept in lent memory, three numbers at a slot: place, start of contents, their length
+unfoldable pub keep : ℕ → ℕ → ℕ → ℕ → List ℕ → List ℕ
+keep slot place start span m = set (set (set m (slot * 3) place) (slot * 3 + 1) start) (slot * 3 + 2) span
+
+-- the element at a slot
+abbrev pub keptAs : ℕ → List ℕ → ℕ → Found
+keptAs row m slot = Found.At row (getD m (slot * 3) 0) (getD m (slot * 3 + 1) 0) (getD m (slot * 3 + 2) 0)
+
+-- the slot after a slot, of i: the first again after the last
+unfoldable pub nextSlot : ℕ → ℕ → ℕ
+nextSlot slot i = pick (eqb (slot + 1) i) 0 (slot + 1)
+
+-- whether a list of a span, up to stop, can have an element at position i from the end, and there are slots for i elements; a slot's numbers are below 65536
+unfoldable pub isNear : ℕ → ℕ → ℕ → ℕ → Bool
+isNear most stop span i = pick (eqb i 0) false (pick (ltb (span / 2) i) false (pick (ltb most i) false (ltb stop 65536)))
 
 abbrev pub byIndex : Index → Ty → List ℕ → Opened → trail.Found
 byIndex (position n) ty v o = nthFound ty v (o .start) (o .span) n

@@ -2,7 +2,7 @@
 use der::Inside;
 ghost use mathlib.Core.Path.{_≡_};
 ghost use mathlib.Core.Bool.{true};
-ghost use Prim.Native.Nat.{_≤_, _<_, _+_, _-_};
+ghost use Prim.Native.Nat.{_≤_, _<_, _+_, _-_, _*_};
 ghost use lib.ListN.{length};
 ghost use lib.Dec.{eqb};
 ghost use Rattle.octets.specs.Pick.{pick, either};
@@ -431,8 +431,8 @@ fn nth_found(
     }
 }
 
-// The element at a position from the end: one pass for the count, and one to the position.
-fn last_found(
+// The element at a position from the end, of any list: one pass for the count, and where there are enough elements one up to the position.
+fn far_found(
     t: &[u8],
     s: &[usize],
     m: &[u64],
@@ -455,6 +455,187 @@ fn last_found(
         return Found::Nothing;
     }
     nth_found(t, s, m, v, row, start, span, size + 1 - i)
+}
+
+// ---- elements from the end in one pass, the last ones kept in lent memory: three numbers at a slot, place, start of contents and their length
+// The slots of the small memory.
+const FEW: usize = 64;
+
+// The slots of the large one: as many as a value of 4,096 octets can have elements, of two octets at least.
+const MANY: usize = 2048;
+
+// Writes an element to a slot.
+fn keep_element(ring: &mut [u16], slot: usize, place: usize, start: usize, span: usize)
+    requires room { ⌜ slot * 3 + 3 ≤ length (now ring) ⌝ }
+    requires small { ⌜ (place < 65536) × (start < 65536) × (span < 65536) ⌝ }
+    ensures { λ _. ⌜ now (ring .exit) ≡ work.keep slot place start span (now (ring .entry)) ⌝ }
+{
+    ring[slot * 3] = place as u16;
+    ring[slot * 3 + 1] = start as u16;
+    ring[slot * 3 + 2] = span as u16;
+}
+
+fn widen(x: u16) -> usize
+    ensures { λ r. ⌜ r ≡ x ⌝ }
+{
+    x as usize
+}
+
+// The element at a slot.
+fn kept_element(ring: &[u16], slot: usize, row: usize) -> Found
+    requires room { ⌜ slot * 3 + 3 ≤ length (now ring) ⌝ }
+    ensures { λ f. ⌜ f ≡ work.keptAs row (now (ring .entry)) slot ⌝ }
+{
+    Found::At(
+        row,
+        widen(ring[slot * 3]),
+        widen(ring[slot * 3 + 1]),
+        widen(ring[slot * 3 + 2]),
+    )
+}
+
+// The slot after a slot, of i: the first again after the last.
+fn next_slot(slot: usize, i: usize) -> usize
+    requires { ⌜ slot < i ⌝ }
+    ensures next { λ r. ⌜ r ≡ work.nextSlot slot i ⌝ }
+    ensures below { λ r. ⌜ r < i ⌝ }
+{
+    if slot + 1 == i {
+        return 0;
+    }
+    slot + 1
+}
+
+// The element at position i from the end, by one pass. Each element goes to the next of i slots, so behind the last element the next slot holds the one
+// at position i from the end.
+fn last_kept(
+    t: &[u8],
+    s: &[usize],
+    m: &[u64],
+    v: &[u8],
+    row: usize,
+    start: usize,
+    span: usize,
+    i: usize,
+    ring: &mut [u16],
+) -> Found
+    requires sound { do ⌜ Sound (← ⟦rows::Table::MAX_CHAIN⟧) (now t) (now s) (now m) ⌝ }
+    requires here { ⌜ row < length (now s) ⌝ }
+    requires ends { ⌜ start + span ≤ length (now v) ⌝ }
+    requires some { ⌜ 0 < i ⌝ }
+    requires low { ⌜ start + span < 65536 ⌝ }
+    requires room { ⌜ i * 3 ≤ length (now ring) ⌝ }
+    ensures found { λ f. do ⌜ work.foundTold (← ⟦rows::Table::MAX_CHAIN⟧ .entry) (now (t .entry)) (now (s .entry)) f ≡ work.lastFound (typeFrom (← ⟦rows::Table::MAX_CHAIN⟧ .entry) (now (t .entry)) (now (s .entry)) row) (now (v .entry)) start span i ⌝ }
+    ensures lands { λ f. ⌜ work.landsIn (now (s .entry)) (length (now (v .entry))) f ≡ true ⌝ }
+{
+    let stop = start + span;
+    let mut at = start;
+    let mut n = 0;
+    let mut slot = 0;
+    while at < stop {
+        let Opening::Of(place, from, size) = open_at(t, s, m, v, row, 0, 0, at, stop) else {
+            return Found::Broken;
+        };
+        let next = next_slot(slot, i);
+        keep_element(ring, slot, place, from, size);
+        slot = next;
+        at = from + size;
+        n += 1;
+    }
+    if n < i {
+        return Found::Nothing;
+    }
+    kept_element(ring, slot, row)
+}
+
+// A position that the small memory serves.
+fn last_of_few(
+    t: &[u8],
+    s: &[usize],
+    m: &[u64],
+    v: &[u8],
+    row: usize,
+    start: usize,
+    span: usize,
+    i: usize,
+) -> Found
+    requires sound { do ⌜ Sound (← ⟦rows::Table::MAX_CHAIN⟧) (now t) (now s) (now m) ⌝ }
+    requires here { ⌜ row < length (now s) ⌝ }
+    requires ends { ⌜ start + span ≤ length (now v) ⌝ }
+    requires some { ⌜ 0 < i ⌝ }
+    requires low { ⌜ start + span < 65536 ⌝ }
+    requires few { do ⌜ i ≤ (← ⟦FEW⟧) ⌝ }
+    ensures found { λ f. do ⌜ work.foundTold (← ⟦rows::Table::MAX_CHAIN⟧ .entry) (now (t .entry)) (now (s .entry)) f ≡ work.lastFound (typeFrom (← ⟦rows::Table::MAX_CHAIN⟧ .entry) (now (t .entry)) (now (s .entry)) row) (now (v .entry)) start span i ⌝ }
+    ensures lands { λ f. ⌜ work.landsIn (now (s .entry)) (length (now (v .entry))) f ≡ true ⌝ }
+{
+    let mut ring = [0u16; FEW * 3];
+    last_kept(t, s, m, v, row, start, span, i, &mut ring)
+}
+
+// A position that the large memory serves.
+fn last_of_many(
+    t: &[u8],
+    s: &[usize],
+    m: &[u64],
+    v: &[u8],
+    row: usize,
+    start: usize,
+    span: usize,
+    i: usize,
+) -> Found
+    requires sound { do ⌜ Sound (← ⟦rows::Table::MAX_CHAIN⟧) (now t) (now s) (now m) ⌝ }
+    requires here { ⌜ row < length (now s) ⌝ }
+    requires ends { ⌜ start + span ≤ length (now v) ⌝ }
+    requires some { ⌜ 0 < i ⌝ }
+    requires low { ⌜ start + span < 65536 ⌝ }
+    requires many { do ⌜ i ≤ (← ⟦MANY⟧) ⌝ }
+    ensures found { λ f. do ⌜ work.foundTold (← ⟦rows::Table::MAX_CHAIN⟧ .entry) (now (t .entry)) (now (s .entry)) f ≡ work.lastFound (typeFrom (← ⟦rows::Table::MAX_CHAIN⟧ .entry) (now (t .entry)) (now (s .entry)) row) (now (v .entry)) start span i ⌝ }
+    ensures lands { λ f. ⌜ work.landsIn (now (s .entry)) (length (now (v .entry))) f ≡ true ⌝ }
+{
+    let mut ring = [0u16; MANY * 3];
+    last_kept(t, s, m, v, row, start, span, i, &mut ring)
+}
+
+// Whether a list of a span can have an element at position i from the end, and there are slots for i elements; a slot's numbers are below 65536.
+fn is_near(stop: usize, span: usize, i: usize) -> bool
+    ensures { λ r. do ⌜ r ≡ work.isNear (← ⟦MANY⟧ .entry) stop span i ⌝ }
+{
+    if i == 0 {
+        return false;
+    }
+    if span / 2 < i {
+        return false;
+    }
+    if MANY < i {
+        return false;
+    }
+    stop < 65536
+}
+
+// The element at a position from the end. Each header is read once where the position is 1 to 2048 and the list ends below 65536.
+fn last_found(
+    t: &[u8],
+    s: &[usize],
+    m: &[u64],
+    v: &[u8],
+    row: usize,
+    start: usize,
+    span: usize,
+    i: usize,
+) -> Found
+    requires sound { do ⌜ Sound (← ⟦rows::Table::MAX_CHAIN⟧) (now t) (now s) (now m) ⌝ }
+    requires here { ⌜ row < length (now s) ⌝ }
+    requires ends { ⌜ start + span ≤ length (now v) ⌝ }
+    ensures found { λ f. do ⌜ work.foundTold (← ⟦rows::Table::MAX_CHAIN⟧ .entry) (now (t .entry)) (now (s .entry)) f ≡ work.lastFound (typeFrom (← ⟦rows::Table::MAX_CHAIN⟧ .entry) (now (t .entry)) (now (s .entry)) row) (now (v .entry)) start span i ⌝ }
+    ensures lands { λ f. ⌜ work.landsIn (now (s .entry)) (length (now (v .entry))) f ≡ true ⌝ }
+{
+    if !is_near(start + span, span, i) {
+        return far_found(t, s, m, v, row, start, span, i);
+    }
+    if i <= FEW {
+        return last_of_few(t, s, m, v, row, start, span, i);
+    }
+    last_of_many(t, s, m, v, row, start, span, i)
 }
 
 // The member of a SEQUENCE or the alternative of a CHOICE whose name stands from a to b.

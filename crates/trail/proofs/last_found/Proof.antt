@@ -1,5 +1,4 @@
-use Rattle.trail.proofs.LocateSteps.{last-broken, last-past, last-fits, last-of, lands-still}
-use Rattle.trail.proofs.FindSteps.{none-lands}
+use Rattle.trail.proofs.KeepSteps.{near-some, near-low, near-most}
 use borrow.Author.Needs.{needs}
 use Rattle.trail.proofs.last_found.Statement.{statement}
 use Rattle.trail.proofs.last_found.Tie as tie
@@ -8,13 +7,11 @@ pub last-found-spec : {M : Type 1} → statement M
 last-found-spec =
     tie.close
     (tie.spec
-    (λ c. search needs)  -- add-count-elements
-    (λ c κs. search needs)  -- count-elements-requires
-    (λ c. search needs)  -- enum-known-size
-    (λ c. search needs)  -- enum-told
-    (λ c. (search last-broken, search none-lands))  -- returns
-    (λ c. (search last-past, search none-lands))  -- returns-2
-    (λ c. record { fits = search last-fits })  -- add-nth-found
-    (λ c. search needs)  -- sub-nth-found
-    (λ c κs. search needs)  -- nth-found-requires
-    (λ c. (search last-of, search lands-still)))  -- returns-3
+    (λ c. search needs)  -- add-is-near
+    (λ c κs. search needs)  -- is-near-requires
+    (λ c κs. search needs)  -- far-found-requires
+    (λ c. search needs)  -- returns
+    (λ c κs. (search needs, (search needs, (search needs, (search near-some, (search near-low, search needs))))))  -- last-of-few-requires
+    (λ c. search needs)  -- returns-2
+    (λ c κs. (search needs, (search needs, (search needs, (search near-some, (search near-low, search near-most))))))  -- last-of-many-requires
+    (λ c. search needs))  -- returns-3

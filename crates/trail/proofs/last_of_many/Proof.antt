@@ -1,0 +1,11 @@
+use borrow.Author.Needs.{needs}
+use Rattle.trail.proofs.last_of_many.Statement.{statement}
+use Rattle.trail.proofs.last_of_many.Tie as tie
+
+pub last-of-many-spec : {M : Type 1} → statement M
+last-of-many-spec =
+    tie.close
+    (tie.spec
+    (λ c. search needs)  -- slice-aggregate-last-kept
+    (λ c κs. (search needs, (search needs, (search needs, (search needs, (search needs, search needs))))))  -- last-kept-requires
+    (λ c. search needs))  -- returns
