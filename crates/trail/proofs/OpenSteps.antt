@@ -23,8 +23,21 @@ use Rattle.value.specs.Decode.{tagOctet, inside, inWrapper}
 use Rattle.value.proofs.CheckSteps.{typed-choice, typed-sequence, typed-list, typed-basic}
 use Rattle.value.proofs.Views.{none-some, some-same, bind-view, pick-view, opened-view}
 use Rattle.trail.specs.Opened.{Opened, after, ownHeader, openedAs, openOwn, openAt}
-use Rattle.trail.specs.Work.{openingTold}
+use Rattle.trail.specs.Work.{choiceHeader}
 use Rattle.trail.specs.declared.Opening.{Opening}
+
+-- ---- the header of a CHOICE
+module _ (m : List ℕ) (row : ℕ) (v : List ℕ) (at end o : ℕ) (b : Bool) (octet-read : o ≡ octet v at) (marked : b ≡ bitOf (rowAt m row) (tagOf o)) where
+  in-set : bitOf (rowAt m row) (tagOf (octet v at)) ≡ b
+  in-set = ap (λ (x : ℕ). bitOf (rowAt m row) (tagOf x)) (sym octet-read) ∙ sym marked
+
+  pub choice-other-tag : not b ≡ true → Inside.Misfit ≡ choiceHeader m row v at end
+  unfolding choiceHeader
+  choice-other-tag h = rw (in-set ∙ not-true b h)
+
+  pub choice-any : (r : Inside) → not b ≡ false → r ≡ anyTag (headerAt v at end) → r ≡ choiceHeader m row v at end
+  unfolding choiceHeader
+  choice-any r h e = rw (in-set ∙ not-false b h) e
 
 module _ (chain : ℕ) (t s m : List ℕ) (row : ℕ) (ok : Sound chain t s m) (here : row < length s) where
   abbrev element : Ty
@@ -53,24 +66,20 @@ module _ (chain : ℕ) (t s m : List ℕ) (row : ℕ) (ok : Sound chain t s m) (
             false-eq : k ≡ 12 → eqb k 12 ≡ false → ⊥
             false-eq z w = true≢false (sym (eq-eqb k 12 z) ∙ w)
 
-    module _ (is-choice : k ≡ 13) (o : ℕ) (b : Bool) (octet-read : o ≡ octet v at) (marked : b ≡ bitOf (rowAt m row) (tagOf o)) where
-      can-begin : begins (choice parts) (tagOf (octet v at)) ≡ b
-      can-begin = ap (λ (ty : Ty). begins ty (tagOf (octet v at))) (sym (the-type ∙ typed-choice k element parts is-choice)) ∙ sym (ok .masked .says row here (tagOf (octet v at)) (tag-small (octet v at))) ∙ ap (λ (x : ℕ). bitOf (rowAt m row) (tagOf x)) (sym octet-read) ∙ sym marked
+    pub own-choice : (r : Inside) → k ≡ 13 → r ≡ choiceHeader m row v at end → r ≡ ownHeader (typeFrom chain t s row) (taggingOf mode number) v at end
+    unfolding ownHeader choiceHeader
+    own-choice r is-choice e =
+        rw (the-type ∙ typed-choice k element parts is-choice, ← can-begin) e
+      where
+        can-begin : bitOf (rowAt m row) (tagOf (octet v at)) ≡ begins (choice parts) (tagOf (octet v at))
+        can-begin = ok .masked .says row here (tagOf (octet v at)) (tag-small (octet v at)) ∙ ap (λ (ty : Ty). begins ty (tagOf (octet v at))) (the-type ∙ typed-choice k element parts is-choice)
 
-      pub own-other-tag : not b ≡ true → Inside.Misfit ≡ ownHeader (typeFrom chain t s row) (taggingOf mode number) v at end
-      unfolding ownHeader
-      own-other-tag h = rw (the-type ∙ typed-choice k element parts is-choice, can-begin ∙ not-true b h)
-
-      pub own-chosen : (r : Inside) → not b ≡ false → r ≡ anyTag (headerAt v at end) → r ≡ ownHeader (typeFrom chain t s row) (taggingOf mode number) v at end
-      unfolding ownHeader
-      own-chosen r h e = rw (the-type ∙ typed-choice k element parts is-choice, can-begin ∙ not-false b h) e
-
--- ---- opened
-module _ (ty : Ty) (v : List ℕ) (at end mode number : ℕ) (h : Inside) (told : h ≡ ownHeader ty (taggingOf mode number) v at end) where
-  pub open-misfit : h ≡ Inside.Misfit → none ≡ openOwn ty (taggingOf mode number) v at end
+-- ---- opened, behind a header
+module _ (at : ℕ) (x h : Inside) (told : h ≡ x) where
+  pub open-misfit : h ≡ Inside.Misfit → none ≡ opened x (openedAs at)
   open-misfit e = ap (λ (i : Inside). opened i (openedAs at)) (sym e ∙ told)
 
-  pub open-is : (start n : ℕ) → h ≡ Inside.Of start n → some (record { place = at; start = start; span = n }) ≡ openOwn ty (taggingOf mode number) v at end
+  pub open-is : (start n : ℕ) → h ≡ Inside.Of start n → some (record { place = at; start = start; span = n }) ≡ opened x (openedAs at)
   open-is start n e = ap (λ (i : Inside). opened i (openedAs at)) (sym e ∙ told)
 
 module _ (ty : Ty) (v : List ℕ) (at end number : ℕ) where
@@ -108,13 +117,22 @@ module _ (ty : Ty) (v : List ℕ) (at end mode number : ℕ) (r : Option Opened)
   pub at-explicit : mode ≡ 1 → r ≡ openAt ty (taggingOf 1 number) v at end → r ≡ openAt ty (taggingOf mode number) v at end
   at-explicit h e = e ∙ ap (λ (x : ℕ). openAt ty (taggingOf x number) v at end) (sym h)
 
-  pub at-other : (mode ≡ 1 → ⊥) → r ≡ openOwn ty (taggingOf mode number) v at end → r ≡ openAt ty (taggingOf mode number) v at end
+  at-other : (mode ≡ 1 → ⊥) → r ≡ openOwn ty (taggingOf mode number) v at end → r ≡ openAt ty (taggingOf mode number) v at end
   unfolding openAt inWrapper taggingOf
   at-other h e = rw (ne-eqb mode 1 h) (go (eqb mode 0) (rw (ne-eqb mode 1 h) at e))
     where
       go : (x : Bool) → r ≡ openOwn ty (pick x untagged (implicit number)) v at end → r ≡ inWrapper after (pick x untagged (implicit number)) (openOwn ty (pick x untagged (implicit number)) v) v at end
       go true q = q
       go false q = q
+
+module _ (chain : ℕ) (t s m : List ℕ) (row : ℕ) (ok : Sound chain t s m) (here : row < length s) (p k : ℕ) (placed : p ≡ rowAt s row) (read : k ≡ kindAt t p) (v : List ℕ) (at end mode number : ℕ) (unwrapped : mode ≡ 1 → ⊥) (r : Option Opened) where
+  pub at-choice : k ≡ 13 → r ≡ opened (choiceHeader m row v at end) (openedAs at) → r ≡ openAt (typeFrom chain t s row) (taggingOf mode number) v at end
+  at-choice h e = at-other (typeFrom chain t s row) v at end mode number r unwrapped
+      (e ∙ ap (λ (i : Inside). opened i (openedAs at)) (own-choice chain t s m row ok here p k placed read v at end mode number (choiceHeader m row v at end) h refl))
+
+  pub at-tag : (o : ℕ) → (k ≡ 13 → ⊥) → o ≡ tagOctet (taggingOf mode number) k → r ≡ opened (insideAt o v at end) (openedAs at) → r ≡ openAt (typeFrom chain t s row) (taggingOf mode number) v at end
+  at-tag o h tag e = at-other (typeFrom chain t s row) v at end mode number r unwrapped
+      (e ∙ ap (λ (i : Inside). opened i (openedAs at)) (own-plain chain t s m row ok here p k placed read v at end mode number o (insideAt o v at end) h tag refl))
 
 -- ---- of a member row, whose parts the code has read
 module _ (chain : ℕ) (t s : List ℕ) (row p target : ℕ) (placed : p ≡ rowAt s row) (targeted : target ≡ typeRowAt t p) where

@@ -6,10 +6,14 @@ use mathlib.Core.List.{List}
 use lib.ListN.{length, getD, set}
 use lib.Dec.{ltb, leb, eqb}
 use Rattle.octets.specs.Pick.{pick, both, either}
-use Rattle.octets.specs.Octets.{same}
+use Rattle.octets.specs.Octets.{octet, same}
+use Rattle.der.specs.Tag.{tagOf}
+use Rattle.der.specs.Header.{headerAt, anyTag}
+use Rattle.der.specs.declared.Inside.{Inside}
 use Rattle.rows.specs.Row.{rowAt}
 use Rattle.table.specs.Types.{untagged, Member, memberOf, Ty, basic, sequence, choice, listOf, typeFrom}
 use Rattle.table.specs.Begins.{isMandatory}
+use Rattle.table.specs.Work.{bitOf}
 use Rattle.value.specs.Decode.{startsHere}
 use Rattle.reference.specs.Reference.{Index, position, fromEnd, count, all, Id, name, index}
 use Rattle.trail.specs.Opened.{Opened, after, openAt}
@@ -28,6 +32,10 @@ standing place start span = record { place = place; start = start; span = span }
 abbrev pub openingTold : Opening → Option Opened
 openingTold Opening.Misfit = none
 openingTold (Opening.Of place start span) = some (record { place = place; start = start; span = span })
+
+-- the header of the CHOICE of a row: any, whose tag is in the row's set
+unfoldable pub choiceHeader : List ℕ → ℕ → List ℕ → ℕ → ℕ → Inside
+choiceHeader m row v at end = pick (bitOf (rowAt m row) (tagOf (octet v at))) (anyTag (headerAt v at end)) Inside.Misfit
 
 abbrev pub countedTold : Counted → Option ℕ
 countedTold Counted.Misfit = none

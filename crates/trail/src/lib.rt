@@ -11,7 +11,8 @@ ghost use Rattle.rows.specs.Row.{rowAt, kindAt, nameAt, typeRowAt, modeAt, numb
 ghost use Rattle.table.specs.Types.{untagged, taggingOf, unfilled, memberOf, membersFrom, typeFrom};
 ghost use Rattle.table.specs.Work.{Sound};
 ghost use Rattle.reference.specs.Reference.{name, index, position, fromEnd};
-ghost use Rattle.trail.specs.Opened.{ownHeader, openOwn, openAt};
+ghost use Rattle.der.specs.Header.{insideAt, opened};
+ghost use Rattle.trail.specs.Opened.{ownHeader, openedAs, openAt};
 ghost use Rattle.value.specs.Work.{marked};
 ghost use Rattle.trail.specs.Trail as trail;
 ghost use Rattle.trail.specs.Trail.{countFrom};
@@ -54,6 +55,16 @@ enum Look {
 }
 
 // ---- headers
+// The header of the CHOICE of a row: any, whose tag the CHOICE can begin with.
+fn choice_header(m: &[u64], row: usize, v: &[u8], at: usize, end: usize) -> Inside
+    ensures { λ r. ⌜ r ≡ work.choiceHeader (now (m .entry)) row (now (v .entry)) at end ⌝ }
+{
+    if !table::row_begins(m, row, octets::octet(v, at)) {
+        return Inside::Misfit;
+    }
+    der::open_any(v, at, end)
+}
+
 // The header of a value of the type of a row, inside its wrapper.
 fn own_header(
     t: &[u8],
@@ -71,38 +82,33 @@ fn own_header(
     ensures { λ r. do ⌜ r ≡ ownHeader (typeFrom (← ⟦rows::Table::MAX_CHAIN⟧ .entry) (now (t .entry)) (now (s .entry)) row) (taggingOf mode number) (now (v .entry)) at end ⌝ }
 {
     let kind = rows::kind_at(t, rows::row_at(s, row));
-    if kind != 13 {
-        return der::open(value::tag_octet(mode, number, kind), v, at, end);
+    if kind == 13 {
+        return choice_header(m, row, v, at, end);
     }
-    if !table::row_begins(m, row, octets::octet(v, at)) {
-        return Inside::Misfit;
-    }
-    der::open_any(v, at, end)
+    der::open(value::tag_octet(mode, number, kind), v, at, end)
 }
 
-// A value of the type of a row that begins at a place, before an end.
-fn open_own(
-    t: &[u8],
-    s: &[usize],
-    m: &[u64],
-    v: &[u8],
-    row: usize,
-    mode: u8,
-    number: u8,
-    at: usize,
-    end: usize,
-) -> Opening
-    requires sound { do ⌜ Sound (← ⟦rows::Table::MAX_CHAIN⟧) (now t) (now s) (now m) ⌝ }
-    requires here { ⌜ row < length (now s) ⌝ }
-    ensures { λ r. do ⌜ work.openingTold r ≡ openOwn (typeFrom (← ⟦rows::Table::MAX_CHAIN⟧ .entry) (now (t .entry)) (now (s .entry)) row) (taggingOf mode number) (now (v .entry)) at end ⌝ }
+// The value behind a tag octet that begins at a place, before an end.
+fn open_tagged(tag: usize, v: &[u8], at: usize, end: usize) -> Opening
+    ensures { λ r. ⌜ work.openingTold r ≡ opened (insideAt tag (now (v .entry)) at end) (openedAs at) ⌝ }
 {
-    let Inside::Of(start, n) = own_header(t, s, m, v, row, mode, number, at, end) else {
+    let Inside::Of(start, n) = der::open(tag, v, at, end) else {
         return Opening::Misfit;
     };
     Opening::Of(at, start, n)
 }
 
-// The same in an explicit wrapper, which it fills.
+// The value of the CHOICE of a row that begins at a place, before an end.
+fn open_choice(m: &[u64], row: usize, v: &[u8], at: usize, end: usize) -> Opening
+    ensures { λ r. ⌜ work.openingTold r ≡ opened (work.choiceHeader (now (m .entry)) row (now (v .entry)) at end) (openedAs at) ⌝ }
+{
+    let Inside::Of(start, n) = choice_header(m, row, v, at, end) else {
+        return Opening::Misfit;
+    };
+    Opening::Of(at, start, n)
+}
+
+// A value of the type of a row in an explicit wrapper, which it fills.
 fn open_wrapped(
     t: &[u8],
     s: &[usize],
@@ -149,7 +155,11 @@ pub fn open_at(
     if mode == 1 {
         return open_wrapped(t, s, m, v, row, number, at, end);
     }
-    open_own(t, s, m, v, row, mode, number, at, end)
+    let kind = rows::kind_at(t, rows::row_at(s, row));
+    if kind == 13 {
+        return open_choice(m, row, v, at, end);
+    }
+    open_tagged(value::tag_octet(mode, number, kind), v, at, end)
 }
 
 // The value of a member row's type.

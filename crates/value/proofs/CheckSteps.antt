@@ -56,8 +56,12 @@ typed-list k e ms h = let w = list-kind k h in rw (w .0, w .1, h)
 pub typed-basic : (k : ℕ) (e : Ty) (ms : Members) → (k ≡ 13 → ⊥) → (k ≡ 12 → ⊥) → isList k ≡ false → typed k e ms ≡ basic k
 typed-basic k e ms a b c = rw (ne-eqb k 12 b, ne-eqb k 13 a, c)
 
+pub typed-small : (k : ℕ) (e : Ty) (ms : Members) → k ≤ 11 → typed k e ms ≡ basic k
+unfolding isList
+typed-small k e ms l = rw (ne-eqb k 12 (λ z. omega arith), ne-eqb k 13 (λ z. omega arith), ne-eqb k 14 (λ z. omega arith), ne-eqb k 15 (λ z. omega arith))
+
 -- ---- what bodies of one header say
-told-leaf : (k : ℕ) (v : List ℕ) (at start n : ℕ) → told (leafOf k v at start n) ≡ upTo (start + n) (legal k (part v start n))
+pub told-leaf : (k : ℕ) (v : List ℕ) (at start n : ℕ) → told (leafOf k v at start n) ≡ upTo (start + n) (legal k (part v start n))
 told-leaf k v at start n = go (legal k (part v start n))
   where
     go : (x : Bool) → told (pick x (decoded (leaf k (spotAt v at start n)) (start + n)) none) ≡ upTo (start + n) x
@@ -147,7 +151,7 @@ module _ (chain : ℕ) (t s m : List ℕ) (row : ℕ) (ok : Sound chain t s m) (
 
 -- ---- under a member's tag mode
 module _ (ty : Ty) (v : List ℕ) (at end mode number : ℕ) where
-  not-explicit : (mode ≡ 1 → ⊥) → decode ty (taggingOf mode number) v at end ≡ unwrapped ty (taggingOf mode number) v at end
+  pub not-explicit : (mode ≡ 1 → ⊥) → decode ty (taggingOf mode number) v at end ≡ unwrapped ty (taggingOf mode number) v at end
   unfolding decode inWrapper taggingOf
   not-explicit h = rw (ne-eqb mode 1 h) (go (eqb mode 0))
     where

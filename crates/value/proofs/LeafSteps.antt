@@ -70,6 +70,9 @@ module _ (mode n k : ℕ) where
 pub inside-fits : (o : ℕ) (v : List ℕ) (at end start n : ℕ) (h : Inside) → h ≡ insideAt o v at end → h ≡ Inside.Of start n → end < 18446744073709551616 → start + n < 18446744073709551616
 inside-fits o v at end start n h e q l = let w = inside-within o v at end start n (sym e ∙ q) in omega arith
 
+pub kind-through : (t s : List ℕ) (p j q k : ℕ) → j ≡ typeRowAt t p → q ≡ rowAt s j → k ≡ kindAt t q → k ≡ kindAt t (rowAt s (typeRowAt t p))
+kind-through t s p j q k e f g = g ∙ ap (kindAt t) (f ∙ ap (rowAt s) e)
+
 -- ---- a default that is stored
 module _ (v d : List ℕ) (g : Tagging) (k at end : ℕ) (h : Inside) (e : h ≡ contentsAt g k v at end) where
   pub holds-none : h ≡ Inside.Misfit → false ≡ holds v d (contentsAt g k v at end)
@@ -83,10 +86,10 @@ module _ (t s : List ℕ) (p : ℕ) (v : List ℕ) (at end pr : ℕ) (read : pr 
   unfolding storedDefault
   stored-not h = rw (← read, ne-eqb pr 2 h)
 
-  pub stored-is : (j q k mode n : ℕ) (c : List ℕ) (r : Bool) → pr ≡ 2 → j ≡ typeRowAt t p → q ≡ rowAt s j → k ≡ kindAt t q → c ≡ defaultAt t p → mode ≡ modeAt t p → n ≡ numberAt t p
+  pub stored-is : (k mode n : ℕ) (c : List ℕ) (r : Bool) → pr ≡ 2 → k ≡ kindAt t (rowAt s (typeRowAt t p)) → c ≡ defaultAt t p → mode ≡ modeAt t p → n ≡ numberAt t p
       → r ≡ holds v c (contentsAt (taggingOf mode n) k v at end) → r ≡ storedDefault t s p v at end
   unfolding storedDefault
-  stored-is j q k mode n c r h ej eq ek ec em en told = rw (← read, eq-eqb pr 2 h, ← ej, ← eq, ← ek, ← ec, ← em, ← en) told
+  stored-is k mode n c r h ek ec em en told = rw (← read, eq-eqb pr 2 h, ← ek, ← ec, ← em, ← en) told
 
 -- a member that is not there
 module _ (t : List ℕ) (p i pr : ℕ) (read : pr ≡ presenceAt t p) where

@@ -3,6 +3,7 @@ pub mod Laws
 pub mod Before
 pub mod LeafSteps
 pub mod CheckSteps
+pub mod PlainSteps
 pub mod MemberSteps
 pub mod ChoiceSteps
 pub mod ElementSteps

@@ -27,11 +27,13 @@ use Rattle.table.proofs.TagLaws.{mandatory-as}
 use Rattle.table.proofs.SoundLaws.{member-tags}
 use Rattle.value.specs.Value.{spotAt, spotOf, Value, leaf, Fields, endFields, present, absent}
 use Rattle.value.specs.Decode.{Decoded, decoded, afterOf, tagOctet, inWrapper, startsHere, choiceOf, chosenOf, isDefault, unlessDefault, presentThen, absentThen, unwrapped, fieldsFrom, alternativeFrom, decode}
-use Rattle.value.specs.Work.{told, upTo, first, marked, markedOf, within, contentsAt, holds, storedDefault, absentTold, memberTold, fieldsTold}
+use Rattle.value.specs.Work.{told, upTo, first, marked, markedOf, within, contentsAt, holds, storedDefault, isPlain, plainTold, absentTold, memberTold, fieldsTold}
 use Rattle.value.specs.declared.Checked.{Checked}
 use Rattle.value.proofs.Views.{none-some, some-same, leaf-view, wrapper-view}
 use Rattle.value.proofs.Laws.{Framed, Own, own, framed-by}
 use Rattle.value.proofs.LeafSteps.{first-none}
+use Rattle.value.proofs.CheckSteps.{typed-small}
+use Rattle.value.proofs.PlainSteps.{plain-basic, plain-decoded}
 
 -- ---- a default that is stored: the contents of a basic value under a tag mode
 contents-are : (g : Tagging) (k : ℕ) (v : List ℕ) (at end : ℕ) (d : Decoded) → decode (basic k) g v at end ≡ some d → (start : ℕ) × (n : ℕ) × (contentsAt g k v at end ≡ Inside.Of start n) × (spotOf (d .value) .contents ≡ part v start n)
@@ -48,10 +50,7 @@ few n h a b c = omega arith
 
 -- where a default is one of BOOLEAN, INTEGER, ENUMERATED, its type is basic
 small-basic : (k : ℕ) (e : Ty) (ms : Members) → leb 1 k ≡ true → leb k 3 ≡ true → typed k e ms ≡ basic k
-unfolding isList
-small-basic k e ms a b =
-    let l = leb-true k 3 b in
-    rw (ne-eqb k 12 (λ z. omega arith), ne-eqb k 13 (λ z. omega arith), ne-eqb k 14 (λ z. omega arith), ne-eqb k 15 (λ z. omega arith))
+small-basic k e ms a b = let l = leb-true k 3 b in typed-small k e ms (omega arith)
 
 module _ (chain : ℕ) (t s m : List ℕ) (row : ℕ) (ok : Sound chain t s m) (here : row < length s) (member : kindAt t (rowAt s row) ≡ 16) (target : typeRowAt t (rowAt s row) < length s) where
   abbrev place : ℕ
@@ -136,11 +135,31 @@ module _ (chain : ℕ) (t s m : List ℕ) (row : ℕ) (ok : Sound chain t s m) (
             go true = refl
             go false = refl
 
+        by-stored : memberTold the-member target-type v stop i ≡ pick y Checked.Bad (told (decode target-type tagging v i stop))
+        by-stored = there ∙ by-default (decode target-type tagging v i stop) refl
+
         pub member-default : y ≡ true → Checked.Bad ≡ memberTold the-member target-type v stop i
-        member-default h = sym (there ∙ by-default (decode target-type tagging v i stop) refl ∙ ap (λ (z : Bool). pick z Checked.Bad (told (decode target-type tagging v i stop))) h)
+        member-default h = sym (by-stored ∙ ap (λ (z : Bool). pick z Checked.Bad (told (decode target-type tagging v i stop))) h)
 
         pub member-is : (r : Checked) → y ≡ false → r ≡ told (decode target-type tagging v i stop) → r ≡ memberTold the-member target-type v stop i
-        member-is r h e = e ∙ sym (there ∙ by-default (decode target-type tagging v i stop) refl ∙ ap (λ (z : Bool). pick z Checked.Bad (told (decode target-type tagging v i stop))) h)
+        member-is r h e = e ∙ sym (by-stored ∙ ap (λ (z : Bool). pick z Checked.Bad (told (decode target-type tagging v i stop))) h)
+
+      -- a plain member
+      module _ (on : not x ≡ false) (k : ℕ) (b : Bool) (read : k ≡ kindAt t (rowAt s (typeRowAt t p))) (tested : b ≡ isPlain k (modeAt t p)) where
+        the-kind : k ≡ kindAt t (rowAt s target-row)
+        the-kind = read ∙ ap (λ (y : ℕ). kindAt t (rowAt s (typeRowAt t y))) placed
+
+        by-plain : isPlain (kindAt t (rowAt s target-row)) (modeAt t place) ≡ true → plainTold t place (kindAt t (rowAt s target-row)) tagging v i stop ≡ memberTold the-member target-type v stop i
+        unfolding storedDefault
+        by-plain h =
+            plain-decoded (kindAt t (rowAt s target-row)) (modeAt t place) h t place (numberAt t place) v i stop
+            ∙ ap (λ (ty : Ty). pick (storedDefault t s place v i stop) Checked.Bad (told (decode ty tagging v i stop))) (sym (ok .step target-row target ∙ plain-basic (kindAt t (rowAt s target-row)) (modeAt t place) h _ _))
+            ∙ sym (by-stored on (storedDefault t s place v i stop) (ap (λ (y : ℕ). storedDefault t s y v i stop) (sym placed)))
+
+        pub member-plain : (r : Checked) → b ≡ true → r ≡ plainTold t p k (taggingOf (modeAt t p) (numberAt t p)) v i stop → r ≡ memberTold the-member target-type v stop i
+        member-plain r h e =
+            e ∙ ap₂ (λ (y z : ℕ). plainTold t y z (taggingOf (modeAt t y) (numberAt t y)) v i stop) placed the-kind
+            ∙ by-plain (sym (ap₂ (λ (y z : ℕ). isPlain z (modeAt t y)) placed the-kind) ∙ sym tested ∙ h)
 
 -- ---- members in turn
 abbrev thenFields : Members → List ℕ → ℕ → Checked → Bool

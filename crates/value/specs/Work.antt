@@ -3,12 +3,13 @@ use Prim.Native.Nat.{ℕ, zero, suc, _+_, _-_}
 use mathlib.Core.Bool.{Bool, true, false}
 use mathlib.Core.Option.{Option, none, some}
 use mathlib.Core.List.{List}
-use lib.Dec.{ltb, eqb}
+use lib.Dec.{ltb, leb, eqb}
 use Rattle.octets.specs.Pick.{pick, both, either, bind, isSome}
 use Rattle.octets.specs.Octets.{octet, part, same}
 use Rattle.der.specs.Kind as kind
 use Rattle.der.specs.Tag.{tagOf, ownOctet, wrapperOctet}
 use Rattle.der.specs.Header.{insideAt}
+use Rattle.der.specs.Contents.{legal}
 use Rattle.der.specs.Order.{notAbove}
 use Rattle.der.specs.declared.Inside.{Inside}
 use Rattle.rows.specs.Row.{rowAt, kindAt, typeRowAt, modeAt, numberAt, presenceAt, defaultAt}
@@ -59,6 +60,22 @@ holds v c (Inside.Of start n) = same (part v start n) c
 -- the member row at p has a default, and its contents stand at a place
 unfoldable pub storedDefault : List ℕ → List ℕ → ℕ → List ℕ → ℕ → ℕ → Bool
 storedDefault t s p v at end = both (eqb (presenceAt t p) 2) (holds v (defaultAt t p) (contentsAt (taggingOf (modeAt t p) (numberAt t p)) (kindAt t (rowAt s (typeRowAt t p))) v at end))
+
+-- ---- plain members: of a basic type, under no tag or an implicit one
+unfoldable pub isPlain : ℕ → ℕ → Bool
+isPlain k mode = pick (eqb mode 1) false (leb k kind.generalizedTime)
+
+-- the n octets from start on are the contents of the default of the member row at p
+unfoldable pub isDefaultAt : List ℕ → ℕ → List ℕ → ℕ → ℕ → Bool
+isDefaultAt t p v start n = both (eqb (presenceAt t p) 2) (same (part v start n) (defaultAt t p))
+
+abbrev pub plainOf : List ℕ → ℕ → ℕ → List ℕ → Inside → Checked
+plainOf t p k v Inside.Misfit = Checked.Bad
+plainOf t p k v (Inside.Of start n) = pick (isDefaultAt t p v start n) Checked.Bad (upTo (start + n) (legal k (part v start n)))
+
+-- the plain member of the row at p, of kind k, where it is there
+unfoldable pub plainTold : List ℕ → ℕ → ℕ → Tagging → List ℕ → ℕ → ℕ → Checked
+plainTold t p k g v at end = plainOf t p k v (insideAt (tagOctet g k) v at end)
 
 -- ---- members and elements
 -- the member row at p, where it is not there

@@ -93,6 +93,13 @@ pub fn find_alternative(
     j
 }
 
+// The kind of the type of the member row at p.
+fn type_kind(t: &[u8], s: &[usize], p: usize) -> u8
+    ensures { λ r. ⌜ r ≡ kindAt (now (t .entry)) (rowAt (now (s .entry)) (typeRowAt (now (t .entry)) p)) ⌝ }
+{
+    rows::kind_at(t, rows::row_at(s, rows::type_row_at(t, p)))
+}
+
 // ---- defaults
 // The contents of a basic value under a tag mode, inside its wrapper where it has one.
 fn contents_at(mode: u8, number: u8, kind: u8, v: &[u8], at: usize, end: usize) -> Inside
@@ -124,7 +131,7 @@ fn stored_default(t: &[u8], s: &[usize], p: usize, v: &[u8], at: usize, end: usi
     if rows::presence_at(t, p) != 2 {
         return false;
     }
-    let kind = rows::kind_at(t, rows::row_at(s, rows::type_row_at(t, p)));
+    let kind = type_kind(t, s, p);
     holds(
         rows::default_at(t, p),
         rows::mode_at(t, p),
@@ -169,6 +176,41 @@ fn check_basic(kind: u8, v: &[u8], start: usize, stop: usize) -> Checked
         return Checked::At(stop);
     }
     Checked::Bad
+}
+
+// ---- plain members: of a basic type, under no tag or an implicit one
+// Whether the member row at p, whose type is of a kind, is one.
+fn is_plain(t: &[u8], p: usize, kind: u8) -> bool
+    ensures { λ r. ⌜ r ≡ work.isPlain kind (modeAt (now (t .entry)) p) ⌝ }
+{
+    if rows::mode_at(t, p) == 1 {
+        return false;
+    }
+    kind <= 11
+}
+
+// Whether the n octets from start on are the contents of the default of the member row at p.
+fn is_default(t: &[u8], p: usize, v: &[u8], start: usize, n: usize) -> bool
+    ensures { λ r. ⌜ r ≡ work.isDefaultAt (now (t .entry)) p (now (v .entry)) start n ⌝ }
+{
+    if rows::presence_at(t, p) == 2 {
+        return octets::same(octets::part(v, start, n), rows::default_at(t, p));
+    }
+    false
+}
+
+// The plain member of the row at p, of a kind, at a place where it is there: one header, contents of the kind, and not its default.
+fn check_plain(t: &[u8], p: usize, kind: u8, v: &[u8], at: usize, end: usize) -> Checked
+    ensures { λ r. ⌜ r ≡ work.plainTold (now (t .entry)) p kind (taggingOf (modeAt (now (t .entry)) p) (numberAt (now (t .entry)) p)) (now (v .entry)) at end ⌝ }
+{
+    let tag = tag_octet(rows::mode_at(t, p), rows::number_at(t, p), kind);
+    let Inside::Of(start, n) = der::open(tag, v, at, end) else {
+        return Checked::Bad;
+    };
+    if is_default(t, p, v, start, n) {
+        return Checked::Bad;
+    }
+    check_basic(kind, v, start, start + n)
 }
 
 // ---- "a nested value is checked as its row says, one level deeper"
@@ -255,6 +297,10 @@ fn check_member(
     let p = rows::row_at(s, row);
     if !starts_here(t, m, p, v, stop, i) {
         return absent(t, p, i);
+    }
+    let kind = type_kind(t, s, p);
+    if is_plain(t, p, kind) {
+        return check_plain(t, p, kind, v, i, stop);
     }
     if stored_default(t, s, p, v, i, stop) {
         return Checked::Bad;

@@ -1,4 +1,4 @@
-use Rattle.trail.proofs.OpenSteps.{own-plain, own-other-tag, own-chosen}
+use Rattle.trail.proofs.OpenSteps.{own-plain, own-choice}
 use borrow.Author.Needs.{needs}
 use Rattle.trail.proofs.own_header.Statement.{statement}
 use Rattle.trail.proofs.own_header.Tie as tie
@@ -9,11 +9,8 @@ own-header-spec =
     (tie.spec
     (λ c κs. search needs)  -- row-at-requires
     (λ c κs. search needs)  -- kind-at-requires
+    (λ c κs. search needs)  -- choice-header-requires
+    (λ c. search own-choice)  -- returns
     (λ c κs. search needs)  -- tag-octet-requires
     (λ c κs. search needs)  -- open-requires
-    (λ c. search own-plain)  -- returns
-    (λ c κs. search needs)  -- octet-requires
-    (λ c κs. search needs)  -- row-begins-requires
-    (λ c. search own-other-tag)  -- returns-2
-    (λ c κs. search needs)  -- open-any-requires
-    (λ c. search own-chosen))  -- returns-3
+    (λ c. search own-plain))  -- returns-2

@@ -3,7 +3,7 @@ use lib.ListN.{length}
 use Rattle.rows.specs.Row.{rowAt, typeRowAt}
 use Rattle.value.proofs.LeafSteps.{inside-fits}
 use Rattle.value.proofs.CheckSteps.{check-by-basic, check-by-choice, check-by-elements, check-by-fields, check-falls, check-misfit, inner-falls, list-row, tagged-explicit, tagged-falls, tagged-here, tagged-other, wrapped-falls, wrapped-filled, wrapped-inner, wrapped-misfit, wrapped-surplus}
-use Rattle.value.proofs.MemberSteps.{Fielded, field-falls, field-fits, field-here, field-member, field-row-fits, field-target, fields-again, fields-bad, fields-done, fields-short, fields-start, member-absent, member-default, member-falls, member-is}
+use Rattle.value.proofs.MemberSteps.{Fielded, field-falls, field-fits, field-here, field-member, field-row-fits, field-target, fields-again, fields-bad, fields-done, fields-short, fields-start, member-absent, member-default, member-falls, member-is, member-plain}
 use Rattle.value.proofs.ChoiceSteps.{choice-falls, choice-fits, choice-is, choice-none, choice-row-fits, choice-target}
 use Rattle.value.proofs.ElementSteps.{Listed, element-after, element-falls, element-here, element-less, elements-again, elements-bad, elements-disorder, elements-done, elements-start, listed-low}
 use borrow.Fn.Kinds.{In}
@@ -41,11 +41,14 @@ use Rattle.rows.proofs.row_at.Reads as row-at-reads
 use Rattle.rows.proofs.type_row_at.Reads as type-row-at-reads
 use Rattle.value.proofs.absent.Reads as absent-reads
 use Rattle.value.proofs.check_basic.Reads as check-basic-reads
+use Rattle.value.proofs.check_plain.Reads as check-plain-reads
 use Rattle.value.proofs.find_alternative.Reads as find-alternative-reads
 use Rattle.value.proofs.in_order.Reads as in-order-reads
+use Rattle.value.proofs.is_plain.Reads as is-plain-reads
 use Rattle.value.proofs.starts_here.Reads as starts-here-reads
 use Rattle.value.proofs.stored_default.Reads as stored-default-reads
 use Rattle.value.proofs.tag_octet.Reads as tag-octet-reads
+use Rattle.value.proofs.type_kind.Reads as type-kind-reads
 use Rattle.value.proofs.+check+check_choice+check_elements+check_fields+check_member+check_tagged+check_wrapped.{statement}
 use Rattle.value.proofs.+check+check_choice+check_elements+check_fields+check_member+check_tagged+check_wrapped.Tie.{close}
 use Prim.Native.Nat.{_*_, _+_, _-_, _<_, ℕ}
@@ -138,7 +141,7 @@ abbrev check-fields-claims : ℕ → check-fields-lts.Claims
 check-fields-claims t = (row-at-reads.Asked, row-at-reads.Learnt, members-at-reads.Asked, members-at-reads.Learnt, check-member-below t, check-member.Post)
 
 abbrev check-member-claims : ℕ → check-member-lts.Claims
-check-member-claims t = (row-at-reads.Asked, row-at-reads.Learnt, starts-here-reads.Asked, starts-here-reads.Learnt, absent-reads.Asked, absent-reads.Learnt, stored-default-reads.Asked, stored-default-reads.Learnt, check-tagged-below t, check-tagged.Post)
+check-member-claims t = (row-at-reads.Asked, row-at-reads.Learnt, starts-here-reads.Asked, starts-here-reads.Learnt, absent-reads.Asked, absent-reads.Learnt, type-kind-reads.Asked, type-kind-reads.Learnt, is-plain-reads.Asked, is-plain-reads.Learnt, check-plain-reads.Asked, check-plain-reads.Learnt, stored-default-reads.Asked, stored-default-reads.Learnt, check-tagged-below t, check-tagged.Post)
 
 abbrev check-tagged-claims : ℕ → check-tagged-lts.Claims
 check-tagged-claims t = (row-at-reads.Asked, row-at-reads.Learnt, mode-at-reads.Asked, mode-at-reads.Learnt, number-at-reads.Asked, number-at-reads.Learnt, type-row-at-reads.Asked, type-row-at-reads.Learnt, check-wrapped-below t, check-wrapped.Post, check-below t, check.Post)
@@ -210,10 +213,14 @@ pub +check+check-choice+check-elements+check-fields+check-member+check-tagged+ch
     (λ c κs. search needs)  -- starts-here-requires
     (λ c κs. search needs)  -- absent-requires
     (λ c. search member-absent)  -- returns
+    (λ c κs. search needs)  -- type-kind-requires
+    (λ c κs. search needs)  -- is-plain-requires
+    (λ c κs. search needs)  -- check-plain-requires
+    (λ c. search member-plain)  -- returns-2
     (λ c κs. search needs)  -- stored-default-requires
-    (λ c. search member-default)  -- returns-2
+    (λ c. search member-default)  -- returns-3
     (λ c κs. (search member-falls, (search needs, search needs)))  -- check-tagged-requires
-    (λ c. search member-is))  -- returns-3
+    (λ c. search member-is))  -- returns-4
     (λ t. check-tagged-lts.spec (check-tagged-claims t) (check-tagged-at t) check-tagged.Post
     (λ c κs. search needs)  -- row-at-requires
     (λ c κs. search needs)  -- mode-at-requires

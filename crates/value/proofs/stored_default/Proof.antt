@@ -9,9 +9,7 @@ stored-default-spec =
     (tie.spec
     (λ c κs. search needs)  -- presence-at-requires
     (λ c. search stored-not)  -- returns
-    (λ c κs. search needs)  -- type-row-at-requires
-    (λ c κs. search needs)  -- row-at-requires
-    (λ c κs. search needs)  -- kind-at-requires
+    (λ c κs. search needs)  -- type-kind-requires
     (λ c κs. search needs)  -- default-at-requires
     (λ c κs. search needs)  -- mode-at-requires
     (λ c κs. search needs)  -- number-at-requires

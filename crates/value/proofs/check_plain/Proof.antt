@@ -1,0 +1,20 @@
+use Rattle.value.proofs.LeafSteps.{inside-fits}
+use Rattle.value.proofs.PlainSteps.{plain-misfit, plain-default, plain-is}
+use borrow.Author.Needs.{needs}
+use Rattle.value.proofs.check_plain.Statement.{statement}
+use Rattle.value.proofs.check_plain.Tie as tie
+
+pub check-plain-spec : {M : Type 1} → statement M
+check-plain-spec = tie.close (tie.spec
+    (λ c κs. search needs)  -- mode-at-requires
+    (λ c κs. search needs)  -- number-at-requires
+    (λ c κs. search needs)  -- tag-octet-requires
+    (λ c κs. search needs)  -- open-requires
+    (λ c. search needs)  -- enum-known-start
+    (λ c. search needs)  -- enum-told
+    (λ c. search plain-misfit)  -- returns
+    (λ c κs. search needs)  -- is-default-requires
+    (λ c. search plain-default)  -- returns-2
+    (λ c. record { fits = search inside-fits })  -- add-check-basic
+    (λ c κs. search needs)  -- check-basic-requires
+    (λ c. search plain-is))  -- returns-3
