@@ -6,7 +6,7 @@ use Rattle.octets.specs.Pick.{all}
 use native.Mathlib.Omega.{arith}
 use mathlib.Core.Bool.{true}
 use mathlib.Core.Path.{_≡_}
-use Prim.Native.Nat.{_-_, _+_, _≤_}
+use Prim.Native.Nat.{_-_, _≤_}
 use borrow.Author.Needs.{needs}
 use Rattle.rows.proofs.name_spelt.Statement.{statement}
 use Rattle.rows.proofs.name_spelt.Tie as tie
