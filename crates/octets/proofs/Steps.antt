@@ -11,7 +11,7 @@ use lib.Dec.{ltb, eqb, eqb·suc-suc}
 use lib.ListN.{length, take, drop}
 use lib.Seq.{take-nil}
 use Rattle.octets.specs.Pick.{pick}
-use Rattle.octets.specs.Octets.{octet, part, every, same, below}
+use Rattle.octets.specs.Octets.{octet, part, every, larger, highestFrom, highest, same, below}
 use Rattle.octets.specs.Text.{isDigit, isNumber, starts, lead, skip, decimalFrom, decimal}
 use Rattle.octets.specs.Utf8.{afterFirst, after, utf8From, utf8, mayEnd, awaits}
 use Rattle.octets.specs.Quoted.{closing, closingAt}
@@ -20,6 +20,7 @@ use Rattle.octets.specs.declared.Size.{Size}
 use Rattle.octets.specs.declared.Place.{Place}
 use Rattle.octets.specs.declared.Awaiting.{Awaiting}
 use Rattle.octets.proofs.Laws.{octet-past, rest-cons, rest-none, part-past, part-rest}
+use Rattle.octets.proofs.TextLaws.{highest-cons}
 
 -- ---- part
 pub part-none : (s : List ℕ) (at n k : ℕ) → length s ≤ at → take k (drop (length s) s) ≡ part s at n
@@ -170,6 +171,20 @@ pub utf8-start : (s : List ℕ) → utf8From (awaits 0) s ≡ utf8 s
 unfolding utf8
 utf8-start s = refl
 
+-- text with no octet above 127
+ascii-from : (n : ℕ) (s : List ℕ) → highestFrom n s < 128 → utf8From (awaits 0) s ≡ true
+unfolding utf8From after afterFirst
+ascii-from n [] h = refl
+ascii-from n (b ∷ s) h =
+    let w = highest-cons n b s in
+    let low : b < 128 = omega arith in
+    let rest : highestFrom (larger n b) s < 128 = omega arith in
+    rw (lt-ltb b 128 low) (ascii-from (larger n b) s rest)
+
+pub utf8-ascii : (s : List ℕ) (most : ℕ) → most ≡ highest s → most < 128 → true ≡ utf8 s
+unfolding utf8
+utf8-ascii s most e h = let g : highest s < 128 = omega arith in sym (ascii-from 0 s g)
+
 -- ---- quoted strings
 module _ (s : List ℕ) (at i : ℕ) (inv : closing (drop i s) i ≡ closing (drop at s) at) where
   pub closing-none : length s ≤ i → none ≡ closing (drop at s) at
@@ -221,6 +236,16 @@ opening-other s at e = rw (ne-eqb _ _ e)
 pub opening-is : (s : List ℕ) (at : ℕ) (r : Place) → octet s at ≡ 34 → told r ≡ closing (drop (at + 1) s) (at + 1) → told r ≡ closingAt s at
 unfolding closingAt
 opening-is s at r e h = rw (eq-eqb _ _ e) h
+
+-- ---- the largest octet: it is the largest of the one so far and the rest
+module _ (s : List ℕ) (i most : ℕ) (inv : highestFrom most (drop i s) ≡ highest s) where
+  pub highest-more : (x : ℕ) → i < length s → x ≡ larger most (octet s i) → highestFrom x (drop (i + 1) s) ≡ highest s
+  unfolding highestFrom
+  highest-more x h e = rw e (sym (ap (highestFrom most) (rest-cons s i h)) ∙ inv)
+
+  pub highest-done : length s ≤ i → most ≡ highest s
+  unfolding highestFrom
+  highest-done h = rw (rest-none s i h) at inv
 
 -- ---- two texts
 module _ (a b : List ℕ) (i : ℕ) (lengths : length a ≡ length b) (inv : same (drop i a) (drop i b) ≡ same a b) where

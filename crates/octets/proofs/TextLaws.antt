@@ -4,13 +4,13 @@ use mathlib.Core.Bool.{Bool, true, false}
 use mathlib.Core.List.{List, [], _∷_}
 use Prim.Native.Nat.{ℕ, zero, suc, _≤_, _<_, _+_, _-_, _*_}
 use native.Mathlib.Omega.{arith}
-use borrow.Author.Tests.{leb-true}
+use borrow.Author.Tests.{leb-true, ltb-true, ltb-false, ne-eqb}
 use lib.Dec.{ltb, leb, eqb}
 use lib.ListN.{length}
 use Rattle.octets.specs.Pick.{pick, both, all}
-use Rattle.octets.specs.Octets.{octet, every, same, below, nibble, paired}
+use Rattle.octets.specs.Octets.{octet, every, larger, highestFrom, same, below, nibble, paired}
 use Rattle.octets.specs.Text.{isDigit, isNumber, decimalFrom, ontoFirst, pieces}
-use Rattle.octets.proofs.Laws.{both-true}
+use Rattle.octets.proofs.Laws.{both-true, pick-cases}
 
 -- ---- choices: r is what the code found of the test t
 module _ {A : Type 0} (r t : Bool) (x a b : A) (told : r ≡ t) where
@@ -105,6 +105,32 @@ paired-one a = refl
 pub paired-two : (a b : ℕ) (s : List ℕ) → paired (a ∷ b ∷ s) ≡ (nibble a * 16 + nibble b) ∷ paired s
 unfolding paired
 paired-two a b s = refl
+
+-- ---- the largest octet
+larger-least : (a b : ℕ) → (a ≤ larger a b) × (b ≤ larger a b)
+unfolding larger
+larger-least a b = pick-cases (λ (x : ℕ). (a ≤ x) × (b ≤ x)) (ltb a b) b a
+    (λ e. (omega (arith, ltb-true), omega arith))
+    (λ e. (omega arith, omega (arith, ltb-false)))
+
+pub highest-least : (n : ℕ) (s : List ℕ) → n ≤ highestFrom n s
+unfolding highestFrom
+highest-least n [] = omega arith
+highest-least n (b ∷ s) = let r = highest-least (larger n b) s in omega (arith, larger-least n b .0)
+
+pub highest-cons : (n b : ℕ) (s : List ℕ) → (highestFrom n (b ∷ s) ≡ highestFrom (larger n b) s) × (b ≤ highestFrom n (b ∷ s))
+unfolding highestFrom
+highest-cons n b s = let r = highest-least (larger n b) s in (refl, omega (arith, larger-least n b .1))
+
+-- no octet is above 0
+pub highest-nought : (s : List ℕ) → eqb (highestFrom 0 s) 0 ≡ every (λ b. eqb b 0) s
+unfolding highestFrom every larger
+highest-nought [] = refl
+highest-nought (zero ∷ s) = highest-nought s
+highest-nought (suc b ∷ s) =
+    let most : highestFrom 0 (suc b ∷ s) ≡ 0 → ⊥ = λ e. omega (arith, highest-cons 0 (suc b) s .1) in
+    let here : suc b ≡ 0 → ⊥ = λ e. omega arith in
+    ne-eqb _ _ most ∙ rw (ne-eqb (suc b) 0 here)
 
 -- ---- a test of every octet, by places
 pub every-is : (f : ℕ → Bool) (s : List ℕ) → ((i : ℕ) → i < length s → f (octet s i) ≡ true) → every f s ≡ true

@@ -71,6 +71,29 @@ pub fn part(s: &[u8], at: usize, n: usize) -> &[u8]
     &s[at..end]
 }
 
+// ---- the largest octet
+fn larger(a: u8, b: u8) -> u8
+    ensures { λ r. ⌜ r ≡ octets.larger a b ⌝ }
+{
+    if a < b {
+        return b;
+    }
+    a
+}
+
+// The largest octet, 0 where there is none. The loop has no early end, so that a machine can compare many octets at once.
+pub fn highest(s: &[u8]) -> u8
+    ensures { λ r. ⌜ r ≡ octets.highest (now (s .entry)) ⌝ }
+{
+    let mut i = 0;
+    let mut most = 0;
+    while i < s.len() {
+        most = larger(most, s[i]);
+        i += 1;
+    }
+    most
+}
+
 // ---- characters
 // Whether an octet lies from one to another, both included.
 pub fn within(least: u8, most: u8, b: u8) -> bool
@@ -303,10 +326,13 @@ fn may_end(a: Awaiting) -> bool
     n == 0
 }
 
-// Whether octets are valid UTF-8, in one pass.
+// Whether octets are valid UTF-8. Text in which no octet is above 127 needs no more than the largest octet.
 pub fn utf8(s: &[u8]) -> bool
     ensures { λ r. ⌜ r ≡ unicode.utf8 (now (s .entry)) ⌝ }
 {
+    if highest(s) < 128 {
+        return true;
+    }
     let mut i = 0;
     let mut a = Awaiting::Tails(0, 128, 191);
     while i < s.len() {

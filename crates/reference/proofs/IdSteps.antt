@@ -17,7 +17,6 @@ use Rattle.octets.specs.Answers.{clip}
 use Rattle.octets.specs.declared.Size.{Size}
 use Rattle.octets.proofs.Laws.{rest-cons, rest-none, rest-length, part-rest}
 use Rattle.octets.proofs.TextLaws.{every-cons, number-nil, number-cons, pieces-nil, pieces-cons, same-nil, same-cons}
-use Rattle.table.specs.Types.{unfilled}
 use Rattle.reference.specs.Reference.{Id, index, position, fromEnd, identifierFrom, isIdentifier, isPosition, idOf, idsOf, readReference}
 use Rattle.reference.specs.Work.{cap, headCapped, idsAt, dotless, endAt, mayFollow, wordId, otherId, numberId, cappedId, pieceTold, stepTold, rises, advances, stepOf}
 use Rattle.reference.specs.declared.Piece.{Piece}
@@ -303,35 +302,3 @@ module _ (r : List ℕ) (k : ℕ) where
         go Piece.Count = rising
         go Piece.All = rising
         go Piece.Bad = refl
-
--- ---- names
-pub between-none : (r p : List ℕ) (a b : ℕ) → b ≤ a → p ≡ part r a 0 → p ≡ part r a (b - a)
-between-none r p a b h e = let q : 0 ≡ b - a = omega arith in e ∙ ap (part r a) q
-
-module _ (s : List ℕ) (i : ℕ) (inv : length (unfilled s) ≡ i + length (unfilled (drop i s))) where
-  pub fill-found : i < length s → octet s i ≡ 0 → i ≡ length (unfilled s)
-  unfolding unfilled
-  fill-found h e = sym (inv ∙ rw (rest-cons s i h, eq-eqb _ _ e) (add-zero _))
-
-  pub fill-on : i < length s → (octet s i ≡ 0 → ⊥) → length (unfilled s) ≡ i + 1 + length (unfilled (drop (i + 1) s))
-  unfolding unfilled
-  fill-on h e = inv ∙ rw (rest-cons s i h, ne-eqb _ _ e) (omega arith)
-
-  pub fill-none : length s ≤ i → i ≡ length (unfilled s)
-  unfolding unfilled
-  fill-none h = sym (inv ∙ rw (rest-none s i h) (add-zero _))
-
-pub fill-start : (s : List ℕ) → length (unfilled s) ≡ 0 + length (unfilled (drop 0 s))
-fill-start s = omega arith
-
-unfilled-part : (s : List ℕ) → take (length (unfilled s)) s ≡ unfilled s
-unfolding unfilled
-unfilled-part [] = refl
-unfilled-part (b ∷ s) = go (eqb b 0) (unfilled-part s)
-  where
-    go : (u : Bool) → take (length (unfilled s)) s ≡ unfilled s → take (length (pick u [] (b ∷ unfilled s))) (b ∷ s) ≡ pick u [] (b ∷ unfilled s)
-    go true e = refl
-    go false e = ap (λ (x : List ℕ). b ∷ x) e
-
-pub named-is : (l w x y z : List ℕ) (n : ℕ) (u : Bool) → l ≡ y → n ≡ length (unfilled l) → z ≡ part l 0 n → w ≡ x → u ≡ same z w → u ≡ same (unfilled y) x
-named-is l w x y z n u e f g h q = q ∙ ap₂ same (g ∙ ap (λ (v : ℕ). take v l) f ∙ unfilled-part l ∙ ap unfilled e) h

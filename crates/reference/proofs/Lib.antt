@@ -1,5 +1,6 @@
 pub mod Laws
 pub mod IdSteps
+pub mod NameSteps
 pub mod TargetSteps
 pub mod UnderSteps
 pub mod FollowSteps

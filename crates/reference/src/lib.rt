@@ -212,27 +212,39 @@ fn between(r: &[u8], a: usize, b: usize) -> &[u8]
     octets::part(r, a, b - a)
 }
 
-// Where a name's fill starts.
-fn fill_at(s: &[u8]) -> usize
-    ensures { λ r. ⌜ r ≡ length (unfilled (now (s .entry))) ⌝ }
+// Whether a name's field has these octets, and then its fill or its end.
+fn has_name(field: &[u8], x: &[u8]) -> bool
+    ensures { λ u. ⌜ u ≡ same (unfilled (now (field .entry))) (now (x .entry)) ⌝ }
 {
+    if field.len() < x.len() {
+        return false;
+    }
+    if octets::octet(field, x.len()) != 0 {
+        return false;
+    }
     let mut i = 0;
-    while i < s.len() {
-        if s[i] == 0 {
-            return i;
+    while i < x.len() {
+        if field[i] != x[i] {
+            return false;
+        }
+        if x[i] == 0 {
+            return false;
         }
         i += 1;
     }
-    i
+    true
 }
 
-// Whether the member row at p has the name that stands from a to b.
+// Whether the member row at p has the name that stands from a to b. Most names differ in their first octet.
 pub fn is_named(t: &[u8], p: usize, r: &[u8], a: usize, b: usize) -> bool
     ensures { λ u. ⌜ u ≡ same (unfilled (nameAt (now (t .entry)) p)) (part (now (r .entry)) a (b - a)) ⌝ }
 {
-    let name = rows::name_at(t, p);
-    let n = fill_at(name);
-    octets::same(octets::part(name, 0, n), between(r, a, b))
+    let field = rows::name_at(t, p);
+    let x = between(r, a, b);
+    if octets::octet(field, 0) != octets::octet(x, 0) {
+        return false;
+    }
+    has_name(field, x)
 }
 
 // The first member of a row with the name that stands from a to b; the number of members where none has it.

@@ -1,32 +1,35 @@
 -- One lemma for each return and each turn of a loop; its premises are the facts as the code has them.
-use mathlib.Core.Path.{_≡_, sym, ap, ap₂, _∙_}
+use mathlib.Core.Path.{_≡_, refl, sym, ap, ap₂, _∙_}
 use mathlib.Core.Bool.{Bool, true, false, not}
 use mathlib.Core.List.{List}
-use Prim.Native.Nat.{ℕ, _≤_, _<_, _+_, _-_, _*_}
+use Prim.Native.Nat.{ℕ, zero, suc, _≤_, _<_, _+_, _-_, _*_}
 use native.Mathlib.Omega.{arith}
-use borrow.Author.Tests.{not-true, not-false, eq-eqb, ne-eqb, lt-leb, le-leb}
-use lib.Dec.{leb, eqb}
-use lib.ListN.{length, drop}
+use native.Mathlib.Nat.{add-zero}
+use borrow.Author.Tests.{not-true, not-false, eq-eqb, ne-eqb, eqb-true, lt-leb, le-leb, ltb-true, ltb-false}
+use lib.Dec.{ltb, leb, eqb}
+use lib.ListN.{length, take, drop, length-take}
+use lib.Seq.{take-nil, getD-take, getD-drop, drop-drop}
 use Rattle.octets.specs.Pick.{all}
-use Rattle.octets.specs.Octets.{octet, two, part, every}
+use Rattle.octets.specs.Octets.{octet, two, part, every, highest}
 use Rattle.octets.specs.Text.{within, isLower, isAlnum}
-use Rattle.octets.proofs.Laws.{octet-past, part-past, every-fails, every-holds, all-bad, all-done}
-use Rattle.rows.specs.Row.{defaultAt, isGroup, isList, rowSize, rowAt, membersAt}
+use Rattle.octets.proofs.Laws.{octet-past, rest-none, part-rest, all-at, all-is, all-more, all-bad}
+use Rattle.octets.proofs.TextLaws.{every-is, every-at, highest-nought}
+use Rattle.rows.specs.Row.{nameOctetAt, defaultAt, isGroup, isList, rowSize, rowAt, membersAt}
 use Rattle.rows.specs.Body.{countFormed, follows, followed, nameFormed, taggingFormed, tagFormed, presenceFormed, isZero, defaultFilled, memberFormed, rowFormed}
 
 -- ---- reading
-pub field-past : (t : List ℕ) (p k : ℕ) → length t ≤ p → 0 ≡ octet t (p + k)
-field-past t p k h = octet-past t (p + k) (omega arith)
+pub from-past : (t : List ℕ) (p k : ℕ) → length t ≤ p → take k (drop (length t) t) ≡ drop p t
+from-past t p k h = rw (rest-none t (length t) (omega arith), rest-none t p h) (take-nil k)
 
-pub field-end : (t : List ℕ) (p k : ℕ) → length t - p ≤ k → 0 ≡ octet t (p + k)
-field-end t p k h = octet-past t (p + k) (omega arith)
+pub from-inside : (t : List ℕ) (p : ℕ) → take (length t - p) (drop p t) ≡ drop p t
+from-inside t p = part-rest t p (length t - p) (omega arith)
 
-module _ (t r : List ℕ) (p k n : ℕ) (read : r ≡ part t (length t) n) where
-  pub fields-past : length t ≤ p → r ≡ part t (p + k) n
-  fields-past h = read ∙ part-past t (length t) n (omega arith) ∙ sym (part-past t (p + k) n (omega arith))
+module _ (t row : List ℕ) (p : ℕ) (rest : row ≡ drop p t) where
+  pub field-is : (k r : ℕ) → r ≡ octet row k → r ≡ octet t (p + k)
+  field-is k r e = e ∙ ap (λ (l : List ℕ). octet l k) rest ∙ getD-drop p t k 0
 
-  pub fields-end : length t - p ≤ k → r ≡ part t (p + k) n
-  fields-end h = read ∙ part-past t (length t) n (omega arith) ∙ sym (part-past t (p + k) n (omega arith))
+  pub fields-are : (k n : ℕ) (r : List ℕ) → r ≡ part row k n → r ≡ part t (p + k) n
+  fields-are k n r e = e ∙ ap (λ (l : List ℕ). part l k n) rest ∙ ap (take n) (drop-drop k p t)
 
 pub number-is : (t : List ℕ) (p k a b r : ℕ) → a ≡ octet t (p + k) → b ≡ octet t (p + (k + 1)) → r ≡ a * 256 + b → r ≡ two t (p + k)
 number-is t p k a b r e f g =
@@ -110,9 +113,80 @@ pub follows-fill : (a b : ℕ) → a ≡ 0 → eqb b 0 ≡ follows a b
 unfolding follows
 follows-fill a b e = rw (eq-eqb a 0 e)
 
-pub followed-is : (t : List ℕ) (p j a b : ℕ) (r : Bool) → a ≡ octet t (p + (1 + j)) → b ≡ octet t (p + (1 + (j + 1))) → r ≡ follows a b → r ≡ followed t p j
-unfolding followed
-followed-is t p j a b r e f q = q ∙ ap₂ follows e f
+same-truth : (a b : Bool) → (a ≡ true → b ≡ true) → (b ≡ true → a ≡ true) → a ≡ b
+same-truth true b f g = sym (f refl)
+same-truth false true f g = g refl
+same-truth false false f g = refl
+
+-- ---- a name, octet by octet
+-- after the fill only fill
+fill-on : (t : List ℕ) (p n j : ℕ) → all (followed t p) n ≡ true → nameOctetAt t p j ≡ 0 → (i : ℕ) → j + i ≤ n → nameOctetAt t p (j + i) ≡ 0
+unfolding followed follows
+fill-on t p n j a z zero h = rw (add-zero j) z
+fill-on t p n j a z (suc i) h =
+    let before = fill-on t p n j a z i (omega arith) in
+    let pair = all-at (followed t p) n (j + i) a (omega arith) in
+    let next : j + suc i ≡ j + i + 1 = omega arith in
+    rw next (eqb-true _ _ (rw before at pair))
+
+part-octet : (s : List ℕ) (k n i : ℕ) → i < n → octet (part s k n) i ≡ octet s (k + i)
+part-octet s k n i h = getD-take n (drop k s) i 0 h ∙ getD-drop k s i 0
+
+part-within : (s : List ℕ) (k n i : ℕ) → i < length (part s k n) → i < n
+part-within s k n i h = omega (arith, length-take n (drop k s))
+
+-- each octet of a part is 0 where the test says so, past the end too
+zeros-at : (s : List ℕ) (k n i : ℕ) → every isZero (part s k n) ≡ true → i < n → octet s (k + i) ≡ 0
+zeros-at s k n i e h = sym (part-octet s k n i h) ∙ go (ltb i (length (part s k n))) refl
+  where
+    go : (u : Bool) → ltb i (length (part s k n)) ≡ u → octet (part s k n) i ≡ 0
+    go true q = eqb-true _ _ (every-at isZero (part s k n) i e (ltb-true _ _ q))
+    go false q = sym (octet-past (part s k n) i (ltb-false _ _ q))
+
+module _ (t : List ℕ) (p n j : ℕ) (before : all (followed t p) (j + 1) ≡ true) (starts : nameOctetAt t p (j + 1) ≡ 0) where
+  fill-needed : all (followed t p) n ≡ true → every isZero (part t (p + (j + 2)) (n - j)) ≡ true
+  fill-needed a = every-is isZero (part t (p + (j + 2)) (n - j)) (λ i l.
+      let h : i < n - j = part-within t (p + (j + 2)) (n - j) i l in
+      let place : p + (j + 2) + i ≡ p + (1 + (j + 1 + i)) = omega arith in
+      eq-eqb _ _ (part-octet t (p + (j + 2)) (n - j) i h ∙ ap (octet t) place ∙ fill-on t p n (j + 1) a starts i (omega arith)))
+
+  fill-pair : (i : ℕ) → every isZero (part t (p + (j + 2)) (n - j)) ≡ true → j < i → i < n → followed t p i ≡ true
+  unfolding followed follows
+  fill-pair i e l h =
+      let place : p + (1 + i) ≡ p + (j + 2) + (i - (j + 1)) = omega arith in
+      let place' : p + (1 + (i + 1)) ≡ p + (j + 2) + (i - j) = omega arith in
+      let here : nameOctetAt t p i ≡ 0 = ap (octet t) place ∙ zeros-at t (p + (j + 2)) (n - j) (i - (j + 1)) e (omega arith) in
+      let next : nameOctetAt t p (i + 1) ≡ 0 = ap (octet t) place' ∙ zeros-at t (p + (j + 2)) (n - j) (i - j) e (omega arith) in
+      rw (here, next)
+
+  fill-enough : every isZero (part t (p + (j + 2)) (n - j)) ≡ true → all (followed t p) n ≡ true
+  fill-enough e = all-is (followed t p) n (λ i l. go i l (ltb i (j + 1)) refl)
+    where
+      go : (i : ℕ) → i < n → (u : Bool) → ltb i (j + 1) ≡ u → followed t p i ≡ true
+      go i l true q = all-at (followed t p) (j + 1) i before (ltb-true _ _ q)
+      go i l false q = fill-pair i e (omega (arith, ltb-false)) l
+
+  fill-is : every isZero (part t (p + (j + 2)) (n - j)) ≡ all (followed t p) n
+  fill-is = same-truth _ _ fill-enough fill-needed
+
+module _ (t row : List ℕ) (p j a b : ℕ) (u : Bool) (rest : row ≡ drop p t) (last : a ≡ nameOctetAt t p j) (read : b ≡ octet row (j + 2)) (told : u ≡ follows a b) where
+  pub spelt-next : b ≡ nameOctetAt t p (j + 1)
+  spelt-next = let place : p + (j + 2) ≡ p + (1 + (j + 1)) = omega arith in field-is t row p rest (j + 2) b read ∙ ap (octet t) place
+
+  pair : u ≡ followed t p j
+  unfolding followed
+  pair = told ∙ ap₂ follows last spelt-next
+
+  pub spelt-bad : j < 23 → not u ≡ true → false ≡ all (followed t p) 23
+  spelt-bad h n = all-bad (followed t p) j u pair 23 h n
+
+  module _ (before : all (followed t p) j ≡ true) (n : not u ≡ false) where
+    pub spelt-more : all (followed t p) (j + 1) ≡ true
+    spelt-more = all-more (followed t p) j u pair before n
+
+    pub spelt-fill : (c : List ℕ) (r : Bool) → b ≡ 0 → c ≡ part row (j + 2) (23 - j) → r ≡ every isZero c → r ≡ all (followed t p) 23
+    spelt-fill c r z e q =
+        q ∙ ap (every isZero) (fields-are t row p rest (j + 2) (23 - j) c e) ∙ fill-is t p 23 j spelt-more (sym spelt-next ∙ z)
 
 module _ (t : List ℕ) (p o : ℕ) (low : Bool) (read : o ≡ octet t (p + 1)) (told : low ≡ isLower o) where
   pub name-high : not low ≡ true → false ≡ nameFormed 24 t p
@@ -124,23 +198,12 @@ module _ (t : List ℕ) (p o : ℕ) (low : Bool) (read : o ≡ octet t (p + 1)) 
     unfolding nameFormed
     name-hyphen q = rw (← read, sym told ∙ not-false low h, ← last, eq-eqb l 45 q)
 
-    module _ (q : l ≡ 45 → ⊥) where
-      name-rest : nameFormed 24 t p ≡ all (followed t p) 23
-      unfolding nameFormed
-      name-rest = rw (← read, sym told ∙ not-false low h, ← last, ne-eqb l 45 q)
+    pub name-spelt : (r : Bool) → (l ≡ 45 → ⊥) → r ≡ all (followed t p) 23 → r ≡ nameFormed 24 t p
+    unfolding nameFormed
+    name-spelt r q e = rw (← read, sym told ∙ not-false low h, ← last, ne-eqb l 45 q) e
 
-      pub name-bad : (j : ℕ) (r : Bool) → r ≡ followed t p j → j < 23 → not r ≡ true → false ≡ nameFormed 24 t p
-      name-bad j r e b n = all-bad (followed t p) j r e 23 b n ∙ sym name-rest
-
-      pub name-done : (j : ℕ) → all (followed t p) j ≡ true → j ≤ 23 → 23 ≤ j → true ≡ nameFormed 24 t p
-      name-done j a b n = all-done (followed t p) j 23 a b n ∙ sym name-rest
-
-module _ (c : List ℕ) (i : ℕ) (inv : every isZero (drop i c) ≡ every isZero c) (h : i < length c) where
-  pub zero-bad : (octet c i ≡ 0 → ⊥) → false ≡ every isZero c
-  zero-bad g = every-fails isZero c i inv h (ne-eqb _ _ g)
-
-  pub zero-more : octet c i ≡ 0 → every isZero (drop (i + 1) c) ≡ every isZero c
-  zero-more g = every-holds isZero c i inv h (eq-eqb _ _ g)
+pub zeros-are : (c : List ℕ) (most : ℕ) → most ≡ highest c → eqb most 0 ≡ every isZero c
+zeros-are c most e = ap (λ (b : ℕ). eqb b 0) e ∙ highest-nought c
 
 module _ (t : List ℕ) (p o n : ℕ) (read : o ≡ octet t (p + 30)) (wide : n ≡ o) where
   pub filled-long : 8 < n → false ≡ defaultFilled t p

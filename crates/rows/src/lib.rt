@@ -1,7 +1,8 @@
 // The rows of a type table: where they start, their parts, and what their bodies are like. Reads past the end give 0.
 ghost use mathlib.Core.Path.{_≡_};
-ghost use Prim.Native.Nat.{_≤_, _<_, _+_};
-ghost use lib.ListN.{length, take};
+ghost use Prim.Native.Nat.{_≤_, _<_, _+_, _-_};
+ghost use lib.ListN.{length, take, drop};
+ghost use Rattle.octets.specs.Pick.{all};
 ghost use Rattle.octets.specs.Octets.{octet, two, part, every};
 ghost use Rattle.rows.specs.Row as row;
 ghost use Rattle.rows.specs.Body as body;
@@ -31,30 +32,28 @@ impl Table {
 }
 
 // ---- reading
+// The table from place p on.
+fn from(t: &[u8], p: usize) -> &[u8]
+    ensures { λ r. ⌜ now r ≡ drop p (now (t .entry)) ⌝ }
+{
+    if t.len() <= p {
+        return &t[t.len()..];
+    }
+    &t[p..]
+}
+
 // The octet k after place p.
 fn field(t: &[u8], p: usize, k: usize) -> u8
     ensures { λ r. ⌜ r ≡ octet (now (t .entry)) (p + k) ⌝ }
 {
-    if t.len() <= p {
-        return 0;
-    }
-    if t.len() - p <= k {
-        return 0;
-    }
-    t[p + k]
+    octets::octet(from(t, p), k)
 }
 
 // Up to n octets from k after place p on.
 fn fields(t: &[u8], p: usize, k: usize, n: usize) -> &[u8]
     ensures { λ r. ⌜ now r ≡ part (now (t .entry)) (p + k) n ⌝ }
 {
-    if t.len() <= p {
-        return octets::part(t, t.len(), n);
-    }
-    if t.len() - p <= k {
-        return octets::part(t, t.len(), n);
-    }
-    octets::part(t, p + k, n)
+    octets::part(from(t, p), k, n)
 }
 
 // Two octets, big-endian, from k after place p on.
@@ -240,11 +239,26 @@ fn may_follow(a: u8, b: u8) -> bool
     octets::is_alnum(b)
 }
 
-fn is_followed(t: &[u8], p: usize, j: usize) -> bool
-    requires { ⌜ j < 64 ⌝ }
-    ensures { λ r. ⌜ r ≡ body.followed (now (t .entry)) p j ⌝ }
+// Whether each octet of a name may follow the one before it. Where the fill starts, all that is left of the name has to be fill.
+fn name_spelt(t: &[u8], p: usize) -> bool
+    ensures { λ r. do ⌜ r ≡ all (body.followed (now (t .entry)) p) ((← ⟦Table::MAX_NAME⟧ .entry) - 1) ⌝ }
 {
-    may_follow(field(t, p, 1 + j), field(t, p, 1 + (j + 1)))
+    let row = from(t, p);
+    let mut j = 0;
+    let mut a = octets::octet(row, 1);
+    while j < Table::MAX_NAME - 1 {
+        let b = octets::octet(row, j + 2);
+        if !may_follow(a, b) {
+            return false;
+        }
+        if b == 0 {
+            let left = Table::MAX_NAME - 1 - j;
+            return all_zero(octets::part(row, j + 2, left));
+        }
+        a = b;
+        j += 1;
+    }
+    true
 }
 
 fn name_formed(t: &[u8], p: usize) -> bool
@@ -256,14 +270,7 @@ fn name_formed(t: &[u8], p: usize) -> bool
     if field(t, p, Table::MAX_NAME) == 45 {
         return false;
     }
-    let mut j = 0;
-    while j < Table::MAX_NAME - 1 {
-        if !is_followed(t, p, j) {
-            return false;
-        }
-        j += 1;
-    }
-    true
+    name_spelt(t, p)
 }
 
 fn tag_formed(mode: u8, number: u8) -> bool
@@ -284,14 +291,7 @@ fn tag_formed(mode: u8, number: u8) -> bool
 fn all_zero(c: &[u8]) -> bool
     ensures { λ r. ⌜ r ≡ every body.isZero (now (c .entry)) ⌝ }
 {
-    let mut i = 0;
-    while i < c.len() {
-        if c[i] != 0 {
-            return false;
-        }
-        i += 1;
-    }
-    true
+    octets::highest(c) == 0
 }
 
 fn default_filled(t: &[u8], p: usize) -> bool

@@ -1,7 +1,7 @@
 -- Names without regard to case, and the table of rules row by row.
 use mathlib.Core.Path.{_≡_, refl, sym, ap, ap₂, _∙_}
 use mathlib.Core.Bool.{Bool, true, false, not}
-use mathlib.Core.Option.{Option, none}
+use mathlib.Core.Option.{Option, none, some}
 use mathlib.Core.List.{List, [], _∷_, map}
 use Prim.Native.Nat.{ℕ, suc, _≤_, _<_, _+_}
 use native.Mathlib.Omega.{arith}
@@ -9,14 +9,12 @@ use borrow.Author.Tests.{not-true, not-false}
 use lib.Dec.{eqb}
 use lib.ListN.{length, drop}
 use Rattle.octets.specs.Pick.{both}
-use Rattle.octets.specs.Octets.{octet, same, bytes}
+use Rattle.octets.specs.Octets.{octet, same}
 use Rattle.octets.specs.Text.{lower}
 use Rattle.octets.proofs.Laws.{rest-cons, rest-none}
 use Rattle.octets.proofs.TextLaws.{same-nil, same-shorter, same-longer, same-cons}
-use Rattle.rules.specs.Rule.{booleans, integers, objectIdentifiers, octetStrings, bitStrings, strings, times, Rule, present, equal, less, sameName, ruleIn, ruleOf}
-use Rattle.rules.specs.Answers.{meant, toldRule, byRow}
-use Rattle.rules.specs.declared.Rule as rule
-use Rattle.rules.specs.declared.Named.{Named}
+use Rattle.rules.specs.Rule.{Rule, Known, sameName, ruleIn}
+use Rattle.rules.specs.Answers.{called}
 
 -- ---- names
 pub letter-is : (a b x y : ℕ) → x ≡ lower a → y ≡ lower b → eqb x y ≡ eqb (lower a) (lower b)
@@ -58,73 +56,26 @@ module _ (a b : List ℕ) (i : ℕ) (m : Bool) (l : length a ≡ length b) (inv 
     pub name-more : not u ≡ false → same (map lower (drop (i + 1) a)) (map lower (drop (i + 1) b)) ≡ m
     name-more n = rw (not-false u n) at letters
 
--- ---- a row of the table
-module _ (name oid t : List ℕ) (x : rule.Rule) (others : Named) (u : Bool) (told : u ≡ sameName t name) where
-  pub row-named : u ≡ true → toldRule (Named.Known x) ≡ byRow name oid (meant x) t (toldRule others)
-  unfolding byRow
-  row-named h = rw (sym told ∙ h)
-
-  module _ (v : Bool) (h : u ≡ false) (tried : v ≡ same t oid) where
-    pub row-numbered : v ≡ true → toldRule (Named.Known x) ≡ byRow name oid (meant x) t (toldRule others)
-    unfolding byRow
-    row-numbered q = rw (sym told ∙ h, sym tried ∙ q)
-
-    pub row-others : v ≡ false → toldRule others ≡ byRow name oid (meant x) t (toldRule others)
-    unfolding byRow
-    row-others q = rw (sym told ∙ h, sym tried ∙ q)
-
 -- ---- the table
-rows : List ℕ → Option Rule
-rows t =
-    byRow (bytes "presentMatch") (bytes "1.2.36.79672281.1.13.5") present t
-    (byRow (bytes "booleanMatch") (bytes "2.5.13.13") (equal booleans) t
-    (byRow (bytes "integerMatch") (bytes "2.5.13.14") (equal integers) t
-    (byRow (bytes "integerOrderingMatch") (bytes "2.5.13.15") (less integers) t
-    (byRow (bytes "objectIdentifierMatch") (bytes "2.5.13.0") (equal objectIdentifiers) t
-    (byRow (bytes "octetStringMatch") (bytes "2.5.13.17") (equal octetStrings) t
-    (byRow (bytes "octetStringOrderingMatch") (bytes "2.5.13.18") (less octetStrings) t
-    (byRow (bytes "bitStringMatch") (bytes "2.5.13.16") (equal bitStrings) t
-    (byRow (bytes "caseIgnoreMatch") (bytes "2.5.13.2") (equal (strings true)) t
-    (byRow (bytes "caseExactMatch") (bytes "2.5.13.5") (equal (strings false)) t
-    (byRow (bytes "generalizedTimeMatch") (bytes "2.5.13.27") (equal times) t
-    (byRow (bytes "generalizedTimeOrderingMatch") (bytes "2.5.13.28") (less times) t
-    none)))))))))))
+module _ (t name oid : List ℕ) (u : Bool) (told : u ≡ sameName t name) where
+  pub called-name : u ≡ true → true ≡ called t name oid
+  unfolding called
+  called-name h = rw (sym told ∙ h)
 
-rows-are : (t : List ℕ) → rows t ≡ ruleOf t
-unfolding rows ruleOf ruleIn byRow
-rows-are t = refl
+  pub called-oid : (v : Bool) → u ≡ false → v ≡ same t oid → v ≡ called t name oid
+  unfolding called
+  called-oid v h e = rw (sym told ∙ h) e
 
-chained : (t : List ℕ) (r1 r2 r3 r4 r5 r6 r7 r8 r9 r10 r11 r12 : Option Rule)
-    → r1 ≡ byRow (bytes "generalizedTimeOrderingMatch") (bytes "2.5.13.28") (less times) t none
-    → r2 ≡ byRow (bytes "generalizedTimeMatch") (bytes "2.5.13.27") (equal times) t r1
-    → r3 ≡ byRow (bytes "caseExactMatch") (bytes "2.5.13.5") (equal (strings false)) t r2
-    → r4 ≡ byRow (bytes "caseIgnoreMatch") (bytes "2.5.13.2") (equal (strings true)) t r3
-    → r5 ≡ byRow (bytes "bitStringMatch") (bytes "2.5.13.16") (equal bitStrings) t r4
-    → r6 ≡ byRow (bytes "octetStringOrderingMatch") (bytes "2.5.13.18") (less octetStrings) t r5
-    → r7 ≡ byRow (bytes "octetStringMatch") (bytes "2.5.13.17") (equal octetStrings) t r6
-    → r8 ≡ byRow (bytes "objectIdentifierMatch") (bytes "2.5.13.0") (equal objectIdentifiers) t r7
-    → r9 ≡ byRow (bytes "integerOrderingMatch") (bytes "2.5.13.15") (less integers) t r8
-    → r10 ≡ byRow (bytes "integerMatch") (bytes "2.5.13.14") (equal integers) t r9
-    → r11 ≡ byRow (bytes "booleanMatch") (bytes "2.5.13.13") (equal booleans) t r10
-    → r12 ≡ byRow (bytes "presentMatch") (bytes "1.2.36.79672281.1.13.5") present t r11
-    → r12 ≡ rows t
-unfolding rows
-chained t r1 r2 r3 r4 r5 r6 r7 r8 r9 r10 r11 r12 e1 e2 e3 e4 e5 e6 e7 e8 e9 e10 e11 e12 = cc
+-- the rule of a text in a table, row by row: u is what the code found of the first row
+pub rule-none : (t : List ℕ) → none ≡ ruleIn [] t
+unfolding ruleIn
+rule-none t = refl
 
-pub rule-chain : (t : List ℕ) (r1 r2 r3 r4 r5 r6 r7 r8 r9 r10 r11 r12 : Named)
-    → toldRule r1 ≡ byRow (bytes "generalizedTimeOrderingMatch") (bytes "2.5.13.28") (less times) t none
-    → toldRule r2 ≡ byRow (bytes "generalizedTimeMatch") (bytes "2.5.13.27") (equal times) t (toldRule r1)
-    → toldRule r3 ≡ byRow (bytes "caseExactMatch") (bytes "2.5.13.5") (equal (strings false)) t (toldRule r2)
-    → toldRule r4 ≡ byRow (bytes "caseIgnoreMatch") (bytes "2.5.13.2") (equal (strings true)) t (toldRule r3)
-    → toldRule r5 ≡ byRow (bytes "bitStringMatch") (bytes "2.5.13.16") (equal bitStrings) t (toldRule r4)
-    → toldRule r6 ≡ byRow (bytes "octetStringOrderingMatch") (bytes "2.5.13.18") (less octetStrings) t (toldRule r5)
-    → toldRule r7 ≡ byRow (bytes "octetStringMatch") (bytes "2.5.13.17") (equal octetStrings) t (toldRule r6)
-    → toldRule r8 ≡ byRow (bytes "objectIdentifierMatch") (bytes "2.5.13.0") (equal objectIdentifiers) t (toldRule r7)
-    → toldRule r9 ≡ byRow (bytes "integerOrderingMatch") (bytes "2.5.13.15") (less integers) t (toldRule r8)
-    → toldRule r10 ≡ byRow (bytes "integerMatch") (bytes "2.5.13.14") (equal integers) t (toldRule r9)
-    → toldRule r11 ≡ byRow (bytes "booleanMatch") (bytes "2.5.13.13") (equal booleans) t (toldRule r10)
-    → toldRule r12 ≡ byRow (bytes "presentMatch") (bytes "1.2.36.79672281.1.13.5") present t (toldRule r11)
-    → toldRule r12 ≡ ruleOf t
-rule-chain t r1 r2 r3 r4 r5 r6 r7 r8 r9 r10 r11 r12 e1 e2 e3 e4 e5 e6 e7 e8 e9 e10 e11 e12 =
-    chained t (toldRule r1) (toldRule r2) (toldRule r3) (toldRule r4) (toldRule r5) (toldRule r6) (toldRule r7) (toldRule r8) (toldRule r9) (toldRule r10) (toldRule r11) (toldRule r12)
-    e1 e2 e3 e4 e5 e6 e7 e8 e9 e10 e11 e12 ∙ rows-are t
+module _ (t name oid : List ℕ) (rule : Rule) (ks : List Known) (u : Bool) (told : u ≡ called t name oid) where
+  pub rule-here : u ≡ true → some rule ≡ ruleIn (record { name = name; oid = oid; rule = rule } ∷ ks) t
+  unfolding ruleIn called
+  rule-here h = rw (sym told ∙ h)
+
+  pub rule-after : (r : Option Rule) → u ≡ false → r ≡ ruleIn ks t → r ≡ ruleIn (record { name = name; oid = oid; rule = rule } ∷ ks) t
+  unfolding ruleIn called
+  rule-after r h e = rw (sym told ∙ h) e

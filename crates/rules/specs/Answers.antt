@@ -38,9 +38,9 @@ abbrev pub toldRule : named.Named → Option Rule
 toldRule named.Named.Unknown = none
 toldRule (named.Named.Known r) = some (meant r)
 
--- one row of the table of rules, before the others
-unfoldable pub byRow : List ℕ → List ℕ → Rule → List ℕ → Option Rule → Option Rule
-byRow name oid rule t others = pick (either (sameName t name) (same t oid)) (some rule) others
+-- a text is a rule's name or OID
+unfoldable pub called : List ℕ → List ℕ → List ℕ → Bool
+called t name oid = either (sameName t name) (same t oid)
 
 -- ---- what the code reads to the end: INTEGER contents of up to 8 octets, BIT STRING contents of up to 65,536, and a time that conforms. Contents
 -- that the check of a value lets through and a text that conforms are such; of others the code's answer is false.

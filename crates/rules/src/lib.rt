@@ -1,13 +1,14 @@
 // Matching rules: known rules, which rule is for which type, conforming value texts, acceptance.
 ghost use mathlib.Core.Path.{_≡_};
 ghost use lib.Dec.{eqb};
+ghost use lib.ListN.{drop};
 ghost use Rattle.octets.specs.Pick.{pick, both, all};
 ghost use Rattle.octets.specs.Octets.{same, bytes};
 ghost use Rattle.octets.specs.Text.{lower};
 ghost use Rattle.der.specs.Kind.{isString};
 ghost use Rattle.der.specs.Meaning.{booleanOf};
 ghost use Rattle.reference.specs.Allowed.{ofCount};
-ghost use Rattle.rules.specs.Rule.{sameName, ruleOf};
+ghost use Rattle.rules.specs.Rule.{sameName, knownRules, ruleIn, ruleOf};
 ghost use Rattle.rules.specs.Suits as suiting;
 ghost use Rattle.rules.specs.Asserted as asserted;
 ghost use Rattle.rules.specs.Accepts as accepting;
@@ -60,49 +61,78 @@ fn same_name(a: &[u8], b: &[u8]) -> bool
     true
 }
 
-// A row of the table: its rule if the text is its name or OID, else what the others say.
-fn by_row(name: &[u8], oid: &[u8], rule: Rule, t: &[u8], others: Named) -> Named
-    ensures { λ r. ⌜ answers.toldRule r ≡ answers.byRow (now (name .entry)) (now (oid .entry)) (answers.meant rule) (now (t .entry)) (answers.toldRule others) ⌝ }
+// Whether a text is a rule's name or OID.
+fn is_called(t: &[u8], name: &[u8], oid: &[u8]) -> bool
+    ensures { λ r. ⌜ r ≡ answers.called (now (t .entry)) (now (name .entry)) (now (oid .entry)) ⌝ }
 {
     if same_name(t, name) {
-        return Named::Known(rule);
+        return true;
     }
-    if octets::same(t, oid) {
-        return Named::Known(rule);
-    }
-    others
+    octets::same(t, oid)
 }
 
-// The rule of a name or dotted OID.
+// The rule of a name or dotted OID, from a row of the table on: here from the 11th.
+fn time_rule(t: &[u8]) -> Named
+    ensures { λ r. ⌜ answers.toldRule r ≡ ruleIn (drop 10 knownRules) (now (t .entry)) ⌝ }
+{
+    if is_called(t, b"generalizedTimeMatch", b"2.5.13.27") {
+        return Named::Known(Rule::Equal(Syntax::Times));
+    }
+    if is_called(t, b"generalizedTimeOrderingMatch", b"2.5.13.28") {
+        return Named::Known(Rule::Less(Syntax::Times));
+    }
+    Named::Unknown
+}
+
+// From the 8th row on.
+fn text_rule(t: &[u8]) -> Named
+    ensures { λ r. ⌜ answers.toldRule r ≡ ruleIn (drop 7 knownRules) (now (t .entry)) ⌝ }
+{
+    if is_called(t, b"bitStringMatch", b"2.5.13.16") {
+        return Named::Known(Rule::Equal(Syntax::BitStrings));
+    }
+    if is_called(t, b"caseIgnoreMatch", b"2.5.13.2") {
+        return Named::Known(Rule::Equal(Syntax::Strings(true)));
+    }
+    if is_called(t, b"caseExactMatch", b"2.5.13.5") {
+        return Named::Known(Rule::Equal(Syntax::Strings(false)));
+    }
+    time_rule(t)
+}
+
+// From the 5th row on.
+fn octet_rule(t: &[u8]) -> Named
+    ensures { λ r. ⌜ answers.toldRule r ≡ ruleIn (drop 4 knownRules) (now (t .entry)) ⌝ }
+{
+    if is_called(t, b"objectIdentifierMatch", b"2.5.13.0") {
+        return Named::Known(Rule::Equal(Syntax::ObjectIdentifiers));
+    }
+    if is_called(t, b"octetStringMatch", b"2.5.13.17") {
+        return Named::Known(Rule::Equal(Syntax::OctetStrings));
+    }
+    if is_called(t, b"octetStringOrderingMatch", b"2.5.13.18") {
+        return Named::Known(Rule::Less(Syntax::OctetStrings));
+    }
+    text_rule(t)
+}
+
+// The rule of a name or dotted OID: the first row of the table that has it.
 pub fn rule_of(t: &[u8]) -> Named
     ensures { λ r. ⌜ answers.toldRule r ≡ ruleOf (now (t .entry)) ⌝ }
 {
-    let r = Named::Unknown;
-    let x = Rule::Less(Syntax::Times);
-    let r = by_row(b"generalizedTimeOrderingMatch", b"2.5.13.28", x, t, r);
-    let x = Rule::Equal(Syntax::Times);
-    let r = by_row(b"generalizedTimeMatch", b"2.5.13.27", x, t, r);
-    let x = Rule::Equal(Syntax::Strings(false));
-    let r = by_row(b"caseExactMatch", b"2.5.13.5", x, t, r);
-    let x = Rule::Equal(Syntax::Strings(true));
-    let r = by_row(b"caseIgnoreMatch", b"2.5.13.2", x, t, r);
-    let x = Rule::Equal(Syntax::BitStrings);
-    let r = by_row(b"bitStringMatch", b"2.5.13.16", x, t, r);
-    let x = Rule::Less(Syntax::OctetStrings);
-    let r = by_row(b"octetStringOrderingMatch", b"2.5.13.18", x, t, r);
-    let x = Rule::Equal(Syntax::OctetStrings);
-    let r = by_row(b"octetStringMatch", b"2.5.13.17", x, t, r);
-    let x = Rule::Equal(Syntax::ObjectIdentifiers);
-    let r = by_row(b"objectIdentifierMatch", b"2.5.13.0", x, t, r);
-    let x = Rule::Less(Syntax::Integers);
-    let r = by_row(b"integerOrderingMatch", b"2.5.13.15", x, t, r);
-    let x = Rule::Equal(Syntax::Integers);
-    let r = by_row(b"integerMatch", b"2.5.13.14", x, t, r);
-    let x = Rule::Equal(Syntax::Booleans);
-    let r = by_row(b"booleanMatch", b"2.5.13.13", x, t, r);
-    let x = Rule::Present;
-    let r = by_row(b"presentMatch", b"1.2.36.79672281.1.13.5", x, t, r);
-    r
+    if is_called(t, b"presentMatch", b"1.2.36.79672281.1.13.5") {
+        return Named::Known(Rule::Present);
+    }
+    if is_called(t, b"booleanMatch", b"2.5.13.13") {
+        return Named::Known(Rule::Equal(Syntax::Booleans));
+    }
+    if is_called(t, b"integerMatch", b"2.5.13.14") {
+        return Named::Known(Rule::Equal(Syntax::Integers));
+    }
+    if is_called(t, b"integerOrderingMatch", b"2.5.13.15") {
+        return Named::Known(Rule::Less(Syntax::Integers));
+    }
+    octet_rule(t)
 }
 
 // ---- conforming

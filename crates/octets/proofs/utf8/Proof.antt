@@ -1,4 +1,4 @@
-use Rattle.octets.proofs.Steps.{utf8-start, utf8-more, utf8-done}
+use Rattle.octets.proofs.Steps.{utf8-ascii, utf8-start, utf8-more, utf8-done}
 use Rattle.octets.specs.Utf8.{utf8From, utf8}
 use mathlib.Core.Path.{_≡_}
 use Prim.Native.Nat.{_-_}
@@ -19,6 +19,8 @@ utf8-spec =
     (tie.spec
     Inv-loop
     μ-loop
+    (λ c κs. search needs)  -- highest-requires
+    (λ c. search utf8-ascii)  -- returns
     (λ c. search utf8-start)  -- loop-holds
     (λ c. search needs)  -- shared-slice-read-after
     (λ c κs. search needs)  -- after-requires
@@ -26,4 +28,4 @@ utf8-spec =
     (λ c. search needs)  -- loop-less
     (λ c. search utf8-more)  -- loop-again
     (λ c κs. search needs)  -- may-end-requires
-    (λ c. search utf8-done))  -- returns
+    (λ c. search utf8-done))  -- returns-2

@@ -1,4 +1,4 @@
-use Rattle.reference.proofs.IdSteps.{between-none}
+use Rattle.reference.proofs.NameSteps.{between-none}
 use borrow.Author.Needs.{needs}
 use Rattle.reference.proofs.between.Statement.{statement}
 use Rattle.reference.proofs.between.Tie as tie

@@ -1,4 +1,4 @@
-use Rattle.reference.proofs.IdSteps.{named-is}
+use Rattle.reference.proofs.NameSteps.{named-other, named-is}
 use borrow.Author.Needs.{needs}
 use Rattle.reference.proofs.is_named.Statement.{statement}
 use Rattle.reference.proofs.is_named.Tie as tie
@@ -8,8 +8,9 @@ is-named-spec =
     tie.close
     (tie.spec
     (λ c κs. search needs)  -- name-at-requires
-    (λ c κs. search needs)  -- fill-at-requires
-    (λ c κs. search needs)  -- part-requires
     (λ c κs. search needs)  -- between-requires
-    (λ c κs. search needs)  -- same-requires
-    (λ c. search named-is))  -- returns
+    (λ c κs. search needs)  -- octet-requires
+    (λ c κs. search needs)  -- octet-requires-2
+    (λ c. search named-other)  -- returns
+    (λ c κs. search needs)  -- has-name-requires
+    (λ c. search named-is))  -- returns-2

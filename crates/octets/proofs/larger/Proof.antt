@@ -1,0 +1,10 @@
+use Rattle.octets.proofs.Tests.{tests}
+use Rattle.octets.specs.Octets.{larger}
+use Rattle.octets.proofs.larger.Statement.{statement}
+use Rattle.octets.proofs.larger.Tie as tie
+
+pub larger-spec : {M : Type 1} → statement M
+unfolding larger
+larger-spec = tie.close (tie.spec
+    (λ c. search tests)  -- returns
+    (λ c. search tests))  -- returns-2
