@@ -26,10 +26,10 @@ use Rattle.filter.specs.Parse.{parse}
 use Rattle.judge.specs.Truth.{Truth, TRUE, FALSE, UNDEFINED}
 use Rattle.engine.specs.Limits.{Limits}
 use Rattle.engine.specs.Paper.{limits}
-use Rattle.engine.specs.Answer.{Report, answers, refused, isRefused, questionWithin, questionFits, withFilter, askReport}
+use Rattle.engine.specs.Answer.{Report, answers, refused, isRefused, questionFits, withFilter, askReport}
 use Rattle.engine.specs.Listing as listing
 use Rattle.engine.specs.Listing.{Listing, refusedList, listingFits, listingOf, listReport}
-use Rattle.engine.proofs.AskSteps.{valueWithin, filterWithin, value-within, filter-within}
+use Rattle.engine.proofs.Answers.{question-here}
 use Rattle.capi.specs.Told.{isSet, isRefusal, tableOf, valueOf, listReportOf, listingTold, reportOf}
 use Rattle.capi.specs.declared.CAnswer.{CAnswer}
 use Rattle.capi.proofs.tezqulom_check_table.Kinds as table-kinds
@@ -123,11 +123,6 @@ whole-ask l t v s budget number count size admits answer zero =
     told : Report
     told = withFilter (typeAt (l .table) t 0) v budget (parse (l .filter) s)
 
--- at document 01's limits, as the contract has them
-question-here : (t v s : List ℕ) (budget : ℕ) → questionWithin 4992 (valueWithin v) (filterWithin s) 65535 t budget ≡ questionFits limits t v s budget
-unfolding questionFits
-question-here t v s budget = ap₂ (λ (a b : Bool). questionWithin 4992 a b 65535 t budget) (sym (value-within v)) (sym (filter-within s))
-
 -- ---- the report determines both numbers
 abbrev truthNumber : ℕ → Option Truth → ℕ
 truthNumber n none = n
@@ -164,4 +159,4 @@ module _ (r : CAnswer) where
       → ask-reads.Learnt κs (t, (v, (s, (budget, tt)))) r e → reportOf (r .number) (r .count) ≡ askReport limits (now t) (now v) (now s) budget
   unfolding typeAt
   ask-is κs t v s budget e w =
-      whole-ask limits (now t) (now v) (now s) budget (r .number) (r .count) (w .0 ∙ ap no (question-here (now t) (now v) (now s) budget)) (w .1 .0) (w .1 .1 .0) (w .1 .1 .1)
+      whole-ask limits (now t) (now v) (now s) budget (r .number) (r .count) (w .0 ∙ ap no (sym (question-here (now t) (now v) (now s) budget))) (w .1 .0) (w .1 .1 .0) (w .1 .1 .1)

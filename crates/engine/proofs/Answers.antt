@@ -57,7 +57,7 @@ whole-answer l t v s budget a size admits answers = go (questionFits l t v s bud
     go false q y r = refusal-is 1 a (size ∙ ap no q) (λ z. omega arith)
 
 -- at document 01's limits, as the contract has them
-question-here : (t v s : List ℕ) (budget : ℕ) → questionFits limits t v s budget ≡ questionWithin 4992 (valueWithin v) (filterWithin s) 65535 t budget
+pub question-here : (t v s : List ℕ) (budget : ℕ) → questionFits limits t v s budget ≡ questionWithin 4992 (valueWithin v) (filterWithin s) 65535 t budget
 unfolding questionFits
 question-here t v s budget = ap₂ (λ (a b : Bool). questionWithin 4992 a b 65535 t budget) (value-within v) (filter-within s)
 

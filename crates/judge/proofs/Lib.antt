@@ -7,4 +7,3 @@ pub mod ListLaws
 pub mod FilterSteps
 pub mod Few
 pub mod Names
-pub mod Text

@@ -13,6 +13,7 @@ use Rattle.rules.specs.declared.Rule.{Rule}
 use Rattle.trail.specs.Trail.{Trail, done, fault, reach}
 use Rattle.walk.specs.Run.{seen, acceptsRead, visited, run}
 use Rattle.walk.specs.declared.State.{State}
+use Rattle.walk.proofs.RunLaws.{run-accepted, run-over}
 use Rattle.walk.specs.declared.Task.{Task}
 use Rattle.judge.specs.Truth.{TRUE, FALSE, UNDEFINED}
 use Rattle.judge.specs.Reading.{Outcome, settled, faulted}
@@ -20,19 +21,6 @@ use Rattle.judge.specs.Assertion.{testing}
 use Rattle.judge.specs.Work.{tested, charged}
 use Rattle.judge.specs.declared.Judged.{Judged}
 use Rattle.judge.specs.declared.Verdict.{Verdict}
-
--- ---- a walk that isn't going goes on in no way
-accepted-stays : (task : Task) (x : List ℕ) (k : ℕ) (m : List ℕ) (a : Trail) → run task x (seen (State.Accepted k) m) a ≡ seen (State.Accepted k) m
-unfolding run
-accepted-stays task x k m done = refl
-accepted-stays task x k m fault = refl
-accepted-stays task x k m (reach c a) = accepted-stays task x k m a
-
-over-stays : (task : Task) (x m : List ℕ) (a : Trail) → run task x (seen State.Over m) a ≡ seen State.Over m
-unfolding run
-over-stays task x m done = refl
-over-stays task x m fault = refl
-over-stays task x m (reach c a) = over-stays task x m a
 
 -- more tests than the budget
 over-pick : (budget k : ℕ) (w : State) → budget < k → pick (leb k budget) w State.Over ≡ State.Over
@@ -58,10 +46,10 @@ module _ (r : Rule) (budget : ℕ) (x : List ℕ) where
       go : (u : Bool) → ltb n budget ≡ u → (b : Bool) → (n + 1 ≤ budget → run (Task.Test r budget) x (seen (State.Going (n + 1)) m) a ≡ seen (tested budget (testing (acceptsRead (meant r) x) (n + 1) a)) m)
           → run (Task.Test r budget) x (seen (pick u (pick b (State.Accepted (n + 1)) (State.Going (n + 1))) State.Over) m) a
           ≡ seen (tested budget (pick b (settled TRUE (n + 1)) (testing (acceptsRead (meant r) x) (n + 1) a))) m
-      go true q true f = let l : n + 1 ≤ budget = omega (arith, ltb-true n budget q) in accepted-stays (Task.Test r budget) x (n + 1) m a ∙ ap (λ (w : State). seen w m) (sym (ap (λ (y : Bool). pick y (State.Accepted (n + 1)) State.Over) (le-leb (n + 1) budget l)))
+      go true q true f = let l : n + 1 ≤ budget = omega (arith, ltb-true n budget q) in run-accepted (Task.Test r budget) x (n + 1) m a ∙ ap (λ (w : State). seen w m) (sym (ap (λ (y : Bool). pick y (State.Accepted (n + 1)) State.Over) (le-leb (n + 1) budget l)))
       go true q false f = f (omega (arith, ltb-true n budget q))
-      go false q true f = let l : budget < n + 1 = omega (arith, ltb-false n budget q) in over-stays (Task.Test r budget) x m a ∙ ap (λ (w : State). seen w m) (sym (over-pick budget (n + 1) (State.Accepted (n + 1)) l))
-      go false q false f = let l : budget < n + 1 = omega (arith, ltb-false n budget q) in over-stays (Task.Test r budget) x m a ∙ ap (λ (w : State). seen w m) (sym (testing-over (acceptsRead (meant r) x) budget (n + 1) a l))
+      go false q true f = let l : budget < n + 1 = omega (arith, ltb-false n budget q) in run-over (Task.Test r budget) x m a ∙ ap (λ (w : State). seen w m) (sym (over-pick budget (n + 1) (State.Accepted (n + 1)) l))
+      go false q false f = let l : budget < n + 1 = omega (arith, ltb-false n budget q) in run-over (Task.Test r budget) x m a ∙ ap (λ (w : State). seen w m) (sym (testing-over (acceptsRead (meant r) x) budget (n + 1) a l))
 
 -- ---- tests made before are added
 abbrev pub shifted : ℕ → Outcome → Outcome

@@ -15,7 +15,7 @@ use Rattle.trail.specs.Work.{openingTold, Reached, reached, past, unfit,
 use Rattle.trail.specs.declared.Opening.{Opening}
 use Rattle.trail.proofs.OpenSteps.{open-long}
 
-plainly : (ty : Ty) (v : List ℕ) (i stop : ℕ) → openAt ty (taggingOf 0 0) v i stop ≡ openAt ty untagged v i stop
+pub plainly : (ty : Ty) (v : List ℕ) (i stop : ℕ) → openAt ty (taggingOf 0 0) v i stop ≡ openAt ty untagged v i stop
 unfolding taggingOf
 plainly ty v i stop = refl
 

@@ -28,6 +28,7 @@ use Rattle.trail.specs.declared.Opening.{Opening}
 use Rattle.trail.specs.declared.Counted.{Counted}
 use Rattle.trail.specs.declared.Found.{Found}
 use Rattle.trail.proofs.OpenSteps.{open-long}
+use Rattle.trail.proofs.ListSteps.{plainly}
 use Rattle.trail.proofs.Locating.{along-name, along-position, along-from-end, along-count, along-all, index-on-basic, index-on-sequence, index-on-choice, along-end, trail-by, located-position-capped, located-from-end-capped}
 use Rattle.walk.specs.Run.{Seen, seen, componentOf, visited, run, idsOr, idsFrom, goingOn, tally}
 use Rattle.walk.specs.declared.State.{State}
@@ -192,10 +193,6 @@ pub record Each (task : Task) (x : List ℕ) (d : Bool) (is : List Id) (ty : Ty)
   pub ends : stop ≡ start + span
   pub long : length out ≡ length before
   pub same : run task x (seen (State.Going reached) out) (eachFrom (openAt ty untagged v) (goingOn d is v ty) k stop i) ≡ run task x (seen (State.Going n) before) (eachFrom (openAt ty untagged v) (goingOn d is v ty) span (start + span) start)
-
-plainly : (ty : Ty) (v : List ℕ) (i stop : ℕ) → openAt ty (taggingOf 0 0) v i stop ≡ openAt ty untagged v i stop
-unfolding taggingOf
-plainly ty v i stop = refl
 
 each-step : (o : ℕ → ℕ → Option Opened) (f : Opened → Trail) (k stop i : ℕ) → i < stop → eachFrom o f (suc k) stop i ≡ orFault (λ p. then (f p) (eachFrom o f k stop (after p))) (o i stop)
 unfolding eachFrom
