@@ -5,7 +5,7 @@ use mathlib.Core.Option.{Option, none, some}
 use mathlib.Core.List.{List, [], _∷_, map}
 use Prim.Native.Nat.{ℕ, suc, _≤_, _<_, _+_}
 use native.Mathlib.Omega.{arith}
-use borrow.Author.Tests.{not-true, not-false}
+use borrow.Author.Tests.{not-true, not-false, eq-eqb}
 use lib.Dec.{eqb}
 use lib.ListN.{length, drop}
 use Rattle.octets.specs.Pick.{both}
@@ -17,6 +17,9 @@ use Rattle.rules.specs.Rule.{Rule, Known, sameName, ruleIn}
 use Rattle.rules.specs.Answers.{called}
 
 -- ---- names
+pub letter-same : (a b : ℕ) → a ≡ b → true ≡ eqb (lower a) (lower b)
+letter-same a b e = sym (eq-eqb _ _ (ap lower e))
+
 pub letter-is : (a b x y : ℕ) → x ≡ lower a → y ≡ lower b → eqb x y ≡ eqb (lower a) (lower b)
 letter-is a b x y e h = rw (e, h)
 

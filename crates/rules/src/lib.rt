@@ -41,6 +41,9 @@ pub enum Named {
 fn same_letter(a: u8, b: u8) -> bool
     ensures { λ r. ⌜ r ≡ eqb (lower a) (lower b) ⌝ }
 {
+    if a == b {
+        return true;
+    }
     octets::lower(a) == octets::lower(b)
 }
 
