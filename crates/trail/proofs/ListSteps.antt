@@ -101,7 +101,7 @@ pub record Seeking (ty : Ty) (v : List ℕ) (start stop n i left : ℕ) : Type 0
   pub high : i ≤ stop
   pub same : nthFrom (openAt ty untagged v) k stop left i ≡ nthFrom (openAt ty untagged v) (stop - start) stop n start
 
-nth-step : (o : ℕ → ℕ → Option Opened) (k stop n i : ℕ) → i < stop → nthFrom o (suc k) stop n i ≡ orUnfit (reachedOr n (λ j. nthFrom o k stop (n - 1) j)) (o i stop)
+pub nth-step : (o : ℕ → ℕ → Option Opened) (k stop n i : ℕ) → i < stop → nthFrom o (suc k) stop n i ≡ orUnfit (reachedOr n (λ j. nthFrom o k stop (n - 1) j)) (o i stop)
 unfolding nthFrom
 nth-step o k stop n i h = rw (lt-ltb i stop h)
 

@@ -1,5 +1,5 @@
 -- What the functions of the walk answer, by the definitions.
-use Prim.Native.Nat.{ℕ, zero, suc, _+_, _-_, _*_, _/_}
+use Prim.Native.Nat.{ℕ, zero, suc, _+_, _-_, _*_}
 use mathlib.Core.Bool.{Bool, true, false}
 use mathlib.Core.Option.{Option, none, some}
 use mathlib.Core.List.{List}
@@ -23,6 +23,7 @@ use Rattle.trail.specs.declared.Look.{Look}
 use Rattle.trail.specs.declared.Opening.{Opening}
 use Rattle.trail.specs.declared.Counted.{Counted}
 use Rattle.trail.specs.declared.Nth.{Nth}
+use Rattle.trail.specs.declared.Tail.{Tail}
 
 -- a value by its place, its contents' start and their length
 abbrev pub standing : ℕ → ℕ → ℕ → Opened
@@ -140,16 +141,47 @@ unfoldable pub keep : ℕ → ℕ → ℕ → ℕ → List ℕ → List ℕ
 keep slot place start span m = set (set (set m (slot * 3) place) (slot * 3 + 1) start) (slot * 3 + 2) span
 
 -- the element at a slot
-abbrev pub keptAs : ℕ → List ℕ → ℕ → Found
-keptAs row m slot = Found.At row (getD m (slot * 3) 0) (getD m (slot * 3 + 1) 0) (getD m (slot * 3 + 2) 0)
+abbrev pub keptAt : List ℕ → ℕ → Opened
+keptAt m slot = standing (getD m (slot * 3) 0) (getD m (slot * 3 + 1) 0) (getD m (slot * 3 + 2) 0)
 
--- the slot after a slot, of i: the first again after the last
-unfoldable pub nextSlot : ℕ → ℕ → ℕ
-nextSlot slot i = pick (eqb (slot + 1) i) 0 (slot + 1)
+-- the element at position i from the end, among those from some place on; fewer than that, with their number; or behind a header that doesn't fit
+pub data Ended : Type 0 where
+  landed : Opened → Ended
+  short : ℕ → Ended
+  broken : Ended
 
--- whether a list of a span, up to stop, can have an element at position i from the end, and there are slots for i elements; a slot's numbers are below 65536
-unfoldable pub isNear : ℕ → ℕ → ℕ → ℕ → Bool
-isNear most stop span i = pick (eqb i 0) false (pick (ltb (span / 2) i) false (pick (ltb most i) false (ltb stop 65536)))
+abbrev pub tailTold : Tail → Ended
+tailTold (Tail.At place start span) = landed (standing place start span)
+tailTold (Tail.Short n) = short n
+tailTold Tail.Broken = broken
+
+abbrev pub keptAs : List ℕ → ℕ → Tail
+keptAs m slot = Tail.At (getD m (slot * 3) 0) (getD m (slot * 3 + 1) 0) (getD m (slot * 3 + 2) 0)
+
+-- with the element x before them
+unfoldable pub preceded : ℕ → Opened → Ended → Ended
+preceded i x (landed y) = landed y
+preceded i x (short n) = pick (eqb (n + 1) i) (landed x) (short (n + 1))
+preceded i x broken = broken
+
+abbrev pub orEnded : (Opened → Ended) → Option Opened → Ended
+orEnded f none = broken
+orEnded f (some x) = f x
+
+unfoldable pub tailFrom : (ℕ → ℕ → Option Opened) → ℕ → ℕ → ℕ → ℕ → Ended
+tailFrom o zero stop i at = pick (ltb at stop) broken (short 0)
+tailFrom o (suc k) stop i at =
+    let elements = orEnded (λ x. preceded i x (tailFrom o k stop i (after x))) (o at stop) in
+    pick (ltb at stop) elements (short 0)
+
+-- with the first n elements that are kept before them
+unfoldable pub folded : ℕ → List ℕ → ℕ → Ended → Ended
+folded i m zero e = e
+folded i m (suc n) e = folded i m n (preceded i (keptAt m n) e)
+
+-- whether a slot can hold the numbers of a list's elements up to stop, each below 65536, and i is a position from the end
+unfoldable pub isNear : ℕ → ℕ → Bool
+isNear stop i = pick (eqb i 0) false (ltb stop 65536)
 
 abbrev pub byIndex : Index → Ty → List ℕ → Opened → trail.Found
 byIndex (position n) ty v o = nthFound ty v (o .start) (o .span) n

@@ -467,22 +467,26 @@ fn far_found(
     nth_found(t, s, m, v, row, start, span, size + 1 - i)
 }
 
-// ---- elements from the end in one pass, the last ones kept in lent memory: three numbers at a slot, place, start of contents and their length
-// The slots of the small memory.
-const FEW: usize = 64;
+// ---- elements from the end in one pass, elements being kept on the way: three numbers at a slot, place, start of contents and their length
+// The elements that one call keeps.
+const KEPT: usize = 64;
 
-// The slots of the large one: as many as a value of 4,096 octets can have elements, of two octets at least.
-const MANY: usize = 2048;
+// The element at a position from the end; fewer elements than that, with their number; or a header that doesn't fit.
+enum Tail {
+    At(usize, usize, usize),
+    Short(usize),
+    Broken,
+}
 
 // Writes an element to a slot.
-fn keep_element(ring: &mut [u16], slot: usize, place: usize, start: usize, span: usize)
-    requires room { ⌜ slot * 3 + 3 ≤ length (now ring) ⌝ }
+fn keep_element(kept: &mut [u16], slot: usize, place: usize, start: usize, span: usize)
+    requires room { ⌜ slot * 3 + 3 ≤ length (now kept) ⌝ }
     requires small { ⌜ (place < 65536) × (start < 65536) × (span < 65536) ⌝ }
-    ensures { λ _. ⌜ now (ring .exit) ≡ work.keep slot place start span (now (ring .entry)) ⌝ }
+    ensures { λ _. ⌜ now (kept .exit) ≡ work.keep slot place start span (now (kept .entry)) ⌝ }
 {
-    ring[slot * 3] = place as u16;
-    ring[slot * 3 + 1] = start as u16;
-    ring[slot * 3 + 2] = span as u16;
+    kept[slot * 3] = place as u16;
+    kept[slot * 3 + 1] = start as u16;
+    kept[slot * 3 + 2] = span as u16;
 }
 
 fn widen(x: u16) -> usize
@@ -492,137 +496,81 @@ fn widen(x: u16) -> usize
 }
 
 // The element at a slot.
-fn kept_element(ring: &[u16], slot: usize, row: usize) -> Found
-    requires room { ⌜ slot * 3 + 3 ≤ length (now ring) ⌝ }
-    ensures { λ f. ⌜ f ≡ work.keptAs row (now (ring .entry)) slot ⌝ }
+fn kept_element(kept: &[u16], slot: usize) -> Tail
+    requires room { ⌜ slot * 3 + 3 ≤ length (now kept) ⌝ }
+    ensures { λ r. ⌜ r ≡ work.keptAs (now (kept .entry)) slot ⌝ }
 {
-    Found::At(
-        row,
-        widen(ring[slot * 3]),
-        widen(ring[slot * 3 + 1]),
-        widen(ring[slot * 3 + 2]),
+    Tail::At(
+        widen(kept[slot * 3]),
+        widen(kept[slot * 3 + 1]),
+        widen(kept[slot * 3 + 2]),
     )
 }
 
-// The slot after a slot, of i: the first again after the last.
-fn next_slot(slot: usize, i: usize) -> usize
-    requires { ⌜ slot < i ⌝ }
-    ensures next { λ r. ⌜ r ≡ work.nextSlot slot i ⌝ }
-    ensures below { λ r. ⌜ r < i ⌝ }
+// The element at position i from the end, among n that are kept and so many behind them, fewer than i.
+fn kept_tail(kept: &[u16], n: usize, i: usize, behind: usize) -> Tail
+    requires room { ⌜ n * 3 ≤ length (now kept) ⌝ }
+    requires short { ⌜ behind < i ⌝ }
+    requires fits { ⌜ behind + n < 18446744073709551616 ⌝ }
+    ensures { λ r. ⌜ work.tailTold r ≡ work.folded i (now (kept .entry)) n (work.short behind) ⌝ }
 {
-    if slot + 1 == i {
-        return 0;
+    if behind + n < i {
+        return Tail::Short(behind + n);
     }
-    slot + 1
+    kept_element(kept, n - (i - behind))
 }
 
-// The element at position i from the end, by one pass. Each element goes to the next of i slots, so behind the last element the next slot holds the one
-// at position i from the end.
-fn last_kept(
+// The element at position i from the end, among those from at up to stop. A call keeps up to 64 elements and leaves those behind them to another; the element
+// that is sought is known when the call for the last ones returns.
+fn last_from(
     t: &[u8],
     s: &[usize],
     m: &[u64],
     v: &[u8],
     row: usize,
-    start: usize,
-    span: usize,
+    at: usize,
+    stop: usize,
     i: usize,
-    ring: &mut [u16],
-) -> Found
+) -> Tail
     requires sound { do ⌜ Sound (← ⟦rows::Table::MAX_CHAIN⟧) (now t) (now s) (now m) ⌝ }
     requires here { ⌜ row < length (now s) ⌝ }
-    requires ends { ⌜ start + span ≤ length (now v) ⌝ }
     requires some { ⌜ 0 < i ⌝ }
-    requires low { ⌜ start + span < 65536 ⌝ }
-    requires room { ⌜ i * 3 ≤ length (now ring) ⌝ }
-    ensures found { λ f. do ⌜ work.foundTold (← ⟦rows::Table::MAX_CHAIN⟧ .entry) (now (t .entry)) (now (s .entry)) f ≡ work.lastFound (typeFrom (← ⟦rows::Table::MAX_CHAIN⟧ .entry) (now (t .entry)) (now (s .entry)) row) (now (v .entry)) start span i ⌝ }
-    ensures lands { λ f. ⌜ work.landsIn (now (s .entry)) (length (now (v .entry))) f ≡ true ⌝ }
+    requires low { ⌜ stop < 65536 ⌝ }
+    requires ordered { ⌜ at ≤ stop ⌝ }
+    ensures { λ r. do ⌜ work.tailTold r ≡ work.tailFrom (openAt (typeFrom (← ⟦rows::Table::MAX_CHAIN⟧ .entry) (now (t .entry)) (now (s .entry)) row) untagged (now (v .entry))) (stop - at) stop i at ⌝ }
 {
-    let stop = start + span;
-    let mut at = start;
+    let mut kept = [0u16; KEPT * 3];
+    let mut p = at;
     let mut n = 0;
-    let mut slot = 0;
-    while at < stop {
-        let Opening::Of(place, from, size) = open_at(t, s, m, v, row, 0, 0, at, stop) else {
-            return Found::Broken;
+    while n < KEPT {
+        if stop <= p {
+            return kept_tail(&kept, n, i, 0);
+        }
+        let Opening::Of(place, from, size) = open_at(t, s, m, v, row, 0, 0, p, stop) else {
+            return Tail::Broken;
         };
-        let next = next_slot(slot, i);
-        keep_element(ring, slot, place, from, size);
-        slot = next;
-        at = from + size;
+        keep_element(&mut kept, n, place, from, size);
+        p = from + size;
         n += 1;
     }
-    if n < i {
-        return Found::Nothing;
+    match last_from(t, s, m, v, row, p, stop, i) {
+        Tail::At(place, from, size) => Tail::At(place, from, size),
+        Tail::Short(behind) => kept_tail(&kept, n, i, behind),
+        Tail::Broken => Tail::Broken,
     }
-    kept_element(ring, slot, row)
 }
 
-// A position that the small memory serves.
-fn last_of_few(
-    t: &[u8],
-    s: &[usize],
-    m: &[u64],
-    v: &[u8],
-    row: usize,
-    start: usize,
-    span: usize,
-    i: usize,
-) -> Found
-    requires sound { do ⌜ Sound (← ⟦rows::Table::MAX_CHAIN⟧) (now t) (now s) (now m) ⌝ }
-    requires here { ⌜ row < length (now s) ⌝ }
-    requires ends { ⌜ start + span ≤ length (now v) ⌝ }
-    requires some { ⌜ 0 < i ⌝ }
-    requires low { ⌜ start + span < 65536 ⌝ }
-    requires few { do ⌜ i ≤ (← ⟦FEW⟧) ⌝ }
-    ensures found { λ f. do ⌜ work.foundTold (← ⟦rows::Table::MAX_CHAIN⟧ .entry) (now (t .entry)) (now (s .entry)) f ≡ work.lastFound (typeFrom (← ⟦rows::Table::MAX_CHAIN⟧ .entry) (now (t .entry)) (now (s .entry)) row) (now (v .entry)) start span i ⌝ }
-    ensures lands { λ f. ⌜ work.landsIn (now (s .entry)) (length (now (v .entry))) f ≡ true ⌝ }
-{
-    let mut ring = [0u16; FEW * 3];
-    last_kept(t, s, m, v, row, start, span, i, &mut ring)
-}
-
-// A position that the large memory serves.
-fn last_of_many(
-    t: &[u8],
-    s: &[usize],
-    m: &[u64],
-    v: &[u8],
-    row: usize,
-    start: usize,
-    span: usize,
-    i: usize,
-) -> Found
-    requires sound { do ⌜ Sound (← ⟦rows::Table::MAX_CHAIN⟧) (now t) (now s) (now m) ⌝ }
-    requires here { ⌜ row < length (now s) ⌝ }
-    requires ends { ⌜ start + span ≤ length (now v) ⌝ }
-    requires some { ⌜ 0 < i ⌝ }
-    requires low { ⌜ start + span < 65536 ⌝ }
-    requires many { do ⌜ i ≤ (← ⟦MANY⟧) ⌝ }
-    ensures found { λ f. do ⌜ work.foundTold (← ⟦rows::Table::MAX_CHAIN⟧ .entry) (now (t .entry)) (now (s .entry)) f ≡ work.lastFound (typeFrom (← ⟦rows::Table::MAX_CHAIN⟧ .entry) (now (t .entry)) (now (s .entry)) row) (now (v .entry)) start span i ⌝ }
-    ensures lands { λ f. ⌜ work.landsIn (now (s .entry)) (length (now (v .entry))) f ≡ true ⌝ }
-{
-    let mut ring = [0u16; MANY * 3];
-    last_kept(t, s, m, v, row, start, span, i, &mut ring)
-}
-
-// Whether a list of a span can have an element at position i from the end, and there are slots for i elements; a slot's numbers are below 65536.
-fn is_near(stop: usize, span: usize, i: usize) -> bool
-    ensures { λ r. do ⌜ r ≡ work.isNear (← ⟦MANY⟧ .entry) stop span i ⌝ }
+// Whether a slot can hold the numbers of a list's elements, and a position is one from the end.
+fn is_near(stop: usize, i: usize) -> bool
+    ensures { λ r. ⌜ r ≡ work.isNear stop i ⌝ }
 {
     if i == 0 {
-        return false;
-    }
-    if span / 2 < i {
-        return false;
-    }
-    if MANY < i {
         return false;
     }
     stop < 65536
 }
 
-// The element at a position from the end. Each header is read once where the position is 1 to 2048 and the list ends below 65536.
+// The element at a position from the end. Each header is read once where the list ends below 65536, as each does in a value within the limits.
 fn last_found(
     t: &[u8],
     s: &[usize],
@@ -639,13 +587,14 @@ fn last_found(
     ensures found { λ f. do ⌜ work.foundTold (← ⟦rows::Table::MAX_CHAIN⟧ .entry) (now (t .entry)) (now (s .entry)) f ≡ work.lastFound (typeFrom (← ⟦rows::Table::MAX_CHAIN⟧ .entry) (now (t .entry)) (now (s .entry)) row) (now (v .entry)) start span i ⌝ }
     ensures lands { λ f. ⌜ work.landsIn (now (s .entry)) (length (now (v .entry))) f ≡ true ⌝ }
 {
-    if !is_near(start + span, span, i) {
+    if !is_near(start + span, i) {
         return far_found(t, s, m, v, row, start, span, i);
     }
-    if i <= FEW {
-        return last_of_few(t, s, m, v, row, start, span, i);
+    match last_from(t, s, m, v, row, start, start + span, i) {
+        Tail::At(place, from, size) => Found::At(row, place, from, size),
+        Tail::Short(_) => Found::Nothing,
+        Tail::Broken => Found::Broken,
     }
-    last_of_many(t, s, m, v, row, start, span, i)
 }
 
 // The member of a SEQUENCE or the alternative of a CHOICE whose name stands from a to b.

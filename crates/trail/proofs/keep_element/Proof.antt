@@ -9,19 +9,19 @@ unfolding keep
 keep-element-spec =
     tie.close
     (tie.spec
-    (λ c. search needs)  -- cast-ring
-    (λ c. search needs)  -- mul-ring
-    (λ c. search needs)  -- mul-ring-2
-    (λ c. search needs)  -- slice-write-ring
-    (λ c. search needs)  -- cast-ring-2
-    (λ c. search needs)  -- mul-ring-3
-    (λ c. search needs)  -- add-ring
-    (λ c. search needs)  -- mul-ring-4
-    (λ c. search room-2)  -- slice-write-ring-2
-    (λ c. search needs)  -- cast-ring-3
-    (λ c. search needs)  -- mul-ring-5
-    (λ c. search needs)  -- add-ring-2
-    (λ c. search needs)  -- mul-ring-6
-    (λ c. search room-3)  -- slice-write-ring-3
+    (λ c. search needs)  -- cast-kept
+    (λ c. search needs)  -- mul-kept
+    (λ c. search needs)  -- mul-kept-2
+    (λ c. search needs)  -- slice-write-kept
+    (λ c. search needs)  -- cast-kept-2
+    (λ c. search needs)  -- mul-kept-3
+    (λ c. search needs)  -- add-kept
+    (λ c. search needs)  -- mul-kept-4
+    (λ c. search room-2)  -- slice-write-kept-2
+    (λ c. search needs)  -- cast-kept-3
+    (λ c. search needs)  -- mul-kept-5
+    (λ c. search needs)  -- add-kept-2
+    (λ c. search needs)  -- mul-kept-6
+    (λ c. search room-3)  -- slice-write-kept-3
     (λ c. search needs)  -- same-length
     (λ c. search needs))  -- returns

@@ -1,4 +1,5 @@
-use Rattle.trail.proofs.KeepSteps.{near-some, near-low, near-most}
+use Rattle.trail.proofs.KeepSteps.{near-some, near-low, last-at, last-lands, last-short, last-unfit}
+use Rattle.trail.proofs.FindSteps.{none-lands}
 use borrow.Author.Needs.{needs}
 use Rattle.trail.proofs.last_found.Statement.{statement}
 use Rattle.trail.proofs.last_found.Tie as tie
@@ -11,7 +12,11 @@ last-found-spec =
     (λ c κs. search needs)  -- is-near-requires
     (λ c κs. search needs)  -- far-found-requires
     (λ c. search needs)  -- returns
-    (λ c κs. (search needs, (search needs, (search needs, (search near-some, (search near-low, search needs))))))  -- last-of-few-requires
-    (λ c. search needs)  -- returns-2
-    (λ c κs. (search needs, (search needs, (search needs, (search near-some, (search near-low, search near-most))))))  -- last-of-many-requires
-    (λ c. search needs))  -- returns-3
+    (λ c. search needs)  -- add-last-from
+    (λ c κs. (search needs, (search needs, (search near-some, (search near-low, search needs)))))  -- last-from-requires
+    (λ c. search needs)  -- enum-known-place
+    (λ c. search needs)  -- enum-told
+    (λ c. search needs)  -- enum-told-2
+    (λ c. (search last-at, search last-lands))  -- returns-2
+    (λ c. (search last-short, search none-lands))  -- returns-3
+    (λ c. (search last-unfit, search none-lands)))  -- returns-4
