@@ -415,6 +415,12 @@ module _ (r : List ℕ) (k : ℕ) (s : Step) (step : stepTold r s ≡ headCapped
             by-found _ (ap (λ (is : List Id). along d is (typeFrom 16 t ss row) v (standing place start span)) (u .1) ∙ along-from-end d (u .0) (idsFrom r next) (typeFrom 16 t ss row) v (standing place start span))
             (q ∙ ap (λ (j : ℕ). located (index (fromEnd j)) (typeFrom 16 t ss row) v (standing place start span)) (u .2) ∙ located-from-end-capped (u .0) (typeFrom 16 t ss row) v (standing place start span) fits)
 
+    -- the last identifier, a name
+    pub walk-last : (w : Seen) (f : Found) (next a b : ℕ) → length r < next → s ≡ Step.Name a b next → foundTold 16 t ss f ≡ located (name (part r a (b - a))) (typeFrom 16 t ss row) v (standing place start span)
+        → w ≡ run task x (seen (State.Going n) out) (onFound d [] place (goingOn d [] v) (foundTold 16 t ss f))
+        → w ≡ run task x (seen (State.Going n) out) (along d (idsFrom r k) (typeFrom 16 t ss row) v (standing place start span))
+    walk-last w f next a b h e q g = walk-name w f next (found-last t ss v task x out n place d f r next w h g) a b e q
+
 -- ---- the place in the reference rises
 module _ (r : List ℕ) (k : ℕ) (s : Step) (rising : advances r k s ≡ true) (z : ℕ) (e : 4 * (length r + 2 - k) ≡ z) where
   pub name-falls : (a b next : ℕ) → s ≡ Step.Name a b next → 4 * (length r + 2 - next) + 1 < z

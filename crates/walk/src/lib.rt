@@ -540,6 +540,9 @@ fn walk(
     match step {
         Step::Name(a, b, next) => {
             let found = trail::locate_name(t, s, m, v, row, r, a, b, place, start, span);
+            if r.len() < next {
+                return visit_found(t, s, v, text, defaults, task, found, place, n, out);
+            }
             walk_found(
                 t,
                 s,

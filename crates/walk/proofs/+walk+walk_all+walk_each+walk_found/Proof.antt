@@ -4,7 +4,7 @@ use lib.ListN.{length}
 use Prim.Native.Nat.{ℕ, _<_, _*_, _+_, _-_}
 use Rattle.table.specs.Types.{typeFrom}
 use Rattle.walk.specs.Run.{idsFrom}
-use Rattle.walk.proofs.WalkSteps.{Each, name-falls, position-falls, from-end-falls, all-falls, found-falls, each-falls, name-read, position-read, from-end-read, count-read, all-read, walk-name, walk-position, walk-from-end, walk-counts, walk-alls, walk-end, walk-bad, all-none, all-each, element-here, each-start, each-misfit, each-ends, each-fits, each-again, each-accepted, each-over, each-fault, each-done, each-length, lands-row, lands-end, found-last, found-at, found-lacking, found-nothing, found-broken}
+use Rattle.walk.proofs.WalkSteps.{Each, name-falls, position-falls, from-end-falls, all-falls, found-falls, each-falls, name-read, position-read, from-end-read, count-read, all-read, walk-name, walk-last, walk-position, walk-from-end, walk-counts, walk-alls, walk-end, walk-bad, all-none, all-each, element-here, each-start, each-misfit, each-ends, each-fits, each-again, each-accepted, each-over, each-fault, each-done, each-length, lands-row, lands-end, found-last, found-at, found-lacking, found-nothing, found-broken}
 use borrow.Fn.Kinds.{In}
 use borrow.Fn.PlainCycle.{Measures, is, falls, and}
 use Rattle.walk.proofs.walk.Reads as walk
@@ -77,7 +77,7 @@ abbrev walk-each-μ-loop : walk-each-lts.MeasureT-loop
 walk-each-μ-loop t s m v r k text defaults task row start span n out₀ stop step i₀ reached₀ out i reached = stop - i
 
 abbrev walk-claims : ℕ → walk-lts.Claims
-walk-claims t = (locate-name-reads.Asked, locate-name-reads.Learnt, walk-found-below t, walk-found.Post, locate-position-reads.Asked, locate-position-reads.Learnt, locate-from-end-reads.Asked, locate-from-end-reads.Learnt, walk-count-reads.Asked, walk-count-reads.Learnt, walk-all-below t, walk-all.Post, visit-reads.Asked, visit-reads.Learnt)
+walk-claims t = (locate-name-reads.Asked, locate-name-reads.Learnt, visit-found-reads.Asked, visit-found-reads.Learnt, walk-found-below t, walk-found.Post, locate-position-reads.Asked, locate-position-reads.Learnt, locate-from-end-reads.Asked, locate-from-end-reads.Learnt, walk-count-reads.Asked, walk-count-reads.Learnt, walk-all-below t, walk-all.Post, visit-reads.Asked, visit-reads.Learnt)
 
 abbrev walk-all-claims : ℕ → walk-all-lts.Claims
 walk-all-claims t = (row-at-reads.Asked, row-at-reads.Learnt, kind-at-reads.Asked, kind-at-reads.Learnt, is-list-reads.Asked, is-list-reads.Learnt, element-at-reads.Asked, element-at-reads.Learnt, walk-each-below t, walk-each.Post)
@@ -94,6 +94,9 @@ pub +walk+walk-all+walk-each+walk-found-spec : {M : Type 1} → statement M
     (λ t. walk-lts.spec (walk-claims t) (walk-at t) walk.Post
     (λ c. search needs)  -- enum-known-step
     (λ c κs. search needs)  -- locate-name-requires
+    (λ c κs. search needs)  -- visit-found-requires
+    (λ c. search needs)  -- same-length
+    (λ c. search (walk-last, c .before .before .before .before .before .before .before .before .before .before .before .before .before .before .before .before .pre))  -- returns
     (λ c κs. (search name-falls, (search needs, (search needs, (search needs, search name-read)))))  -- walk-found-requires
     (λ c. search needs)  -- enum-known-step-2
     (λ c κs. search needs)  -- locate-position-requires
@@ -109,7 +112,7 @@ pub +walk+walk-all+walk-each+walk-found-spec : {M : Type 1} → statement M
     (λ c κs. search needs)  -- visit-requires
     (λ c. search needs)  -- enum-told-2
     (λ c. search needs)  -- same-length
-    (λ c. search (walk-name, c .before .before .before .before .before .before .before .before .before .before .before .before .before .before .before .pre))  -- returns
+    (λ c. search (walk-name, c .before .before .before .before .before .before .before .before .before .before .before .before .before .before .before .before .pre))  -- returns
     (λ c. search needs)  -- same-length-2
     (λ c. search (walk-position, c .before .before .before .before .before .before .before .before .before .before .before .before .before .before .before .pre))  -- returns-2
     (λ c. search needs)  -- same-length-3
