@@ -5,7 +5,7 @@ use mathlib.Core.Option.{Option, none, some}
 use mathlib.Core.List.{List}
 use Prim.Native.Nat.{ℕ, zero, suc, _≤_, _<_, _+_, _-_}
 use native.Mathlib.Omega.{arith}
-use borrow.Author.Tests.{not-true, not-false, eq-eqb, ne-eqb, eqb-true}
+use borrow.Author.Tests.{eqb-false, not-true, not-false, eq-eqb, ne-eqb, eqb-true}
 use lib.ListN.{length}
 use lib.Dec.{eqb}
 use Rattle.octets.specs.Pick.{pick, bind}
@@ -23,7 +23,7 @@ use Rattle.value.specs.Decode.{tagOctet, inside, inWrapper}
 use Rattle.value.proofs.CheckSteps.{typed-choice, typed-sequence, typed-list, typed-basic}
 use Rattle.value.proofs.Views.{none-some, some-same, bind-view, pick-view, opened-view}
 use Rattle.trail.specs.Opened.{Opened, after, ownHeader, openedAs, openOwn, openAt}
-use Rattle.trail.specs.Work.{choiceHeader}
+use Rattle.trail.specs.Work.{elementTag, choiceHeader}
 use Rattle.trail.specs.declared.Opening.{Opening}
 
 -- ---- the header of a CHOICE
@@ -133,6 +133,24 @@ module _ (chain : ℕ) (t s m : List ℕ) (row : ℕ) (ok : Sound chain t s m) (
   pub at-tag : (o : ℕ) → (k ≡ 13 → ⊥) → o ≡ tagOctet (taggingOf mode number) k → r ≡ opened (insideAt o v at end) (openedAs at) → r ≡ openAt (typeFrom chain t s row) (taggingOf mode number) v at end
   at-tag o h tag e = at-other (typeFrom chain t s row) v at end mode number r unwrapped
       (e ∙ ap (λ (i : Inside). opened i (openedAs at)) (own-plain chain t s m row ok here p k placed read v at end mode number o (insideAt o v at end) h tag refl))
+
+-- ---- of an element, by the tag octet of its row's values
+pub tag-choice : (t s : List ℕ) (row p k : ℕ) → p ≡ rowAt s row → k ≡ kindAt t p → k ≡ 13 → 0 ≡ elementTag (kindAt t (rowAt s row))
+unfolding elementTag
+tag-choice t s row p k placed read h = rw (← placed, ← read, eq-eqb k 13 h)
+
+pub tag-other : (t s : List ℕ) (row p k o : ℕ) → p ≡ rowAt s row → k ≡ kindAt t p → (k ≡ 13 → ⊥) → o ≡ tagOctet (taggingOf 0 0) k → o ≡ elementTag (kindAt t (rowAt s row))
+unfolding elementTag
+tag-other t s row p k o placed read h e = rw (← placed, ← read, ne-eqb k 13 h) e
+
+pub element-opened : (chain : ℕ) (t s m : List ℕ) (row tag : ℕ) → Sound chain t s m → row < length s → tag ≡ elementTag (kindAt t (rowAt s row)) → (tag ≡ 0 → ⊥) → (v : List ℕ) (at end : ℕ) (r : Option Opened)
+    → r ≡ opened (insideAt tag v at end) (openedAs at) → r ≡ openAt (typeFrom chain t s row) (taggingOf 0 0) v at end
+unfolding elementTag
+element-opened chain t s m row tag ok here tagged has v at end r e = go (eqb (kindAt t (rowAt s row)) 13) refl tagged
+  where
+    go : (b : Bool) → eqb (kindAt t (rowAt s row)) 13 ≡ b → tag ≡ pick b 0 (tagOctet (taggingOf 0 0) (kindAt t (rowAt s row))) → r ≡ openAt (typeFrom chain t s row) (taggingOf 0 0) v at end
+    go true q w = absurd (has w)
+    go false q w = at-tag chain t s m row ok here (rowAt s row) (kindAt t (rowAt s row)) refl refl v at end 0 0 (λ z. omega arith) r tag (eqb-false (kindAt t (rowAt s row)) 13 q) w e
 
 -- ---- of a member row, whose parts the code has read
 module _ (chain : ℕ) (t s : List ℕ) (row p target : ℕ) (placed : p ≡ rowAt s row) (targeted : target ≡ typeRowAt t p) where

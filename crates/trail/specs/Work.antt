@@ -7,14 +7,15 @@ use lib.ListN.{length, getD, set}
 use lib.Dec.{ltb, leb, eqb}
 use Rattle.octets.specs.Pick.{pick, both, either}
 use Rattle.octets.specs.Octets.{octet, same}
+use Rattle.der.specs.Kind as kind
 use Rattle.der.specs.Tag.{tagOf}
 use Rattle.der.specs.Header.{headerAt, anyTag}
 use Rattle.der.specs.declared.Inside.{Inside}
 use Rattle.rows.specs.Row.{rowAt}
-use Rattle.table.specs.Types.{untagged, Member, memberOf, Ty, basic, sequence, choice, listOf, typeFrom}
+use Rattle.table.specs.Types.{untagged, taggingOf, Member, memberOf, Ty, basic, sequence, choice, listOf, typeFrom}
 use Rattle.table.specs.Begins.{isMandatory}
 use Rattle.table.specs.Work.{bitOf}
-use Rattle.value.specs.Decode.{startsHere}
+use Rattle.value.specs.Decode.{tagOctet, startsHere}
 use Rattle.reference.specs.Reference.{Index, position, fromEnd, count, all, Id, name, index}
 use Rattle.trail.specs.Opened.{Opened, after, openAt}
 use Rattle.trail.specs.Trail as trail
@@ -135,6 +136,10 @@ ofLast n f (some size) = pick (leb n size) (f (size + 1 - n)) trail.nothing
 
 unfoldable pub lastFound : Ty → List ℕ → ℕ → ℕ → ℕ → trail.Found
 lastFound ty v start span n = ofLast n (nthFound ty v start span) (trail.countFrom (openAt ty untagged v) span (start + span) 0 start)
+
+-- the tag octet of a kind's values; 0 for a CHOICE, which has none of its own
+unfoldable pub elementTag : ℕ → ℕ
+elementTag k = pick (eqb k kind.choice) 0 (tagOctet (taggingOf 0 0) k)
 
 -- ---- the last elements kept in lent memory, three numbers at a slot: place, start of contents, their length
 unfoldable pub keep : ℕ → ℕ → ℕ → ℕ → List ℕ → List ℕ

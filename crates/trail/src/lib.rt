@@ -184,6 +184,39 @@ pub fn open_member(
 }
 
 // ---- elements of a list
+// The tag octet of a row's values; 0 for a CHOICE, which has none of its own.
+pub fn element_tag(t: &[u8], s: &[usize], row: usize) -> usize
+    ensures { λ r. ⌜ r ≡ work.elementTag (kindAt (now (t .entry)) (rowAt (now (s .entry)) row)) ⌝ }
+{
+    let kind = rows::kind_at(t, rows::row_at(s, row));
+    if kind == 13 {
+        return 0;
+    }
+    value::tag_octet(0, 0, kind)
+}
+
+// An element of the type of a row that begins at a place, before an end, where tag is the tag octet of the row's values.
+pub fn open_element(
+    t: &[u8],
+    s: &[usize],
+    m: &[u64],
+    v: &[u8],
+    row: usize,
+    tag: usize,
+    at: usize,
+    end: usize,
+) -> Opening
+    requires sound { do ⌜ Sound (← ⟦rows::Table::MAX_CHAIN⟧) (now t) (now s) (now m) ⌝ }
+    requires here { ⌜ row < length (now s) ⌝ }
+    requires tagged { ⌜ tag ≡ work.elementTag (kindAt (now t) (rowAt (now s) row)) ⌝ }
+    ensures { λ r. do ⌜ work.openingTold r ≡ openAt (typeFrom (← ⟦rows::Table::MAX_CHAIN⟧ .entry) (now (t .entry)) (now (s .entry)) row) (taggingOf 0 0) (now (v .entry)) at end ⌝ }
+{
+    if tag == 0 {
+        return open_at(t, s, m, v, row, 0, 0, at, end);
+    }
+    open_tagged(tag, v, at, end)
+}
+
 // How many elements of the type of a row there are from start up to stop.
 pub fn count_elements(
     t: &[u8],
@@ -199,10 +232,11 @@ pub fn count_elements(
     requires ordered { ⌜ start ≤ stop ⌝ }
     ensures { λ r. do ⌜ work.countedTold r ≡ countFrom (openAt (typeFrom (← ⟦rows::Table::MAX_CHAIN⟧ .entry) (now (t .entry)) (now (s .entry)) row) untagged (now (v .entry))) (stop - start) stop 0 start ⌝ }
 {
+    let tag = element_tag(t, s, row);
     let mut i = start;
     let mut n = 0;
     while i < stop {
-        let Opening::Of(_, from, span) = open_at(t, s, m, v, row, 0, 0, i, stop) else {
+        let Opening::Of(_, from, span) = open_element(t, s, m, v, row, tag, i, stop) else {
             return Counted::Misfit;
         };
         i = from + span;
@@ -236,10 +270,11 @@ pub fn nth_element(
     requires ordered { ⌜ start ≤ stop ⌝ }
     ensures { λ r. do ⌜ work.nthTold r ≡ work.nthFrom (openAt (typeFrom (← ⟦rows::Table::MAX_CHAIN⟧ .entry) (now (t .entry)) (now (s .entry)) row) untagged (now (v .entry))) (stop - start) stop n start ⌝ }
 {
+    let tag = element_tag(t, s, row);
     let mut i = start;
     let mut left = n;
     while i < stop {
-        let Opening::Of(place, from, span) = open_at(t, s, m, v, row, 0, 0, i, stop) else {
+        let Opening::Of(place, from, span) = open_element(t, s, m, v, row, tag, i, stop) else {
             return Nth::Misfit;
         };
         if left == 1 {
@@ -539,6 +574,7 @@ fn last_from(
     requires ordered { ⌜ at ≤ stop ⌝ }
     ensures { λ r. do ⌜ work.tailTold r ≡ work.tailFrom (openAt (typeFrom (← ⟦rows::Table::MAX_CHAIN⟧ .entry) (now (t .entry)) (now (s .entry)) row) untagged (now (v .entry))) (stop - at) stop i at ⌝ }
 {
+    let tag = element_tag(t, s, row);
     let mut kept = [0u16; KEPT * 3];
     let mut p = at;
     let mut n = 0;
@@ -546,7 +582,7 @@ fn last_from(
         if stop <= p {
             return kept_tail(&kept, n, i, 0);
         }
-        let Opening::Of(place, from, size) = open_at(t, s, m, v, row, 0, 0, p, stop) else {
+        let Opening::Of(place, from, size) = open_element(t, s, m, v, row, tag, p, stop) else {
             return Tail::Broken;
         };
         keep_element(&mut kept, n, place, from, size);

@@ -424,10 +424,11 @@ fn walk_each(
 {
     let stop = start + span;
     let step = reference::next_id(r, k);
+    let tag = trail::element_tag(t, s, row);
     let mut i = start;
     let mut reached = n;
     while i < stop {
-        let Opening::Of(at, from, len) = trail::open_at(t, s, m, v, row, 0, 0, i, stop) else {
+        let Opening::Of(at, from, len) = trail::open_element(t, s, m, v, row, tag, i, stop) else {
             return State::Fault;
         };
         let next = from + len;

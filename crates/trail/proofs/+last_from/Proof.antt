@@ -7,9 +7,10 @@ use borrow.Fn.PlainCycle.{Measures, is, falls, and}
 use Rattle.trail.proofs.last_from.Reads as last-from
 use Rattle.trail.proofs.last_from.Kinds as last-from-kinds
 use Rattle.trail.proofs.+last_from.Lts-last_from as last-from-lts
+use Rattle.trail.proofs.element_tag.Reads as element-tag-reads
 use Rattle.trail.proofs.keep_element.Reads as keep-element-reads
 use Rattle.trail.proofs.kept_tail.Reads as kept-tail-reads
-use Rattle.trail.proofs.open_at.Reads as open-at-reads
+use Rattle.trail.proofs.open_element.Reads as open-element-reads
 use Rattle.trail.proofs.+last_from.{statement}
 use Rattle.trail.proofs.+last_from.Tie.{close}
 
@@ -23,23 +24,24 @@ abbrev last-from-below : ℕ → In 4 last-from-kinds.ps
 last-from-below t = and 4 last-from-kinds.ps (falls 4 last-from-kinds.ps _<_ μ-last-from t) last-from.Pre
 
 abbrev Inv-loop : last-from-lts.InvT-loop
-Inv-loop t s m v row at stop i kept₀ p₀ n₀ kept p n = Keeping (typeFrom 16 t s row) v stop i at kept p n
+Inv-loop t s m v row at stop i tag kept₀ p₀ n₀ kept p n = Keeping (typeFrom 16 t s row) v stop i at kept p n
 
 abbrev μ-loop : last-from-lts.MeasureT-loop
-μ-loop t s m v row at stop i kept₀ p₀ n₀ kept p n = 64 - n
+μ-loop t s m v row at stop i tag kept₀ p₀ n₀ kept p n = 64 - n
 
 abbrev claims : ℕ → last-from-lts.Claims
-claims t = (kept-tail-reads.Asked, kept-tail-reads.Learnt, open-at-reads.Asked, open-at-reads.Learnt, keep-element-reads.Asked, keep-element-reads.Learnt, last-from-below t, last-from.Post)
+claims t = (element-tag-reads.Asked, element-tag-reads.Learnt, kept-tail-reads.Asked, kept-tail-reads.Learnt, open-element-reads.Asked, open-element-reads.Learnt, keep-element-reads.Asked, keep-element-reads.Learnt, last-from-below t, last-from.Post)
 
 pub +last-from-spec : {M : Type 1} → statement M
 +last-from-spec =
     close μ-last-from
     (λ t. last-from-lts.spec (claims t) (last-from-at t) last-from.Post Inv-loop μ-loop
+    (λ c κs. search needs)  -- element-tag-requires
     (λ c. search keep-start)  -- loop-holds
     (λ c. search needs)  -- slice-aggregate-kept-tail
     (λ c κs. (search keep-room, (search needs, search keep-small)))  -- kept-tail-requires
     (λ c. search keep-ends)  -- returns
-    (λ c κs. search needs)  -- open-at-requires
+    (λ c κs. search needs)  -- open-element-requires
     (λ c. search needs)  -- enum-known-place
     (λ c. search needs)  -- enum-told
     (λ c. search keep-misfit)  -- returns-2

@@ -6,10 +6,10 @@ use Rattle.trail.proofs.count_elements.Statement.{statement}
 use Rattle.trail.proofs.count_elements.Tie as tie
 
 abbrev Inv-loop : tie.InvT-loop
-Inv-loop t s m v row start stop i₀ n₀ i n = Counting (typeFrom 16 t s row) v start stop i n
+Inv-loop t s m v row start stop tag i₀ n₀ i n = Counting (typeFrom 16 t s row) v start stop i n
 
 abbrev μ-loop : tie.MeasureT-loop
-μ-loop t s m v row start stop i₀ n₀ i n = stop - i
+μ-loop t s m v row start stop tag i₀ n₀ i n = stop - i
 
 pub count-elements-spec : {M : Type 1} → statement M
 count-elements-spec =
@@ -17,8 +17,9 @@ count-elements-spec =
     (tie.spec
     Inv-loop
     μ-loop
+    (λ c κs. search needs)  -- element-tag-requires
     (λ c. search count-start)  -- loop-holds
-    (λ c κs. search needs)  -- open-at-requires
+    (λ c κs. search needs)  -- open-element-requires
     (λ c. search needs)  -- enum-known-from
     (λ c. search needs)  -- enum-told
     (λ c. search count-bad)  -- returns

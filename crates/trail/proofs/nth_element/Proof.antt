@@ -6,10 +6,10 @@ use Rattle.trail.proofs.nth_element.Statement.{statement}
 use Rattle.trail.proofs.nth_element.Tie as tie
 
 abbrev Inv-loop : tie.InvT-loop
-Inv-loop t s m v row start stop n i₀ left₀ i left = Seeking (typeFrom 16 t s row) v start stop n i left
+Inv-loop t s m v row start stop n tag i₀ left₀ i left = Seeking (typeFrom 16 t s row) v start stop n i left
 
 abbrev μ-loop : tie.MeasureT-loop
-μ-loop t s m v row start stop n i₀ left₀ i left = stop - i
+μ-loop t s m v row start stop n tag i₀ left₀ i left = stop - i
 
 pub nth-element-spec : {M : Type 1} → statement M
 nth-element-spec =
@@ -17,8 +17,9 @@ nth-element-spec =
     (tie.spec
     Inv-loop
     μ-loop
+    (λ c κs. search needs)  -- element-tag-requires
     (λ c. search nth-start)  -- loop-holds
-    (λ c κs. search needs)  -- open-at-requires
+    (λ c κs. search needs)  -- open-element-requires
     (λ c. search needs)  -- enum-known-place
     (λ c. search needs)  -- enum-told
     (λ c. search nth-bad)  -- returns

@@ -27,7 +27,8 @@ use Rattle.rows.proofs.row_at.Reads as row-at-reads
 use Rattle.trail.proofs.locate_from_end.Reads as locate-from-end-reads
 use Rattle.trail.proofs.locate_name.Reads as locate-name-reads
 use Rattle.trail.proofs.locate_position.Reads as locate-position-reads
-use Rattle.trail.proofs.open_at.Reads as open-at-reads
+use Rattle.trail.proofs.element_tag.Reads as element-tag-reads
+use Rattle.trail.proofs.open_element.Reads as open-element-reads
 use Rattle.walk.proofs.visit.Reads as visit-reads
 use Rattle.walk.proofs.visit_found.Reads as visit-found-reads
 use Rattle.walk.proofs.walk_count.Reads as walk-count-reads
@@ -71,10 +72,10 @@ abbrev walk-found-below : ℕ → In 7 walk-found-kinds.ps
 walk-found-below t = and 7 walk-found-kinds.ps (falls 7 walk-found-kinds.ps _<_ μ-walk-found t) walk-found.Pre
 
 abbrev walk-each-Inv-loop : walk-each-lts.InvT-loop
-walk-each-Inv-loop t s m v r k text defaults task row start span n out₀ stop step i₀ reached₀ out i reached = Each task text defaults (idsFrom r k) (typeFrom 16 t s row) v start span n out₀ stop out i reached
+walk-each-Inv-loop t s m v r k text defaults task row start span n out₀ stop step tag i₀ reached₀ out i reached = Each task text defaults (idsFrom r k) (typeFrom 16 t s row) v start span n out₀ stop out i reached
 
 abbrev walk-each-μ-loop : walk-each-lts.MeasureT-loop
-walk-each-μ-loop t s m v r k text defaults task row start span n out₀ stop step i₀ reached₀ out i reached = stop - i
+walk-each-μ-loop t s m v r k text defaults task row start span n out₀ stop step tag i₀ reached₀ out i reached = stop - i
 
 abbrev walk-claims : ℕ → walk-lts.Claims
 walk-claims t = (locate-name-reads.Asked, locate-name-reads.Learnt, visit-found-reads.Asked, visit-found-reads.Learnt, walk-found-below t, walk-found.Post, locate-position-reads.Asked, locate-position-reads.Learnt, locate-from-end-reads.Asked, locate-from-end-reads.Learnt, walk-count-reads.Asked, walk-count-reads.Learnt, walk-all-below t, walk-all.Post, visit-reads.Asked, visit-reads.Learnt)
@@ -83,7 +84,7 @@ abbrev walk-all-claims : ℕ → walk-all-lts.Claims
 walk-all-claims t = (row-at-reads.Asked, row-at-reads.Learnt, kind-at-reads.Asked, kind-at-reads.Learnt, is-list-reads.Asked, is-list-reads.Learnt, element-at-reads.Asked, element-at-reads.Learnt, walk-each-below t, walk-each.Post)
 
 abbrev walk-each-claims : ℕ → walk-each-lts.Claims
-walk-each-claims t = (next-id-reads.Asked, next-id-reads.Learnt, open-at-reads.Asked, open-at-reads.Learnt, walk-below t, walk.Post)
+walk-each-claims t = (next-id-reads.Asked, next-id-reads.Learnt, element-tag-reads.Asked, element-tag-reads.Learnt, open-element-reads.Asked, open-element-reads.Learnt, walk-below t, walk.Post)
 
 abbrev walk-found-claims : ℕ → walk-found-lts.Claims
 walk-found-claims t = (visit-found-reads.Asked, visit-found-reads.Learnt, next-id-reads.Asked, next-id-reads.Learnt, walk-below t, walk.Post)
@@ -136,14 +137,15 @@ pub +walk+walk-all+walk-each+walk-found-spec : {M : Type 1} → statement M
     (λ t. walk-each-lts.spec (walk-each-claims t) (walk-each-at t) walk-each.Post walk-each-Inv-loop walk-each-μ-loop
     (λ c. search needs)  -- add-stop
     (λ c κs. search needs)  -- next-id-requires
+    (λ c κs. search needs)  -- element-tag-requires
     (λ c. search each-start)  -- loop-holds
-    (λ c κs. search needs)  -- open-at-requires
+    (λ c κs. search needs)  -- open-element-requires
     (λ c. search needs)  -- enum-known-at
     (λ c. search needs)  -- enum-told
     (λ c. search each-length)  -- same-length
     (λ c. search each-misfit)  -- returns
     (λ c. record { fits = search each-fits })  -- add-next
-    (λ c κs. (search found-falls, (search needs, (search needs, (search each-ends, (search needs, (search needs, (search needs, search needs))))))))  -- walk-requires
+    (λ c κs. (search found-falls, (search needs, (search needs, (search each-ends, (search (needs, c .before .before .before .before .before .before .before .before .before .before .before .before .before .before .before .before .pre), (search (needs, c .before .before .before .before .before .before .before .before .before .before .before .before .before .before .before .before .pre), (search needs, search needs))))))))  -- walk-requires
     (λ c. search needs)  -- enum-known-more
     (λ c. search element-less)  -- loop-less
     (λ c. search each-again)  -- loop-again
