@@ -1,4 +1,3 @@
-pub mod Tests
 pub mod Steps
 pub mod LaterSteps
 pub mod ChainSteps

@@ -7,10 +7,11 @@ ghost use Rattle.octets.specs.Pick.{all};
 ghost use Rattle.rows.specs.Row as row;
 ghost use Rattle.groups.specs.Clauses as clause;
 ghost use Rattle.groups.specs.Work as work;
+ghost use Rattle.rows.specs.Paper.{tableLimits};
 
 // ---- bodies
 fn body_formed(t: &[u8], s: &[usize], i: usize) -> bool
-    ensures { λ r. do ⌜ r ≡ clause.bodyFormed (← ⟦rows::Table::MAX_MEMBERS⟧ .entry) (← ⟦rows::Table::MAX_NAME⟧ .entry) (now (t .entry)) (now (s .entry)) i ⌝ }
+    ensures { λ r. ⌜ r ≡ clause.bodyFormed (tableLimits .members) (tableLimits .name) (now (t .entry)) (now (s .entry)) i ⌝ }
 {
     rows::row_formed(t, rows::row_at(s, i))
 }
@@ -221,7 +222,7 @@ fn members_agree(t: &[u8], s: &[usize], i: usize) -> bool
 
 // Whether the clauses on one row hold of it: its body, the row that it names, its members.
 fn row_agrees(t: &[u8], s: &[usize], i: usize) -> bool
-    ensures { λ r. do ⌜ r ≡ work.rowAgrees (← ⟦rows::Table::MAX_MEMBERS⟧ .entry) (← ⟦rows::Table::MAX_NAME⟧ .entry) (now (t .entry)) (now (s .entry)) i ⌝ }
+    ensures { λ r. ⌜ r ≡ work.rowAgrees (tableLimits .members) (tableLimits .name) (now (t .entry)) (now (s .entry)) i ⌝ }
 {
     if !body_formed(t, s, i) {
         return false;
@@ -234,7 +235,7 @@ fn row_agrees(t: &[u8], s: &[usize], i: usize) -> bool
 
 // The same of all rows, in one pass.
 pub fn rows_agree(t: &[u8], s: &[usize]) -> bool
-    ensures { λ r. do ⌜ r ≡ clause.everyRow (work.rowAgrees (← ⟦rows::Table::MAX_MEMBERS⟧ .entry) (← ⟦rows::Table::MAX_NAME⟧ .entry) (now (t .entry)) (now (s .entry))) (now (s .entry)) ⌝ }
+    ensures { λ r. ⌜ r ≡ clause.everyRow (work.rowAgrees (tableLimits .members) (tableLimits .name) (now (t .entry)) (now (s .entry))) (now (s .entry)) ⌝ }
 {
     let mut i = 0;
     while i < s.len() {
@@ -293,10 +294,10 @@ fn deepest(d: &[usize], t: &[u8], s: &[usize], i: usize) -> usize
 
 // Whether chains of rows, each naming the next, are within the limit.
 pub fn chains_short(t: &[u8], s: &[usize]) -> bool
-    requires few { do ⌜ length (now s) ≤ (← ⟦rows::Table::MAX_ROWS⟧) ⌝ }
+    requires few { ⌜ length (now s) ≤ (tableLimits .rows) ⌝ }
     requires later { ⌜ clause.everyRow (clause.pointsLater (now t) (now s)) (now s) ≡ true ⌝ }
     requires stand { ⌜ clause.membersStand (now t) (now s) ≡ true ⌝ }
-    ensures { λ r. do ⌜ r ≡ clause.everyRow (clause.chainFits (← ⟦rows::Table::MAX_CHAIN⟧ .entry) (now (t .entry)) (now (s .entry))) (now (s .entry)) ⌝ }
+    ensures { λ r. ⌜ r ≡ clause.everyRow (clause.chainFits (tableLimits .chain) (now (t .entry)) (now (s .entry))) (now (s .entry)) ⌝ }
 {
     let mut d = [0usize; rows::Table::MAX_ROWS];
     let mut i = s.len();

@@ -1,9 +1,10 @@
 -- The definitions of this crate and those below, as one name for the `unfolding` line of a computed example.
 use Prim.Native.Nat.{ℕ}
 use Rattle.der.specs.Computing.{derComputes}
+use Rattle.rows.specs.Limits.{tableFits}
 use Rattle.rows.specs.Row.{isGroup, isList, rowSize, rowsFrom, rows, membersAt}
 use Rattle.rows.specs.Body.{countFormed, follows, followed, nameFormed, taggingFormed, tagFormed, presenceFormed, defaultFilled, memberFormed, rowFormed}
 
 unfoldable pub rowsCompute : ℕ
-unfolding derComputes isGroup isList rowSize rowsFrom rows membersAt countFormed follows followed nameFormed taggingFormed tagFormed presenceFormed defaultFilled memberFormed rowFormed
+unfolding derComputes tableFits isGroup isList rowSize rowsFrom rows membersAt countFormed follows followed nameFormed taggingFormed tagFormed presenceFormed defaultFilled memberFormed rowFormed
 rowsCompute = 0

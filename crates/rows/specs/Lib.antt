@@ -1,4 +1,5 @@
 pub mod Limits
+pub mod Paper
 pub mod Row
 pub mod Body
 pub mod Computing

@@ -1,11 +1,18 @@
--- The limits of what a table holds: rows, type rows in a chain, members of a SEQUENCE or CHOICE, octets of a name.
+-- The limits of a table: its octets, its rows, the type rows of a chain, the members of a SEQUENCE or CHOICE, the octets of a name.
 use Prim.Native.Nat.{ℕ}
+use mathlib.Core.Bool.{Bool}
+use mathlib.Core.List.{List}
+use lib.ListN.{length}
+use Rattle.octets.specs.Text.{within}
 
 pub record Limits : Type 0 where
+  pub least : ℕ
+  pub most : ℕ
   pub rows : ℕ
   pub chain : ℕ
   pub members : ℕ
   pub name : ℕ
 
-abbrev pub limits : ℕ → ℕ → ℕ → ℕ → Limits
-limits rows chain members name = record { rows = rows; chain = chain; members = members; name = name }
+-- refusal 1: the table's size
+unfoldable pub tableFits : Limits → List ℕ → Bool
+tableFits l t = within (l .least) (l .most) (length t)

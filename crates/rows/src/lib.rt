@@ -6,6 +6,8 @@ ghost use Rattle.octets.specs.Pick.{all};
 ghost use Rattle.octets.specs.Octets.{octet, two, part, every};
 ghost use Rattle.rows.specs.Row as row;
 ghost use Rattle.rows.specs.Body as body;
+ghost use Rattle.rows.specs.Limits.{tableFits};
+ghost use Rattle.rows.specs.Paper.{tableLimits};
 
 // A table: how many rows it has, and the limits of every table.
 pub struct Table {
@@ -13,6 +15,8 @@ pub struct Table {
 }
 
 impl Table {
+    pub const MIN_BYTES: usize = 1;
+
     pub const MAX_BYTES: usize = 4992;
 
     pub const MAX_ROWS: usize = 128;
@@ -28,6 +32,16 @@ impl Table {
         ensures { λ r. ⌜ r .rows ≡ rows ⌝ }
     {
         Self { rows }
+    }
+
+    // Whether a table may have so many octets.
+    pub fn fits(table: &[u8]) -> bool
+        ensures { λ r. ⌜ r ≡ tableFits tableLimits (now (table .entry)) ⌝ }
+    {
+        if table.len() < Self::MIN_BYTES {
+            return false;
+        }
+        table.len() <= Self::MAX_BYTES
     }
 }
 
@@ -172,10 +186,10 @@ fn row_size(kind: u8) -> usize
 
 // Writes the places of a table's rows, and answers how many there are; none where it isn't a table of whole rows within the limit.
 pub fn scan(t: &[u8], s: &mut [usize]) -> usize
-    requires { do ⌜ length (now s) ≡ (← ⟦Table::MAX_ROWS⟧) ⌝ }
-    ensures count { λ r. do ⌜ r ≡ length (row.rows (← ⟦Table::MAX_ROWS⟧ .entry) (now (t .entry))) ⌝ }
-    ensures places { λ r. do ⌜ take r (now (s .exit)) ≡ row.rows (← ⟦Table::MAX_ROWS⟧ .entry) (now (t .entry)) ⌝ }
-    ensures few { λ r. do ⌜ r ≤ (← ⟦Table::MAX_ROWS⟧ .entry) ⌝ }
+    requires { ⌜ length (now s) ≡ tableLimits .rows ⌝ }
+    ensures count { λ r. ⌜ r ≡ length (row.rows (tableLimits .rows) (now (t .entry))) ⌝ }
+    ensures places { λ r. ⌜ take r (now (s .exit)) ≡ row.rows (tableLimits .rows) (now (t .entry)) ⌝ }
+    ensures few { λ r. ⌜ r ≤ tableLimits .rows ⌝ }
 {
     let mut at = 0;
     let mut n = 0;
@@ -209,7 +223,7 @@ pub fn members_at(t: &[u8], p: usize) -> usize
 
 // ---- bodies
 fn count_formed(t: &[u8], p: usize) -> bool
-    ensures { λ r. do ⌜ r ≡ body.countFormed (← ⟦Table::MAX_MEMBERS⟧ .entry) (now (t .entry)) p ⌝ }
+    ensures { λ r. ⌜ r ≡ body.countFormed (tableLimits .members) (now (t .entry)) p ⌝ }
 {
     let kind = kind_at(t, p);
     if kind == 12 {
@@ -241,7 +255,7 @@ fn may_follow(a: u8, b: u8) -> bool
 
 // Whether each octet of a name may follow the one before it. Where the fill starts, all that is left of the name has to be fill.
 fn name_spelt(t: &[u8], p: usize) -> bool
-    ensures { λ r. do ⌜ r ≡ all (body.followed (now (t .entry)) p) ((← ⟦Table::MAX_NAME⟧ .entry) - 1) ⌝ }
+    ensures { λ r. ⌜ r ≡ all (body.followed (now (t .entry)) p) (tableLimits .name - 1) ⌝ }
 {
     let row = from(t, p);
     let mut j = 0;
@@ -262,7 +276,7 @@ fn name_spelt(t: &[u8], p: usize) -> bool
 }
 
 fn name_formed(t: &[u8], p: usize) -> bool
-    ensures { λ r. do ⌜ r ≡ body.nameFormed (← ⟦Table::MAX_NAME⟧ .entry) (now (t .entry)) p ⌝ }
+    ensures { λ r. ⌜ r ≡ body.nameFormed (tableLimits .name) (now (t .entry)) p ⌝ }
 {
     if !octets::is_lower(field(t, p, 1)) {
         return false;
@@ -305,7 +319,7 @@ fn default_filled(t: &[u8], p: usize) -> bool
 }
 
 fn member_formed(t: &[u8], p: usize) -> bool
-    ensures { λ r. do ⌜ r ≡ body.memberFormed (← ⟦Table::MAX_NAME⟧ .entry) (now (t .entry)) p ⌝ }
+    ensures { λ r. ⌜ r ≡ body.memberFormed (tableLimits .name) (now (t .entry)) p ⌝ }
 {
     if !name_formed(t, p) {
         return false;
@@ -321,7 +335,7 @@ fn member_formed(t: &[u8], p: usize) -> bool
 
 // Whether a row's body is as the type table has it.
 pub fn row_formed(t: &[u8], p: usize) -> bool
-    ensures { λ r. do ⌜ r ≡ body.rowFormed (← ⟦Table::MAX_MEMBERS⟧ .entry) (← ⟦Table::MAX_NAME⟧ .entry) (now (t .entry)) p ⌝ }
+    ensures { λ r. ⌜ r ≡ body.rowFormed (tableLimits .members) (tableLimits .name) (now (t .entry)) p ⌝ }
 {
     if kind_at(t, p) == 16 {
         return member_formed(t, p);

@@ -8,13 +8,15 @@ use borrow.Author.Tests.{not-true, not-false, lt-leb, le-leb, leb-true}
 use lib.ListN.{length, take}
 use Rattle.octets.specs.Pick.{pick, both, no, all}
 use Rattle.octets.proofs.Laws.{both-true}
-use Rattle.rows.specs.Limits.{limits}
+use Rattle.rows.specs.Limits.{tableFits}
+use Rattle.rows.specs.Paper.{tableLimits}
 use Rattle.rows.specs.Row.{rows}
 use Rattle.groups.specs.Clauses.{everyRow, wholeRows, bodyFormed, isType, firstIsType, pointsLater, membersStand, namesDiffer, alternativesMandatory, noImplicitChoice, defaultLegal, chainFits}
 use Rattle.groups.specs.Work.{membersAgreeAt, rowAgrees}
 use Rattle.table.specs.Admitted.{tagsDiffer, rowsFormed, rowsNamed, membersAgree, typesFit, admittedRows, admitted, rowCount}
 use Rattle.table.specs.Work.{Masked, Admits}
-use Rattle.table.specs.Check.{refused, admits, isRefused, tableFits, admission}
+use Rattle.rows.specs.declared.Table.{Table}
+use Rattle.table.specs.Check.{refused, admits, tableReport}
 
 pub told-true : (a b : Bool) → a ≡ b → not a ≡ false → b ≡ true
 told-true a b e h = sym e ∙ not-false a h
@@ -46,20 +48,20 @@ module _ (t s : List ℕ) where
       all-both (bodyFormed most name t s) (λ (i : ℕ). both (pointsLater t s i) (membersAgreeAt t s i)) (length s)
       ∙ ap (both (everyRow (bodyFormed most name t s) s)) (all-both (pointsLater t s) (membersAgreeAt t s) (length s) ∙ ap (both (everyRow (pointsLater t s) s)) members-each)
 
-  pub fit-none : length s < 1 → false ≡ both (rowsFormed 128 16 24 t s) (both (rowsNamed t s) (membersAgree t s))
+  pub fit-none : length s < 1 → false ≡ both (rowsFormed (tableLimits .rows) (tableLimits .members) (tableLimits .name) t s) (both (rowsNamed t s) (membersAgree t s))
   unfolding rowsFormed wholeRows
   fit-none h = rw (lt-leb 1 (length s) h)
 
   module _ (h : 1 ≤ length s) where
-    pub fit-many : 128 < length s → false ≡ both (rowsFormed 128 16 24 t s) (both (rowsNamed t s) (membersAgree t s))
+    pub fit-many : tableLimits .rows < length s → false ≡ both (rowsFormed (tableLimits .rows) (tableLimits .members) (tableLimits .name) t s) (both (rowsNamed t s) (membersAgree t s))
     unfolding rowsFormed wholeRows
-    fit-many g = rw (le-leb 1 (length s) h, lt-leb (length s) 128 g)
+    fit-many g = rw (le-leb 1 (length s) h, lt-leb (length s) (tableLimits .rows) g)
 
-    module _ (g : length s ≤ 128) (r : Bool) (told : r ≡ everyRow (rowAgrees 16 24 t s) s) where
+    module _ (g : length s ≤ tableLimits .rows) (r : Bool) (told : r ≡ everyRow (rowAgrees (tableLimits .members) (tableLimits .name) t s) s) where
       -- by the clauses on one row, that row 0 is a type, and where members stand
-      by-rows : both (rowsFormed 128 16 24 t s) (both (rowsNamed t s) (membersAgree t s)) ≡ both r (both (isType t s 0) (membersStand t s))
+      by-rows : both (rowsFormed (tableLimits .rows) (tableLimits .members) (tableLimits .name) t s) (both (rowsNamed t s) (membersAgree t s)) ≡ both r (both (isType t s 0) (membersStand t s))
       unfolding rowsFormed wholeRows rowsNamed firstIsType
-      by-rows = rw (le-leb 1 (length s) h, le-leb (length s) 128 g, told ∙ each 16 24) (ordered (everyRow (bodyFormed 16 24 t s) s) (isType t s 0) (everyRow (pointsLater t s) s) (membersStand t s) (membersAgree t s))
+      by-rows = rw (le-leb 1 (length s) h, le-leb (length s) (tableLimits .rows) g, told ∙ each (tableLimits .members) (tableLimits .name)) (ordered (everyRow (bodyFormed (tableLimits .members) (tableLimits .name) t s) s) (isType t s 0) (everyRow (pointsLater t s) s) (membersStand t s) (membersAgree t s))
         where
           ordered : (a d b e c : Bool) → both (both a d) (both (both b e) c) ≡ both (both a (both b c)) (both d e)
           ordered true true true true c = swap c
@@ -75,14 +77,14 @@ module _ (t s : List ℕ) where
           ordered true false false e c = refl
           ordered false d b e c = refl
 
-      pub fit-disagree : not r ≡ true → false ≡ both (rowsFormed 128 16 24 t s) (both (rowsNamed t s) (membersAgree t s))
+      pub fit-disagree : not r ≡ true → false ≡ both (rowsFormed (tableLimits .rows) (tableLimits .members) (tableLimits .name) t s) (both (rowsNamed t s) (membersAgree t s))
       fit-disagree e = sym (by-rows ∙ ap (λ (x : Bool). both x (both (isType t s 0) (membersStand t s))) (not-true r e))
 
       module _ (agree : not r ≡ false) (a : Bool) (typed : a ≡ isType t s 0) where
-        pub fit-untyped : not a ≡ true → false ≡ both (rowsFormed 128 16 24 t s) (both (rowsNamed t s) (membersAgree t s))
+        pub fit-untyped : not a ≡ true → false ≡ both (rowsFormed (tableLimits .rows) (tableLimits .members) (tableLimits .name) t s) (both (rowsNamed t s) (membersAgree t s))
         fit-untyped e = sym (by-rows ∙ ap₂ (λ (x y : Bool). both x (both y (membersStand t s))) (not-false r agree) (sym typed ∙ not-true a e))
 
-        pub fit-is : (u : Bool) → not a ≡ false → u ≡ membersStand t s → u ≡ both (rowsFormed 128 16 24 t s) (both (rowsNamed t s) (membersAgree t s))
+        pub fit-is : (u : Bool) → not a ≡ false → u ≡ membersStand t s → u ≡ both (rowsFormed (tableLimits .rows) (tableLimits .members) (tableLimits .name) t s) (both (rowsNamed t s) (membersAgree t s))
         fit-is u e q = q ∙ sym (by-rows ∙ ap₂ (λ (x y : Bool). both x (both y (membersStand t s))) (not-false r agree) (sym typed ∙ not-false a e))
 
   pub named-points : rowsNamed t s ≡ true → everyRow (pointsLater t s) s ≡ true
@@ -93,101 +95,83 @@ module _ (t s : List ℕ) where
   unfolding rowsNamed
   named-stand e = both-true (everyRow (pointsLater t s) s) _ e .1
 
-  module _ (r : Bool) (chains : r ≡ everyRow (chainFits 16 t s) s) where
-    pub types-long : not r ≡ true → false ≡ typesFit 16 t s
+  module _ (r : Bool) (chains : r ≡ everyRow (chainFits (tableLimits .chain) t s) s) where
+    pub types-long : not r ≡ true → false ≡ typesFit (tableLimits .chain) t s
     unfolding typesFit
     types-long e = rw (sym chains ∙ not-true r e)
 
-    pub types-are : (u : Bool) → not r ≡ false → u ≡ everyRow (tagsDiffer 16 t s) s → u ≡ typesFit 16 t s
+    pub types-are : (u : Bool) → not r ≡ false → u ≡ everyRow (tagsDiffer (tableLimits .chain) t s) s → u ≡ typesFit (tableLimits .chain) t s
     unfolding typesFit
     types-are u e q = rw (sym chains ∙ not-false r e) q
 
-  module _ (a : Bool) (fit : a ≡ both (rowsFormed 128 16 24 t s) (both (rowsNamed t s) (membersAgree t s))) where
-    all-clauses : admittedRows (limits 128 16 16 24) t s ≡ both a (typesFit 16 t s)
+  module _ (a : Bool) (fit : a ≡ both (rowsFormed (tableLimits .rows) (tableLimits .members) (tableLimits .name) t s) (both (rowsNamed t s) (membersAgree t s))) where
+    all-clauses : admittedRows tableLimits t s ≡ both a (typesFit (tableLimits .chain) t s)
     unfolding admittedRows
-    all-clauses = rw fit (grouped (rowsFormed 128 16 24 t s) (rowsNamed t s) (membersAgree t s) (typesFit 16 t s))
+    all-clauses = rw fit (grouped (rowsFormed (tableLimits .rows) (tableLimits .members) (tableLimits .name) t s) (rowsNamed t s) (membersAgree t s) (typesFit (tableLimits .chain) t s))
       where
         grouped : (x y z w : Bool) → both x (both y (both z w)) ≡ both (both x (both y z)) w
         grouped true true z w = refl
         grouped true false z w = refl
         grouped false y z w = refl
 
-    pub rows-misfit : not a ≡ true → false ≡ admittedRows (limits 128 16 16 24) t s
-    rows-misfit e = sym (all-clauses ∙ ap (λ (x : Bool). both x (typesFit 16 t s)) (not-true a e))
+    pub rows-misfit : not a ≡ true → false ≡ admittedRows tableLimits t s
+    rows-misfit e = sym (all-clauses ∙ ap (λ (x : Bool). both x (typesFit (tableLimits .chain) t s)) (not-true a e))
 
     pub rows-named : not a ≡ false → rowsNamed t s ≡ true
-    rows-named e = both-true (rowsNamed t s) (membersAgree t s) (both-true (rowsFormed 128 16 24 t s) (both (rowsNamed t s) (membersAgree t s)) (sym fit ∙ not-false a e) .1) .0
+    rows-named e = both-true (rowsNamed t s) (membersAgree t s) (both-true (rowsFormed (tableLimits .rows) (tableLimits .members) (tableLimits .name) t s) (both (rowsNamed t s) (membersAgree t s)) (sym fit ∙ not-false a e) .1) .0
 
-    pub rows-are : (u : Bool) → not a ≡ false → u ≡ typesFit 16 t s → u ≡ admittedRows (limits 128 16 16 24) t s
-    rows-are u e q = q ∙ sym (all-clauses ∙ ap (λ (x : Bool). both x (typesFit 16 t s)) (not-false a e))
+    pub rows-are : (u : Bool) → not a ≡ false → u ≡ typesFit (tableLimits .chain) t s → u ≡ admittedRows tableLimits t s
+    rows-are u e q = q ∙ sym (all-clauses ∙ ap (λ (x : Bool). both x (typesFit (tableLimits .chain) t s)) (not-false a e))
 
 -- ---- the rows of an admitted table
-module _ (t s m : List ℕ) (n : ℕ) (a : Bool) (found : take n s ≡ rows 128 t) (told : a ≡ admittedRows (limits 128 16 16 24) t (take n s)) where
-  is-admitted : admitted (limits 128 16 16 24) t ≡ a
+module _ (t s m : List ℕ) (n : ℕ) (a : Bool) (found : take n s ≡ rows (tableLimits .rows) t) (told : a ≡ admittedRows tableLimits t (take n s)) where
+  is-admitted : admitted tableLimits t ≡ a
   unfolding admitted
   is-admitted = sym (rw found at told)
 
-  pub count-not : not a ≡ true → 0 ≡ rowCount (limits 128 16 16 24) t
+  pub count-not : not a ≡ true → 0 ≡ rowCount tableLimits t
   unfolding rowCount
   count-not f = rw (is-admitted ∙ not-true a f)
 
-  pub count-is : n ≡ length (rows 128 t) → not a ≡ false → n ≡ rowCount (limits 128 16 16 24) t
+  pub count-is : n ≡ length (rows (tableLimits .rows) t) → not a ≡ false → n ≡ rowCount tableLimits t
   unfolding rowCount
   count-is c f = rw (is-admitted ∙ not-false a f) c
 
-  pub leaves : not a ≡ false → (a ≡ true → Masked 16 t (take n s) m) → Admits 128 16 t n s m
+  pub leaves : not a ≡ false → (a ≡ true → Masked (tableLimits .chain) t (take n s) m) → Admits (tableLimits .rows) (tableLimits .chain) t n s m
   leaves f g = record { places = λ _. found; sets = λ _. rw found at (g (not-false a f)) }
 
-pub leaves-none : (t s m : List ℕ) → Admits 128 16 t 0 s m
+pub leaves-none : (t s m : List ℕ) → Admits (tableLimits .rows) (tableLimits .chain) t 0 s m
 leaves-none t s m = record { places = λ h. absurd (omega arith); sets = λ h. absurd (omega arith) }
 
-pub rows-few : (t l : List ℕ) (n : ℕ) → n ≡ length (rows 128 t) → take n l ≡ rows 128 t → n ≤ 128 → length (take n l) ≤ 128
+pub rows-few : (t l : List ℕ) (n : ℕ) → n ≡ length (rows (tableLimits .rows) t) → take n l ≡ rows (tableLimits .rows) t → n ≤ tableLimits .rows → length (take n l) ≤ tableLimits .rows
 rows-few t l n e f h = rw (f, ← e) h
 
-pub rows-counted : (t l : List ℕ) (n : ℕ) → n ≡ length (rows 128 t) → take n l ≡ rows 128 t → n ≡ length (take n l)
+pub rows-counted : (t l : List ℕ) (n : ℕ) → n ≡ length (rows (tableLimits .rows) t) → take n l ≡ rows (tableLimits .rows) t → n ≡ length (take n l)
 rows-counted t l n e f = e ∙ ap length (sym f)
 
 -- ---- the answer
-module _ (t : List ℕ) where
-  pub size-empty : length t < 1 → isRefused 1 (refused 1) ≡ no (tableFits 4992 t)
-  unfolding tableFits
-  size-empty h = rw (lt-leb 1 (length t) h)
+module _ (t : List ℕ) (x : Bool) (fits : x ≡ tableFits tableLimits t) where
+  pub check-size : not x ≡ true → refused 1 ≡ tableReport tableLimits t
+  unfolding tableReport
+  check-size e = rw (sym fits ∙ not-true x e)
 
-  pub size-long : 1 ≤ length t → 4992 < length t → isRefused 1 (refused 1) ≡ no (tableFits 4992 t)
-  unfolding tableFits
-  size-long h l = rw (le-leb 1 (length t) h, lt-leb (length t) 4992 l)
-
-  pub answer-none : isRefused 1 (refused 1) ≡ false → refused 1 ≡ admission (limits 128 16 16 24) t
-  answer-none e = absurd (true≢false e)
-
-  some-rows : admitted (limits 128 16 16 24) t ≡ true → 1 ≤ length (rows 128 t)
+  some-rows : admitted tableLimits t ≡ true → 1 ≤ length (rows (tableLimits .rows) t)
   unfolding admitted admittedRows rowsFormed wholeRows
   some-rows e = leb-true _ _ (both-true _ _ (both-true _ _ (both-true _ _ e .0) .0) .0)
 
-  module _ (h : 1 ≤ length t) (l : length t ≤ 4992) where
-    fits : tableFits 4992 t ≡ true
-    unfolding tableFits
-    fits = rw (le-leb 1 (length t) h, le-leb (length t) 4992 l)
-
-    pub size-other : isRefused 1 (refused 2) ≡ no (tableFits 4992 t)
-    size-other = ap no (sym fits)
-
-    pub size-rows : (n : ℕ) → isRefused 1 (admits n) ≡ no (tableFits 4992 t)
-    size-rows n = ap no (sym fits)
-
-  module _ (n : ℕ) (e : n ≡ rowCount (limits 128 16 16 24) t) where
-    pub answer-not : n ≡ 0 → isRefused 1 (refused 2) ≡ false → refused 2 ≡ admission (limits 128 16 16 24) t
-    unfolding admission rowCount
-    answer-not z _ = go (admitted (limits 128 16 16 24) t) refl
+  module _ (e : not x ≡ false) (n : ℕ) (count : n ≡ rowCount tableLimits t) where
+    pub check-not : n ≡ 0 → refused 2 ≡ tableReport tableLimits t
+    unfolding tableReport rowCount
+    check-not z = rw (sym fits ∙ not-false x e) (go (admitted tableLimits t) refl)
       where
-        go : (x : Bool) → admitted (limits 128 16 16 24) t ≡ x → refused 2 ≡ pick x (admits (length (rows 128 t))) (refused 2)
-        go true q = absurd (let w = some-rows q in let y : n ≡ length (rows 128 t) = (rw q at e) in omega arith)
+        go : (y : Bool) → admitted tableLimits t ≡ y → refused 2 ≡ pick y (admits (length (rows (tableLimits .rows) t))) (refused 2)
+        go true q = absurd (let w = some-rows q in let k : n ≡ length (rows (tableLimits .rows) t) = (rw q at count) in omega arith)
         go false q = refl
 
-    pub answer-is : (n ≡ 0 → ⊥) → isRefused 1 (admits n) ≡ false → admits n ≡ admission (limits 128 16 16 24) t
-    unfolding admission rowCount
-    answer-is z _ = go (admitted (limits 128 16 16 24) t) refl
+    pub check-is : (table : Table) → (n ≡ 0 → ⊥) → table .rows ≡ n → admits (table .rows) ≡ tableReport tableLimits t
+    unfolding tableReport rowCount
+    check-is table z is = ap admits is ∙ rw (sym fits ∙ not-false x e) (go (admitted tableLimits t) refl)
       where
-        go : (x : Bool) → admitted (limits 128 16 16 24) t ≡ x → admits n ≡ pick x (admits (length (rows 128 t))) (refused 2)
-        go true q = ap admits (rw q at e)
-        go false q = absurd (z (rw q at e))
+        go : (y : Bool) → admitted tableLimits t ≡ y → admits n ≡ pick y (admits (length (rows (tableLimits .rows) t))) (refused 2)
+        go true q = ap admits (rw q at count)
+        go false q = absurd (z (rw q at count))

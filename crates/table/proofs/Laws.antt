@@ -17,8 +17,6 @@ use Rattle.table.specs.Types.{membersFrom, typed, typeAt}
 use Rattle.table.specs.Begins.{begins, tagsApart}
 use Rattle.table.specs.Admitted.{tagsDiffer, rowsFormed, rowsNamed, membersAgree, typesFit, admittedRows, admitted}
 use Rattle.table.specs.Work.{bitOf, Masked}
-use Rattle.table.specs.Check.{refused, isRefused, tableFits, report, admission, tableReport}
-use Rattle.table.specs.declared.TableCheck.{TableCheck}
 use Rattle.table.proofs.TypeLaws.{step}
 use Rattle.table.proofs.AdmitSteps.{named-points, named-stand}
 
@@ -122,17 +120,3 @@ module _ (l : Limits) (t : List ℕ) (ok : admitted l t ≡ true) where
     pub begins-with : (m : List ℕ) → Masked (l .chain) t s m → (g : ℕ) → g < 64 → bitOf (rowAt m i) g ≡ begins (typeAt l t i) g
     unfolding typeAt
     begins-with m masked g h = masked .says i here g h
-
--- ---- the two clauses of the table check are one equation
-pub whole-answer : (bytes : ℕ) (l : Limits) (t : List ℕ) (r : TableCheck) → isRefused 1 (report r) ≡ no (tableFits bytes t)
-    → (isRefused 1 (report r) ≡ false → report r ≡ admission l t) → report r ≡ tableReport bytes l t
-unfolding tableReport
-whole-answer bytes l t r size answer = go (tableFits bytes t) refl
-  where
-    refused-1 : (r : TableCheck) → isRefused 1 (report r) ≡ true → report r ≡ refused 1
-    refused-1 (TableCheck.Admitted n) e = absurd (false≢true e)
-    refused-1 (TableCheck.Refused n) e = ap refused (eqb-true n 1 e)
-
-    go : (x : Bool) → tableFits bytes t ≡ x → report r ≡ pick x (admission l t) (refused 1)
-    go true q = answer (size ∙ ap no q)
-    go false q = refused-1 r (size ∙ ap no q)

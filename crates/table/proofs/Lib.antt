@@ -1,4 +1,3 @@
-pub mod Tests
 pub mod BitSets
 pub mod TypeLaws
 pub mod TagLaws

@@ -4,8 +4,8 @@ use Rattle.groups.specs.Computing.{groupsCompute}
 use Rattle.table.specs.Types.{unfilled, taggingOf, presenceOf, memberOf, membersFrom, typeFrom, typeAt}
 use Rattle.table.specs.Begins.{begins, memberBegins, apartAt, apart, apartFromAll, alternativesDiffer, apartInRun, runsDiffer, tagsApart}
 use Rattle.table.specs.Admitted.{tagsDiffer, rowsFormed, rowsNamed, membersAgree, typesFit, admittedRows, admitted, rowCount}
-use Rattle.table.specs.Check.{tableFits, admission, tableReport}
+use Rattle.table.specs.Check.{tableReport}
 
 unfoldable pub tableComputes : ℕ
-unfolding groupsCompute unfilled taggingOf presenceOf memberOf membersFrom typeFrom typeAt begins memberBegins apartAt apart apartFromAll alternativesDiffer apartInRun runsDiffer tagsApart tagsDiffer rowsFormed rowsNamed membersAgree typesFit admittedRows admitted rowCount tableFits admission tableReport
+unfolding groupsCompute unfilled taggingOf presenceOf memberOf membersFrom typeFrom typeAt begins memberBegins apartAt apart apartFromAll alternativesDiffer apartInRun runsDiffer tagsApart tagsDiffer rowsFormed rowsNamed membersAgree typesFit admittedRows admitted rowCount tableReport
 tableComputes = 0

@@ -5,7 +5,8 @@ use mathlib.Core.List.{List, [], _∷_, _++_, map}
 use Prim.Native.Nat.{ℕ, zero, suc}
 use Prim.Native.String.{String}
 use lib.ListN.{length, set, replicate}
-use Rattle.table.specs.Paper.{tableBytes, tableLimits, memberRow, licence}
+use Rattle.rows.specs.Paper.{tableLimits}
+use Rattle.table.specs.Paper.{memberRow, licence}
 use Rattle.rows.specs.Row.{rows}
 use Rattle.table.specs.Types.{typeAt}
 use Rattle.table.specs.Begins.{begins}
@@ -18,12 +19,12 @@ use Rattle.table.specs.Computing.{tableComputes}
 licence-octets : length licence ≡ 206
 licence-octets = refl
 
-licence-admitted : tableReport tableBytes tableLimits licence ≡ admits 12
+licence-admitted : tableReport tableLimits licence ≡ admits 12
 unfolding tableComputes
 licence-admitted = refl
 
 abbrev answer : List ℕ → TableReport
-answer t = tableReport tableBytes tableLimits t
+answer t = tableReport tableLimits t
 
 -- the clauses, each on its own
 clausesOf : List ℕ → List ℕ → List Bool
@@ -151,7 +152,7 @@ run-ends = refl
 abbrev nested : List ℕ
 nested = 13 ∷ 2 ∷ plain "a" 3 ++ memberRow "b" 6 1 3 0 [] ++ 13 ∷ 2 ∷ plain "c" 6 ++ plain "d" 7 ++ 2 ∷ 1 ∷ []
 
-nested-begins : tableReport tableBytes tableLimits nested ≡ admits 8
+nested-begins : tableReport tableLimits nested ≡ admits 8
 unfolding tableComputes
 nested-begins = refl
 

@@ -1,16 +1,9 @@
--- Document 01's numbers and its licence table, for computed examples.
+-- Document 01's licence table, for computed examples.
 use Prim.Native.Nat.{ℕ, _/_, _%_}
 use Prim.Native.String.{String}
 use mathlib.Core.List.{List, [], _∷_, _++_}
 use lib.ListN.{length, take, replicate}
 use Rattle.octets.specs.Octets.{bytes}
-use Rattle.rows.specs.Limits.{Limits}
-
-abbrev pub tableBytes : ℕ
-tableBytes = 4992
-
-abbrev pub tableLimits : Limits
-tableLimits = record { rows = 128; chain = 16; members = 16; name = 24 }
 
 -- n octets, filled with zeros
 abbrev pub fill : ℕ → List ℕ → List ℕ

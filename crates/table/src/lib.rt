@@ -1,4 +1,5 @@
 // The type table: the tags that each row can begin with, and admission.
+use rows::Table;
 ghost use mathlib.Core.Path.{_≡_};
 ghost use mathlib.Core.Bool.{true, false};
 ghost use Prim.Native.Nat.{_≤_, _<_, _+_, _-_, _^_};
@@ -7,14 +8,14 @@ ghost use Rattle.der.specs.Tag.{tagOf, universal};
 ghost use Rattle.rows.specs.Row as row;
 ghost use Rattle.groups.specs.Clauses as clause;
 ghost use Rattle.table.specs.Admitted as admitted;
-ghost use Rattle.rows.specs.Limits.{limits};
 ghost use Rattle.table.specs.Work as work;
 ghost use Rattle.octets.specs.Pick.{both, no};
-ghost use Rattle.table.specs.Check.{report, isRefused, tableFits, admission};
+ghost use Rattle.table.specs.Check.{report, tableReport};
+ghost use Rattle.rows.specs.Paper.{tableLimits};
 
-// The answer of the table check: the number of rows, or a refusal.
+// The answer of the table check: the table, or a refusal.
 pub enum TableCheck {
-    Admitted(usize),
+    Admitted(Table),
     Refused(u8),
 }
 
@@ -156,13 +157,13 @@ fn masks_differ(m: &[u64], t: &[u8], s: &[usize], i: usize) -> bool
 
 // Whether tags differ in every row; the sets of tags of all rows are left in m.
 fn tags_differ(t: &[u8], s: &[usize], m: &mut [u64]) -> bool
-    requires space { do ⌜ length (now m) ≡ (← ⟦rows::Table::MAX_ROWS⟧) ⌝ }
-    requires few { do ⌜ length (now s) ≤ (← ⟦rows::Table::MAX_ROWS⟧) ⌝ }
+    requires space { ⌜ length (now m) ≡ (tableLimits .rows) ⌝ }
+    requires few { ⌜ length (now s) ≤ (tableLimits .rows) ⌝ }
     requires later { ⌜ clause.everyRow (clause.pointsLater (now t) (now s)) (now s) ≡ true ⌝ }
     requires stand { ⌜ clause.membersStand (now t) (now s) ≡ true ⌝ }
-    requires chains { do ⌜ clause.everyRow (clause.chainFits (← ⟦rows::Table::MAX_CHAIN⟧) (now t) (now s)) (now s) ≡ true ⌝ }
-    ensures told { λ r. do ⌜ r ≡ clause.everyRow (admitted.tagsDiffer (← ⟦rows::Table::MAX_CHAIN⟧ .entry) (now (t .entry)) (now (s .entry))) (now (s .entry)) ⌝ }
-    ensures sets { λ r. do ⌜ (r ≡ true → work.Masked (← ⟦rows::Table::MAX_CHAIN⟧ .entry) (now (t .entry)) (now (s .entry)) (now (m .exit))) ⌝ }
+    requires chains { ⌜ clause.everyRow (clause.chainFits (tableLimits .chain) (now t) (now s)) (now s) ≡ true ⌝ }
+    ensures told { λ r. ⌜ r ≡ clause.everyRow (admitted.tagsDiffer (tableLimits .chain) (now (t .entry)) (now (s .entry))) (now (s .entry)) ⌝ }
+    ensures sets { λ r. ⌜ (r ≡ true → work.Masked (tableLimits .chain) (now (t .entry)) (now (s .entry)) (now (m .exit))) ⌝ }
 {
     let mut i = s.len();
     while 0 < i {
@@ -178,12 +179,12 @@ fn tags_differ(t: &[u8], s: &[usize], m: &mut [u64]) -> bool
 // ---- admission
 // Whether all clauses hold but those on chains and tags.
 fn rows_fit(t: &[u8], s: &[usize]) -> bool
-    ensures { λ r. do ⌜ r ≡ both (admitted.rowsFormed (← ⟦rows::Table::MAX_ROWS⟧ .entry) (← ⟦rows::Table::MAX_MEMBERS⟧ .entry) (← ⟦rows::Table::MAX_NAME⟧ .entry) (now (t .entry)) (now (s .entry))) (both (admitted.rowsNamed (now (t .entry)) (now (s .entry))) (admitted.membersAgree (now (t .entry)) (now (s .entry)))) ⌝ }
+    ensures { λ r. ⌜ r ≡ both (admitted.rowsFormed (tableLimits .rows) (tableLimits .members) (tableLimits .name) (now (t .entry)) (now (s .entry))) (both (admitted.rowsNamed (now (t .entry)) (now (s .entry))) (admitted.membersAgree (now (t .entry)) (now (s .entry)))) ⌝ }
 {
     if s.len() < 1 {
         return false;
     }
-    if rows::Table::MAX_ROWS < s.len() {
+    if Table::MAX_ROWS < s.len() {
         return false;
     }
     if !groups::rows_agree(t, s) {
@@ -196,11 +197,11 @@ fn rows_fit(t: &[u8], s: &[usize]) -> bool
 }
 
 fn types_fit(t: &[u8], s: &[usize], m: &mut [u64]) -> bool
-    requires space { do ⌜ length (now m) ≡ (← ⟦rows::Table::MAX_ROWS⟧) ⌝ }
-    requires few { do ⌜ length (now s) ≤ (← ⟦rows::Table::MAX_ROWS⟧) ⌝ }
+    requires space { ⌜ length (now m) ≡ (tableLimits .rows) ⌝ }
+    requires few { ⌜ length (now s) ≤ (tableLimits .rows) ⌝ }
     requires named { ⌜ admitted.rowsNamed (now t) (now s) ≡ true ⌝ }
-    ensures told { λ r. do ⌜ r ≡ admitted.typesFit (← ⟦rows::Table::MAX_CHAIN⟧ .entry) (now (t .entry)) (now (s .entry)) ⌝ }
-    ensures sets { λ r. do ⌜ (r ≡ true → work.Masked (← ⟦rows::Table::MAX_CHAIN⟧ .entry) (now (t .entry)) (now (s .entry)) (now (m .exit))) ⌝ }
+    ensures told { λ r. ⌜ r ≡ admitted.typesFit (tableLimits .chain) (now (t .entry)) (now (s .entry)) ⌝ }
+    ensures sets { λ r. ⌜ (r ≡ true → work.Masked (tableLimits .chain) (now (t .entry)) (now (s .entry)) (now (m .exit))) ⌝ }
 {
     if !groups::chains_short(t, s) {
         return false;
@@ -209,10 +210,10 @@ fn types_fit(t: &[u8], s: &[usize], m: &mut [u64]) -> bool
 }
 
 fn admit_rows(t: &[u8], s: &[usize], m: &mut [u64]) -> bool
-    requires space { do ⌜ length (now m) ≡ (← ⟦rows::Table::MAX_ROWS⟧) ⌝ }
-    requires few { do ⌜ length (now s) ≤ (← ⟦rows::Table::MAX_ROWS⟧) ⌝ }
-    ensures told { λ r. do ⌜ r ≡ admitted.admittedRows (limits (← ⟦rows::Table::MAX_ROWS⟧ .entry) (← ⟦rows::Table::MAX_CHAIN⟧ .entry) (← ⟦rows::Table::MAX_MEMBERS⟧ .entry) (← ⟦rows::Table::MAX_NAME⟧ .entry)) (now (t .entry)) (now (s .entry)) ⌝ }
-    ensures sets { λ r. do ⌜ (r ≡ true → work.Masked (← ⟦rows::Table::MAX_CHAIN⟧ .entry) (now (t .entry)) (now (s .entry)) (now (m .exit))) ⌝ }
+    requires space { ⌜ length (now m) ≡ (tableLimits .rows) ⌝ }
+    requires few { ⌜ length (now s) ≤ (tableLimits .rows) ⌝ }
+    ensures told { λ r. ⌜ r ≡ admitted.admittedRows tableLimits (now (t .entry)) (now (s .entry)) ⌝ }
+    ensures sets { λ r. ⌜ (r ≡ true → work.Masked (tableLimits .chain) (now (t .entry)) (now (s .entry)) (now (m .exit))) ⌝ }
 {
     if !rows_fit(t, s) {
         return false;
@@ -222,10 +223,10 @@ fn admit_rows(t: &[u8], s: &[usize], m: &mut [u64]) -> bool
 
 // How many rows an admitted table has, with the places of its rows and their sets of tags; 0 where it is not admitted.
 pub fn admit_table(t: &[u8], starts: &mut [usize], masks: &mut [u64]) -> usize
-    requires places { do ⌜ length (now starts) ≡ (← ⟦rows::Table::MAX_ROWS⟧) ⌝ }
-    requires sets { do ⌜ length (now masks) ≡ (← ⟦rows::Table::MAX_ROWS⟧) ⌝ }
-    ensures count { λ r. do ⌜ r ≡ admitted.rowCount (limits (← ⟦rows::Table::MAX_ROWS⟧ .entry) (← ⟦rows::Table::MAX_CHAIN⟧ .entry) (← ⟦rows::Table::MAX_MEMBERS⟧ .entry) (← ⟦rows::Table::MAX_NAME⟧ .entry)) (now (t .entry)) ⌝ }
-    ensures leaves { λ r. do ⌜ work.Admits (← ⟦rows::Table::MAX_ROWS⟧ .entry) (← ⟦rows::Table::MAX_CHAIN⟧ .entry) (now (t .entry)) r (now (starts .exit)) (now (masks .exit)) ⌝ }
+    requires places { ⌜ length (now starts) ≡ (tableLimits .rows) ⌝ }
+    requires sets { ⌜ length (now masks) ≡ (tableLimits .rows) ⌝ }
+    ensures count { λ r. ⌜ r ≡ admitted.rowCount tableLimits (now (t .entry)) ⌝ }
+    ensures leaves { λ r. ⌜ work.Admits (tableLimits .rows) (tableLimits .chain) (now (t .entry)) r (now (starts .exit)) (now (masks .exit)) ⌝ }
 {
     let n = rows::scan(t, starts);
     if !admit_rows(t, &starts[..n], masks) {
@@ -236,20 +237,16 @@ pub fn admit_table(t: &[u8], starts: &mut [usize], masks: &mut [u64]) -> usize
 
 // The table check: any octets.
 pub fn check_table(table: &[u8]) -> TableCheck
-    ensures size { λ r. do ⌜ isRefused 1 (report r) ≡ no (tableFits (← ⟦rows::Table::MAX_BYTES⟧ .entry) (now (table .entry))) ⌝ }
-    ensures answer { λ r. do ⌜ (isRefused 1 (report r) ≡ false → report r ≡ admission (limits (← ⟦rows::Table::MAX_ROWS⟧ .entry) (← ⟦rows::Table::MAX_CHAIN⟧ .entry) (← ⟦rows::Table::MAX_MEMBERS⟧ .entry) (← ⟦rows::Table::MAX_NAME⟧ .entry)) (now (table .entry))) ⌝ }
+    ensures { λ r. ⌜ report r ≡ tableReport tableLimits (now (table .entry)) ⌝ }
 {
-    if table.len() < 1 {
+    if !Table::fits(table) {
         return TableCheck::Refused(1);
     }
-    if rows::Table::MAX_BYTES < table.len() {
-        return TableCheck::Refused(1);
-    }
-    let mut starts = [0usize; rows::Table::MAX_ROWS];
-    let mut masks = [0u64; rows::Table::MAX_ROWS];
+    let mut starts = [0usize; Table::MAX_ROWS];
+    let mut masks = [0u64; Table::MAX_ROWS];
     let n = admit_table(table, &mut starts, &mut masks);
     if n == 0 {
         return TableCheck::Refused(2);
     }
-    TableCheck::Admitted(n)
+    TableCheck::Admitted(Table::of(n))
 }

@@ -1,4 +1,4 @@
-use Rattle.groups.proofs.Tests.{tests}
+use Rattle.octets.proofs.Tests.{tests}
 use Rattle.groups.specs.Work.{larger}
 use Rattle.groups.proofs.larger.Statement.{statement}
 use Rattle.groups.proofs.larger.Tie as tie

@@ -1,4 +1,4 @@
-use Rattle.rows.proofs.Tests.{tests}
+use Rattle.octets.proofs.Tests.{tests}
 use Rattle.rows.specs.Row.{isGroup}
 use Rattle.rows.proofs.is_group.Statement.{statement}
 use Rattle.rows.proofs.is_group.Tie as tie

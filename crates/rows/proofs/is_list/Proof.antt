@@ -1,4 +1,4 @@
-use Rattle.rows.proofs.Tests.{tests}
+use Rattle.octets.proofs.Tests.{tests}
 use Rattle.rows.specs.Row.{isList}
 use Rattle.rows.proofs.is_list.Statement.{statement}
 use Rattle.rows.proofs.is_list.Tie as tie

@@ -1,4 +1,4 @@
-use Rattle.rows.proofs.Tests.{tests}
+use Rattle.octets.proofs.Tests.{tests}
 use Rattle.rows.specs.Body.{taggingFormed}
 use Rattle.rows.proofs.tag_formed.Statement.{statement}
 use Rattle.rows.proofs.tag_formed.Tie as tie
