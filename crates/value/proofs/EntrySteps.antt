@@ -10,19 +10,20 @@ use lib.ListN.{length, take}
 use lib.Dec.{leb, eqb}
 use borrow.Table.Elements.{take-le}
 use Rattle.octets.specs.Pick.{pick, both, no, bind, isSome}
-use Rattle.rows.specs.Limits.{Limits, limits}
+use Rattle.rows.specs.Limits.{Limits, tableFits}
+use Rattle.rows.specs.Paper.{tableLimits}
 use Rattle.rows.specs.Row.{rows}
 use Rattle.table.specs.Types.{untagged, taggingOf, Ty, typeFrom, typeAt}
 use Rattle.table.specs.Admitted.{admitted, rowCount}
-use Rattle.table.specs.Check.{tableFits}
 use Rattle.table.specs.Work.{Sound, Admits}
 use Rattle.table.proofs.Laws.{row-count}
 use Rattle.table.proofs.SoundLaws.{sound}
-use Rattle.value.specs.Limits.{limits as valueLimits}
+use Rattle.value.specs.Paper.{valueLimits}
 use Rattle.value.specs.Decode.{Decoded, unwrapped, decode, inWrapper, storedValue}
-use Rattle.value.specs.Check.{ValueReport, good, refused, isRefused, valueFits, isStored, storage, sizesFit}
+use Rattle.value.specs.Check.{good, refused, report, valueFits, isStored, storage, valueReport}
 use Rattle.value.specs.Work.{told}
 use Rattle.value.specs.declared.Checked.{Checked}
+use Rattle.value.specs.declared.ValueCheck.{ValueCheck}
 
 -- ---- the whole buffer
 module _ (ty : Ty) (v : List ℕ) (c : Checked) (asked : c ≡ told (unwrapped ty (taggingOf 0 0) v 0 (length v))) where
@@ -51,16 +52,6 @@ module _ (ty : Ty) (v : List ℕ) (c : Checked) (asked : c ≡ told (unwrapped t
 
   pub stored-whole : (next : ℕ) → c ≡ Checked.At next → eqb next (length v) ≡ isSome (storedValue ty v)
   stored-whole next e = by-some (unwrapped ty untagged v 0 (length v)) next (sym e ∙ asks) ∙ sym stored-by
-
--- ---- sizes
-module _ (v : List ℕ) where
-  pub value-short : length v < 2 → false ≡ valueFits (valueLimits 2 4096) v
-  unfolding valueFits
-  value-short h = rw (lt-leb 2 (length v) h)
-
-  pub value-within : 2 ≤ length v → leb (length v) 4096 ≡ valueFits (valueLimits 2 4096) v
-  unfolding valueFits
-  value-within h = rw (le-leb 2 (length v) h)
 
 -- ---- the table's rows and sets
 module _ (l : Limits) (t starts masks : List ℕ) (n : ℕ) (count : n ≡ rowCount l t) where
@@ -101,68 +92,48 @@ module _ (l : Limits) (t starts masks : List ℕ) (n : ℕ) (count : n ≡ rowCo
     rows-fit = let a = rows-counted in let b = take-le n starts in omega arith
 
 -- the same at document 01's limits
-module _ (t starts masks : List ℕ) (n : ℕ) (count : n ≡ rowCount (limits 128 16 16 24) t) (z : n ≡ 0 → ⊥) (left : Admits 128 16 t n starts masks) where
-  pub sound-here : Sound 16 t (take n starts) masks
-  sound-here = is-sound (limits 128 16 16 24) t starts masks n count z left
+module _ (t starts masks : List ℕ) (n : ℕ) (count : n ≡ rowCount tableLimits t) (z : n ≡ 0 → ⊥) (left : Admits (tableLimits .rows) (tableLimits .chain) t n starts masks) where
+  pub sound-here : Sound (tableLimits .chain) t (take n starts) masks
+  sound-here = is-sound tableLimits t starts masks n count z left
 
   pub rows-here : 0 < length (take n starts)
-  rows-here = has-rows (limits 128 16 16 24) t starts masks n count z left
+  rows-here = has-rows tableLimits t starts masks n count z left
 
   pub counted-here : n ≡ length (take n starts)
-  counted-here = rows-counted (limits 128 16 16 24) t starts masks n count z left
+  counted-here = rows-counted tableLimits t starts masks n count z left
 
   pub fit-here : n ≤ length starts
-  fit-here = rows-fit (limits 128 16 16 24) t starts masks n count z left
+  fit-here = rows-fit tableLimits t starts masks n count z left
 
 -- ---- the answers
-module _ (t v starts masks : List ℕ) (n : ℕ) (count : n ≡ rowCount (limits 128 16 16 24) t) where
-  pub storage-not : n ≡ 0 → refused 2 ≡ storage (limits 128 16 16 24) t v
+module _ (t v starts masks : List ℕ) (n : ℕ) (count : n ≡ rowCount tableLimits t) where
+  pub storage-not : n ≡ 0 → refused 2 ≡ storage tableLimits t v
   unfolding storage
-  storage-not z = rw (not-admitted (limits 128 16 16 24) t starts masks n count z)
+  storage-not z = rw (not-admitted tableLimits t starts masks n count z)
 
-  module _ (z : n ≡ 0 → ⊥) (left : Admits 128 16 t n starts masks) (r : Bool) (told-stored : r ≡ isSome (storedValue (typeFrom 16 t (take n starts) 0) v)) where
-    is-stored : isStored (limits 128 16 16 24) t v ≡ r
+  module _ (z : n ≡ 0 → ⊥) (left : Admits (tableLimits .rows) (tableLimits .chain) t n starts masks) (r : Bool) (told-stored : r ≡ isSome (storedValue (typeFrom (tableLimits .chain) t (take n starts) 0) v)) where
+    is-stored : isStored tableLimits t v ≡ r
     unfolding isStored typeAt
-    is-stored = sym (told-stored ∙ ap (λ (s : List ℕ). isSome (storedValue (typeFrom 16 t s 0) v)) (rows-are (limits 128 16 16 24) t starts masks n count z left))
+    is-stored = sym (told-stored ∙ ap (λ (s : List ℕ). isSome (storedValue (typeFrom (tableLimits .chain) t s 0) v)) (rows-are tableLimits t starts masks n count z left))
 
-    pub storage-bad : not r ≡ true → refused 4 ≡ storage (limits 128 16 16 24) t v
+    pub storage-bad : not r ≡ true → refused 4 ≡ storage tableLimits t v
     unfolding storage
-    storage-bad e = rw (is-admitted (limits 128 16 16 24) t starts masks n count z, (is-stored ∙ not-true r e))
+    storage-bad e = rw (is-admitted tableLimits t starts masks n count z, (is-stored ∙ not-true r e))
 
-    pub storage-good : not r ≡ false → good ≡ storage (limits 128 16 16 24) t v
+    pub storage-good : not r ≡ false → good ≡ storage tableLimits t v
     unfolding storage
-    storage-good e = rw (is-admitted (limits 128 16 16 24) t starts masks n count z, (is-stored ∙ not-false r e))
+    storage-good e = rw (is-admitted tableLimits t starts masks n count z, (is-stored ∙ not-false r e))
 
-storage-later : (l : Limits) (t v : List ℕ) → isRefused 1 (storage l t v) ≡ false
-unfolding storage
-storage-later l t v = go (admitted l t) (isStored l t v)
-  where
-    go : (x y : Bool) → isRefused 1 (pick x (pick y good (refused 4)) (refused 2)) ≡ false
-    go true true = refl
-    go true false = refl
-    go false y = refl
+module _ (t v : List ℕ) (x : Bool) (fits : x ≡ tableFits tableLimits t) where
+  pub sizes-table : not x ≡ true → refused 1 ≡ valueReport tableLimits valueLimits t v
+  unfolding valueReport
+  sizes-table e = rw (sym fits ∙ not-true x e)
 
-module _ (t v : List ℕ) where
-  pub sizes-empty : length t < 1 → isRefused 1 (refused 1) ≡ no (sizesFit 4992 (valueLimits 2 4096) t v)
-  unfolding sizesFit tableFits
-  sizes-empty h = rw (lt-leb 1 (length t) h)
+  module _ (e : not x ≡ false) (y : Bool) (fits-value : y ≡ valueFits valueLimits v) where
+    pub sizes-value : not y ≡ true → refused 1 ≡ valueReport tableLimits valueLimits t v
+    unfolding valueReport
+    sizes-value f = rw (sym fits ∙ not-false x e, sym fits-value ∙ not-true y f)
 
-  pub answer-none : isRefused 1 (refused 1) ≡ false → refused 1 ≡ storage (limits 128 16 16 24) t v
-  answer-none e = absurd (true≢false e)
-
-  module _ (h : 1 ≤ length t) where
-    pub sizes-long : 4992 < length t → isRefused 1 (refused 1) ≡ no (sizesFit 4992 (valueLimits 2 4096) t v)
-    unfolding sizesFit tableFits
-    sizes-long l = rw (le-leb 1 (length t) h, lt-leb (length t) 4992 l)
-
-    module _ (l : length t ≤ 4992) (x : Bool) (fits : x ≡ valueFits (valueLimits 2 4096) v) where
-      pub sizes-value : not x ≡ true → isRefused 1 (refused 1) ≡ no (sizesFit 4992 (valueLimits 2 4096) t v)
-      unfolding sizesFit tableFits
-      sizes-value e = rw (le-leb 1 (length t) h, le-leb (length t) 4992 l, sym fits ∙ not-true x e)
-
-      pub sizes-fit : (r : ValueReport) → not x ≡ false → r ≡ storage (limits 128 16 16 24) t v → isRefused 1 r ≡ no (sizesFit 4992 (valueLimits 2 4096) t v)
-      unfolding sizesFit tableFits
-      sizes-fit r e q = rw (le-leb 1 (length t) h, le-leb (length t) 4992 l, sym fits ∙ not-false x e) (ap (isRefused 1) q ∙ storage-later (limits 128 16 16 24) t v)
-
-  pub answer-stored : (r : ValueReport) → r ≡ storage (limits 128 16 16 24) t v → isRefused 1 r ≡ false → r ≡ storage (limits 128 16 16 24) t v
-  answer-stored r e _ = e
+    pub sizes-fit : (r : ValueCheck) → not y ≡ false → report r ≡ storage tableLimits t v → report r ≡ valueReport tableLimits valueLimits t v
+    unfolding valueReport
+    sizes-fit r f q = rw (sym fits ∙ not-false x e, sym fits-value ∙ not-false y f) q

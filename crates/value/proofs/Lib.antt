@@ -8,6 +8,5 @@ pub mod MemberSteps
 pub mod ChoiceSteps
 pub mod ElementSteps
 pub mod EntrySteps
-pub mod Answers
 pub mod PartSteps
 pub mod PartCall

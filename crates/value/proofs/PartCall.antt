@@ -1,5 +1,4 @@
 -- The call of `part`, for the walks of functions over its struct with its parameters.
---     Limited, limited     a fact of the two limits, as the contracts of the fifth entry ask them, and that a fact which follows is had
 --     Part                 the contract of `part`
 --     goes-part            what it asks is had at the entry of such a function, beside what the slice owns
 --     part-said            what is known of its result
@@ -31,25 +30,14 @@ use denote.Triple.Entry.{Vals, onEntry}
 use denote.Triple.Spec.{tripleOf}
 use denote.Ask.Asked.{isResultOf}
 use denote.Triple.Clauses.{ensured, lasts}
-use Rattle.value.specs.Limits.{limits}
-use Rattle.value.specs.Part.{partReport, told}
+use Rattle.value.specs.Paper.{valueLimits}
+use Rattle.value.specs.Part.{partReport, report}
 use Rattle.value.specs.declared.ValuePart.{ValuePart}
 use Rattle.value.proofs.ValuePart as T
 use Rattle.value.proofs.ValuePart.Laws as T′
 use Rattle.value.proofs.part as part
 
 module _ {M : Type 1} (𝓤 : URA M) (H : Heap 𝓤) (A : Atoms 𝓤) (mem : Memory → SProp 𝓤) (run : Routine → Fun 𝓤) where
-  abbrev pub Limited : Lft → (ℕ → ℕ → Type 0) → SProp 𝓤
-  Limited κ φ = part.⟦Value·MIN-BYTES⟧ 𝓤 H (κ, tt) A mem run tt (λ least. part.⟦Value·MAX-BYTES⟧ 𝓤 H (κ, tt) A mem run tt (λ most. fact 𝓤 (φ least most)))
-
-  pub limited : (κ : Lft) (φ ψ : ℕ → ℕ → Type 0) → ((least most : ℕ) → φ least most → ψ least most) → ent 𝓤 (Limited κ φ) (Limited κ ψ)
-  limited κ φ ψ h =
-      asks (isResultOf 𝓤 H A run (part.⟦Value·MIN-BYTES⟧-code (κ, tt)) tt) _ _ (λ least.
-      asks (isResultOf 𝓤 H A run (part.⟦Value·MAX-BYTES⟧-code (κ, tt)) tt) (λ most. fact 𝓤 (φ least most)) (λ most. fact 𝓤 (ψ least most)) (λ most. fact-mono 𝓤 (φ least most) (ψ least most) (h least most)))
-    where
-      asks : (P Q R : ℕ → SProp 𝓤) → ((x : ℕ) → ent 𝓤 (Q x) (R x)) → ent 𝓤 (ex 𝓤 (λ x. conj 𝓤 (P x) (Q x))) (ex 𝓤 (λ x. conj 𝓤 (P x) (R x)))
-      asks P Q R k = exE 𝓤 (λ x. conj 𝓤 (P x) (Q x)) (λ x. via 𝓤 (conj 𝓤 (P x) (R x)) (conj-mono 𝓤 (id⊢ 𝓤 (P x)) (k x)) (exI 𝓤 (λ y. conj 𝓤 (P y) (R y)) x))
-
   abbrev pub Part : Contract 𝓤
   Part = tripleOf 𝓤 H A part.signature (part.spec 𝓤 H A mem run)
 
@@ -91,7 +79,7 @@ module _ {M : Type 1} (𝓤 : URA M) (H : Heap 𝓤) (A : Atoms 𝓤) (mem : Mem
       Entry = Token 𝓤 κ q ∷ ‵ (owns (Slice κ ∷ usize ∷ usize ∷ []) (s, (place, (size, tt))) (passed κ s place size)) ∷ []
 
   abbrev pub Reported : ValuePart → SProp 𝓤
-  Reported r = Limited 𝓤 H A mem run κ (λ least most. told r ≡ partReport (limits least most) (now s) place size)
+  Reported r = fact 𝓤 (report r ≡ partReport valueLimits (now s) place size)
 
   pub part-said : (r : ValuePart) → ent 𝓤 (ensured 𝓤 H A part.ended (part.clauses 𝓤 H A mem run) (κ, tt) (s, (place, (size, tt))) tt r) (Reported r)
   part-said r = exE 𝓤 _ (λ ws. snd∗ 𝓤 (sem 𝓤 H A (lasts part.ended (κ, tt) (s, (place, (size, tt))) ws)) (Reported r))

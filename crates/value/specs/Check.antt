@@ -1,37 +1,33 @@
 -- The value check, standing alone: refusals 1, 2 and 4.
 use Prim.Native.Nat.{ℕ}
-use mathlib.Core.Bool.{Bool}
+use mathlib.Core.Bool.{Bool, true, false}
 use mathlib.Core.List.{List}
 use lib.ListN.{length}
-use lib.Dec.{eqb}
 use Rattle.octets.specs.Pick.{pick, both, isSome}
 use Rattle.octets.specs.Text.{within}
 use Rattle.rows.specs.Limits as table
+use Rattle.rows.specs.Limits.{tableFits}
 use Rattle.table.specs.Types.{typeAt}
 use Rattle.table.specs.Admitted.{admitted}
-use Rattle.table.specs.Check.{tableFits}
 use Rattle.value.specs.Limits.{Limits}
 use Rattle.value.specs.Decode.{storedValue}
 use Rattle.value.specs.declared.ValueCheck.{ValueCheck}
 
--- a refusal number, 0 for none
+-- whether it is done and not refused; the refusal's number, 0 for none
 pub record ValueReport : Type 0 where
+  pub done : Bool
   pub refusal : ℕ
 
 abbrev pub refused : ℕ → ValueReport
-refused n = record { refusal = n }
+refused n = record { done = false; refusal = n }
 
 abbrev pub good : ValueReport
-good = record { refusal = 0 }
+good = record { done = true; refusal = 0 }
 
 -- what the code's answer says
 abbrev pub report : ValueCheck → ValueReport
 report ValueCheck.Good = good
 report (ValueCheck.Refused n) = refused n
-
--- refused, with this number
-abbrev pub isRefused : ℕ → ValueReport → Bool
-isRefused n r = eqb (r .refusal) n
 
 -- refusal 1: the value's size
 unfoldable pub valueFits : Limits → List ℕ → Bool
@@ -45,9 +41,6 @@ isStored l t v = isSome (storedValue (typeAt l t 0) v)
 unfoldable pub storage : table.Limits → List ℕ → List ℕ → ValueReport
 storage tl t v = pick (admitted tl t) (pick (isStored tl t v) good (refused 4)) (refused 2)
 
--- the sizes of a table, of at most so many octets, and of a value
-unfoldable pub sizesFit : ℕ → Limits → List ℕ → List ℕ → Bool
-sizesFit bytes vl t v = both (tableFits bytes t) (valueFits vl v)
-
-unfoldable pub valueReport : ℕ → table.Limits → Limits → List ℕ → List ℕ → ValueReport
-valueReport bytes tl vl t v = pick (sizesFit bytes vl t v) (storage tl t v) (refused 1)
+-- refusal 1, then the others
+unfoldable pub valueReport : table.Limits → Limits → List ℕ → List ℕ → ValueReport
+valueReport tl vl t v = pick (both (tableFits tl t) (valueFits vl v)) (storage tl t v) (refused 1)

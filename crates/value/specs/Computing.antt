@@ -4,9 +4,9 @@ use Rattle.table.specs.Computing.{tableComputes}
 use Rattle.value.specs.Value.{spotAt, encoding}
 use Rattle.value.specs.Order.{rising}
 use Rattle.value.specs.Decode.{inWrapper, startsHere, many, unwrapped, decode, storedValue}
-use Rattle.value.specs.Check.{valueFits, isStored, storage, sizesFit, valueReport}
+use Rattle.value.specs.Check.{valueFits, isStored, storage, valueReport}
 use Rattle.value.specs.Part.{partReport}
 
 unfoldable pub valueComputes : ℕ
-unfolding tableComputes spotAt encoding rising inWrapper startsHere many unwrapped decode storedValue valueFits isStored storage sizesFit valueReport partReport
+unfolding tableComputes spotAt encoding rising inWrapper startsHere many unwrapped decode storedValue valueFits isStored storage valueReport partReport
 valueComputes = 0

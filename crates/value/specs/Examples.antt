@@ -8,7 +8,8 @@ use Prim.Native.String.{String}
 use lib.ListN.{replicate}
 use Rattle.octets.specs.Pick.{isSome}
 use Rattle.octets.specs.Octets.{bytes, hex}
-use Rattle.table.specs.Paper.{tableBytes, tableLimits, licence}
+use Rattle.rows.specs.Paper.{tableLimits}
+use Rattle.table.specs.Paper.{licence}
 use Rattle.table.specs.Types.{Tagging, untagged, explicit, implicit, Presence, mandatory, optional, default, Member, Ty, basic, sequence, choice, listOf, noMore, more}
 use Rattle.value.specs.Paper.{valueLimits, licenceRecord}
 use Rattle.value.specs.Value.{leaf, fields, chosen, endFields, present, absent}
@@ -18,14 +19,14 @@ use Rattle.value.specs.Part.{refusedPart, partReport}
 use Rattle.value.specs.Computing.{valueComputes}
 
 abbrev report : List ℕ → ValueReport
-report v = valueReport tableBytes tableLimits valueLimits licence v
+report v = valueReport tableLimits valueLimits licence v
 
 licence-record : report licenceRecord ≡ good
 unfolding valueComputes
 licence-record = refl
 
 -- sizes 0 and 1; a table not admitted, of no octets; an octet more; one less; another tag
-checks : report [] ∷ report (hex "30") ∷ valueReport tableBytes tableLimits valueLimits (0 ∷ []) licenceRecord ∷ valueReport tableBytes tableLimits valueLimits [] licenceRecord
+checks : report [] ∷ report (hex "30") ∷ valueReport tableLimits valueLimits (0 ∷ []) licenceRecord ∷ valueReport tableLimits valueLimits [] licenceRecord
     ∷ report (licenceRecord ++ 0 ∷ []) ∷ report (hex "3000") ∷ report (hex "0200") ∷ []
     ≡ refused 1 ∷ refused 1 ∷ refused 2 ∷ refused 1 ∷ refused 4 ∷ refused 4 ∷ refused 4 ∷ []
 unfolding valueComputes

@@ -4,6 +4,3 @@ use Prim.Native.Nat.{ℕ}
 pub record Limits : Type 0 where
   pub least : ℕ
   pub most : ℕ
-
-abbrev pub limits : ℕ → ℕ → Limits
-limits least most = record { least = least; most = most }

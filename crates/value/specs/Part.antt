@@ -30,5 +30,5 @@ abbrev pub unlessRefused : ℕ → List ℕ → List ℕ
 unlessRefused n octets = pick (eqb n 0) octets []
 
 -- what the code's answer says
-abbrev pub told : ValuePart → PartReport
-told p = record { refusal = p .refusal; octets = now (p .octets) }
+abbrev pub report : ValuePart → PartReport
+report p = record { refusal = p .refusal; octets = now (p .octets) }

@@ -1,5 +1,6 @@
 // The check of a stored value: whether the octets are one value of the type of row 0, and the octets of a part of it.
 use der::Inside;
+use rows::Table;
 ghost use mathlib.Core.Path.{_≡_};
 ghost use mathlib.Core.Bool.{true, false};
 ghost use Prim.Native.Nat.{_≤_, _<_, _+_, _-_};
@@ -11,26 +12,28 @@ ghost use Rattle.rows.specs.Row.{rowAt, kindAt, elementAt, typeRowAt, membersAt
 ghost use Rattle.table.specs.Types.{taggingOf, memberOf, membersFrom, typeFrom};
 ghost use Rattle.table.specs.Work.{Sound};
 ghost use Rattle.value.specs.Decode.{tagOctet, unwrapped, alternativeFrom, decode, storedValue};
-ghost use Rattle.rows.specs.Limits.{limits as tableLimits};
-ghost use Rattle.value.specs.Limits.{limits as valueLimits};
-ghost use Rattle.value.specs.Check.{report, isRefused, valueFits, sizesFit, storage};
-ghost use Rattle.value.specs.Part.{partReport, unlessRefused, told};
+ghost use Rattle.value.specs.Paper.{valueLimits};
+ghost use Rattle.value.specs.Check.{report, valueFits, storage, valueReport};
+ghost use Rattle.value.specs.Part as parts;
 ghost use Rattle.value.specs.Work as work;
+ghost use Rattle.rows.specs.Paper.{tableLimits};
 
-// A stored value: how many octets it has, and the limits of every one.
-pub struct Value {
-    pub size: usize,
-}
+// A stored value: the limits of every one.
+pub struct Value;
 
 impl Value {
     pub const MIN_BYTES: usize = 2;
 
     pub const MAX_BYTES: usize = 4096;
 
-    pub fn of(size: usize) -> Self
-        ensures { λ r. ⌜ r .size ≡ size ⌝ }
+    // Whether a value may have so many octets.
+    pub fn fits(value: &[u8]) -> bool
+        ensures { λ r. ⌜ r ≡ valueFits valueLimits (now (value .entry)) ⌝ }
     {
-        Self { size }
+        if value.len() < Self::MIN_BYTES {
+            return false;
+        }
+        value.len() <= Self::MAX_BYTES
     }
 }
 
@@ -224,11 +227,11 @@ fn check_elements(
     start: usize,
     stop: usize,
 ) -> Checked
-    requires sound { do ⌜ Sound (← ⟦rows::Table::MAX_CHAIN⟧) (now t) (now s) (now m) ⌝ }
+    requires sound { ⌜ Sound (tableLimits .chain) (now t) (now s) (now m) ⌝ }
     requires here { ⌜ row < length (now s) ⌝ }
     requires list { ⌜ isList (kindAt (now t) (rowAt (now s) row)) ≡ true ⌝ }
     requires ordered { ⌜ start ≤ stop ⌝ }
-    ensures { λ r. do ⌜ r ≡ work.elementsTold (kindAt (now (t .entry)) (rowAt (now (s .entry)) row)) (typeFrom (← ⟦rows::Table::MAX_CHAIN⟧ .entry) (now (t .entry)) (now (s .entry)) (elementAt (now (t .entry)) (rowAt (now (s .entry)) row))) (now (v .entry)) stop start ⌝ }
+    ensures { λ r. ⌜ r ≡ work.elementsTold (kindAt (now (t .entry)) (rowAt (now (s .entry)) row)) (typeFrom (tableLimits .chain) (now (t .entry)) (now (s .entry)) (elementAt (now (t .entry)) (rowAt (now (s .entry)) row))) (now (v .entry)) stop start ⌝ }
 {
     let p = rows::row_at(s, row);
     let kind = rows::kind_at(t, p);
@@ -258,9 +261,9 @@ fn check_fields(
     start: usize,
     stop: usize,
 ) -> Checked
-    requires sound { do ⌜ Sound (← ⟦rows::Table::MAX_CHAIN⟧) (now t) (now s) (now m) ⌝ }
+    requires sound { ⌜ Sound (tableLimits .chain) (now t) (now s) (now m) ⌝ }
     requires here { ⌜ row < length (now s) ⌝ }
-    ensures { λ r. do ⌜ r ≡ work.fieldsTold (membersFrom (typeFrom (← ⟦rows::Table::MAX_CHAIN⟧ .entry) (now (t .entry)) (now (s .entry))) (now (t .entry)) (now (s .entry)) (row + 1) (membersAt (now (t .entry)) (rowAt (now (s .entry)) row))) (now (v .entry)) stop start ⌝ }
+    ensures { λ r. ⌜ r ≡ work.fieldsTold (membersFrom (typeFrom (tableLimits .chain) (now (t .entry)) (now (s .entry))) (now (t .entry)) (now (s .entry)) (row + 1) (membersAt (now (t .entry)) (rowAt (now (s .entry)) row))) (now (v .entry)) stop start ⌝ }
 {
     let n = rows::members_at(t, rows::row_at(s, row));
     let mut i = start;
@@ -288,11 +291,11 @@ fn check_member(
     i: usize,
     stop: usize,
 ) -> Checked
-    requires sound { do ⌜ Sound (← ⟦rows::Table::MAX_CHAIN⟧) (now t) (now s) (now m) ⌝ }
+    requires sound { ⌜ Sound (tableLimits .chain) (now t) (now s) (now m) ⌝ }
     requires here { ⌜ row < length (now s) ⌝ }
     requires member { ⌜ kindAt (now t) (rowAt (now s) row) ≡ 16 ⌝ }
     requires target { ⌜ typeRowAt (now t) (rowAt (now s) row) < length (now s) ⌝ }
-    ensures { λ r. do ⌜ r ≡ work.memberTold (memberOf (now (t .entry)) row (rowAt (now (s .entry)) row)) (typeFrom (← ⟦rows::Table::MAX_CHAIN⟧ .entry) (now (t .entry)) (now (s .entry)) (typeRowAt (now (t .entry)) (rowAt (now (s .entry)) row))) (now (v .entry)) stop i ⌝ }
+    ensures { λ r. ⌜ r ≡ work.memberTold (memberOf (now (t .entry)) row (rowAt (now (s .entry)) row)) (typeFrom (tableLimits .chain) (now (t .entry)) (now (s .entry)) (typeRowAt (now (t .entry)) (rowAt (now (s .entry)) row))) (now (v .entry)) stop i ⌝ }
 {
     let p = rows::row_at(s, row);
     if !starts_here(t, m, p, v, stop, i) {
@@ -318,9 +321,9 @@ fn check_tagged(
     at: usize,
     end: usize,
 ) -> Checked
-    requires sound { do ⌜ Sound (← ⟦rows::Table::MAX_CHAIN⟧) (now t) (now s) (now m) ⌝ }
+    requires sound { ⌜ Sound (tableLimits .chain) (now t) (now s) (now m) ⌝ }
     requires target { ⌜ typeRowAt (now t) (rowAt (now s) row) < length (now s) ⌝ }
-    ensures { λ r. do ⌜ r ≡ work.told (decode (typeFrom (← ⟦rows::Table::MAX_CHAIN⟧ .entry) (now (t .entry)) (now (s .entry)) (typeRowAt (now (t .entry)) (rowAt (now (s .entry)) row))) (taggingOf (modeAt (now (t .entry)) (rowAt (now (s .entry)) row)) (numberAt (now (t .entry)) (rowAt (now (s .entry)) row))) (now (v .entry)) at end) ⌝ }
+    ensures { λ r. ⌜ r ≡ work.told (decode (typeFrom (tableLimits .chain) (now (t .entry)) (now (s .entry)) (typeRowAt (now (t .entry)) (rowAt (now (s .entry)) row))) (taggingOf (modeAt (now (t .entry)) (rowAt (now (s .entry)) row)) (numberAt (now (t .entry)) (rowAt (now (s .entry)) row))) (now (v .entry)) at end) ⌝ }
 {
     let p = rows::row_at(s, row);
     let mode = rows::mode_at(t, p);
@@ -343,9 +346,9 @@ fn check_wrapped(
     at: usize,
     end: usize,
 ) -> Checked
-    requires sound { do ⌜ Sound (← ⟦rows::Table::MAX_CHAIN⟧) (now t) (now s) (now m) ⌝ }
+    requires sound { ⌜ Sound (tableLimits .chain) (now t) (now s) (now m) ⌝ }
     requires here { ⌜ row < length (now s) ⌝ }
-    ensures { λ r. do ⌜ r ≡ work.told (decode (typeFrom (← ⟦rows::Table::MAX_CHAIN⟧ .entry) (now (t .entry)) (now (s .entry)) row) (taggingOf 1 number) (now (v .entry)) at end) ⌝ }
+    ensures { λ r. ⌜ r ≡ work.told (decode (typeFrom (tableLimits .chain) (now (t .entry)) (now (s .entry)) row) (taggingOf 1 number) (now (v .entry)) at end) ⌝ }
 {
     let Inside::Of(start, n) = der::open(der::wrapper_octet(number), v, at, end) else {
         return Checked::Bad;
@@ -370,9 +373,9 @@ fn check_choice(
     at: usize,
     end: usize,
 ) -> Checked
-    requires sound { do ⌜ Sound (← ⟦rows::Table::MAX_CHAIN⟧) (now t) (now s) (now m) ⌝ }
+    requires sound { ⌜ Sound (tableLimits .chain) (now t) (now s) (now m) ⌝ }
     requires here { ⌜ row < length (now s) ⌝ }
-    ensures { λ r. do ⌜ r ≡ work.told (alternativeFrom (membersFrom (typeFrom (← ⟦rows::Table::MAX_CHAIN⟧ .entry) (now (t .entry)) (now (s .entry))) (now (t .entry)) (now (s .entry)) (row + 1) (membersAt (now (t .entry)) (rowAt (now (s .entry)) row))) (now (v .entry)) at end) ⌝ }
+    ensures { λ r. ⌜ r ≡ work.told (alternativeFrom (membersFrom (typeFrom (tableLimits .chain) (now (t .entry)) (now (s .entry))) (now (t .entry)) (now (s .entry)) (row + 1) (membersAt (now (t .entry)) (rowAt (now (s .entry)) row))) (now (v .entry)) at end) ⌝ }
 {
     let n = rows::members_at(t, rows::row_at(s, row));
     let j = find_alternative(t, s, m, v, row, n, at, end);
@@ -383,7 +386,7 @@ fn check_choice(
 }
 
 // The value of the type of a row at a place, before an end, behind the tag octet of a tag mode.
-pub fn check(
+fn check(
     t: &[u8],
     s: &[usize],
     m: &[u64],
@@ -394,9 +397,9 @@ pub fn check(
     at: usize,
     end: usize,
 ) -> Checked
-    requires sound { do ⌜ Sound (← ⟦rows::Table::MAX_CHAIN⟧) (now t) (now s) (now m) ⌝ }
+    requires sound { ⌜ Sound (tableLimits .chain) (now t) (now s) (now m) ⌝ }
     requires here { ⌜ row < length (now s) ⌝ }
-    ensures { λ r. do ⌜ r ≡ work.told (unwrapped (typeFrom (← ⟦rows::Table::MAX_CHAIN⟧ .entry) (now (t .entry)) (now (s .entry)) row) (taggingOf mode number) (now (v .entry)) at end) ⌝ }
+    ensures { λ r. ⌜ r ≡ work.told (unwrapped (typeFrom (tableLimits .chain) (now (t .entry)) (now (s .entry)) row) (taggingOf mode number) (now (v .entry)) at end) ⌝ }
 {
     let kind = rows::kind_at(t, rows::row_at(s, row));
     if kind == 13 {
@@ -418,9 +421,9 @@ pub fn check(
 // ---- the value check
 // Whether the whole buffer is one value of the type of row 0.
 pub fn is_stored(t: &[u8], s: &[usize], m: &[u64], v: &[u8]) -> bool
-    requires sound { do ⌜ Sound (← ⟦rows::Table::MAX_CHAIN⟧) (now t) (now s) (now m) ⌝ }
+    requires sound { ⌜ Sound (tableLimits .chain) (now t) (now s) (now m) ⌝ }
     requires here { ⌜ 0 < length (now s) ⌝ }
-    ensures { λ r. do ⌜ r ≡ isSome (storedValue (typeFrom (← ⟦rows::Table::MAX_CHAIN⟧ .entry) (now (t .entry)) (now (s .entry)) 0) (now (v .entry))) ⌝ }
+    ensures { λ r. ⌜ r ≡ isSome (storedValue (typeFrom (tableLimits .chain) (now (t .entry)) (now (s .entry)) 0) (now (v .entry))) ⌝ }
 {
     let Checked::At(next) = check(t, s, m, v, 0, 0, 0, 0, v.len()) else {
         return false;
@@ -428,21 +431,12 @@ pub fn is_stored(t: &[u8], s: &[usize], m: &[u64], v: &[u8]) -> bool
     next == v.len()
 }
 
-pub fn value_fits(value: &[u8]) -> bool
-    ensures { λ r. do ⌜ r ≡ valueFits (valueLimits (← ⟦Value::MIN_BYTES⟧ .entry) (← ⟦Value::MAX_BYTES⟧ .entry)) (now (value .entry)) ⌝ }
-{
-    if value.len() < Value::MIN_BYTES {
-        return false;
-    }
-    value.len() <= Value::MAX_BYTES
-}
-
 // The check of a table and a value of admitted sizes.
 fn check_storage(table: &[u8], value: &[u8]) -> ValueCheck
-    ensures { λ r. do ⌜ report r ≡ storage (tableLimits (← ⟦rows::Table::MAX_ROWS⟧ .entry) (← ⟦rows::Table::MAX_CHAIN⟧ .entry) (← ⟦rows::Table::MAX_MEMBERS⟧ .entry) (← ⟦rows::Table::MAX_NAME⟧ .entry)) (now (table .entry)) (now (value .entry)) ⌝ }
+    ensures { λ r. ⌜ report r ≡ storage tableLimits (now (table .entry)) (now (value .entry)) ⌝ }
 {
-    let mut starts = [0usize; rows::Table::MAX_ROWS];
-    let mut masks = [0u64; rows::Table::MAX_ROWS];
+    let mut starts = [0usize; Table::MAX_ROWS];
+    let mut masks = [0u64; Table::MAX_ROWS];
     let n = table::admit_table(table, &mut starts, &mut masks);
     if n == 0 {
         return ValueCheck::Refused(2);
@@ -455,16 +449,12 @@ fn check_storage(table: &[u8], value: &[u8]) -> ValueCheck
 
 // The value check: any octets for both.
 pub fn check_value(table: &[u8], value: &[u8]) -> ValueCheck
-    ensures size { λ r. do ⌜ isRefused 1 (report r) ≡ no (sizesFit (← ⟦rows::Table::MAX_BYTES⟧ .entry) (valueLimits (← ⟦Value::MIN_BYTES⟧ .entry) (← ⟦Value::MAX_BYTES⟧ .entry)) (now (table .entry)) (now (value .entry))) ⌝ }
-    ensures answer { λ r. do ⌜ (isRefused 1 (report r) ≡ false → report r ≡ storage (tableLimits (← ⟦rows::Table::MAX_ROWS⟧ .entry) (← ⟦rows::Table::MAX_CHAIN⟧ .entry) (← ⟦rows::Table::MAX_MEMBERS⟧ .entry) (← ⟦rows::Table::MAX_NAME⟧ .entry)) (now (table .entry)) (now (value .entry))) ⌝ }
+    ensures { λ r. ⌜ report r ≡ valueReport tableLimits valueLimits (now (table .entry)) (now (value .entry)) ⌝ }
 {
-    if table.len() < 1 {
+    if !Table::fits(table) {
         return ValueCheck::Refused(1);
     }
-    if rows::Table::MAX_BYTES < table.len() {
-        return ValueCheck::Refused(1);
-    }
-    if !value_fits(value) {
+    if !Value::fits(value) {
         return ValueCheck::Refused(1);
     }
     check_storage(table, value)
@@ -479,9 +469,9 @@ pub struct ValuePart<'a> {
 
 // The refusal number, 0 for none. Place plus length is compared by differences, so that no sum can pass the largest number.
 fn part_refusal(value: &[u8], place: usize, length: usize) -> u8
-    ensures { λ r. do ⌜ r ≡ partReport (valueLimits (← ⟦Value::MIN_BYTES⟧ .entry) (← ⟦Value::MAX_BYTES⟧ .entry)) (now (value .entry)) place length .refusal ⌝ }
+    ensures { λ r. ⌜ r ≡ parts.partReport valueLimits (now (value .entry)) place length .refusal ⌝ }
 {
-    if !value_fits(value) {
+    if !Value::fits(value) {
         return 1;
     }
     if value.len() < place {
@@ -495,7 +485,7 @@ fn part_refusal(value: &[u8], place: usize, length: usize) -> u8
 
 // The octets from a place on; none with a refusal.
 fn part_octets(value: &[u8], place: usize, length: usize, refusal: u8) -> &[u8]
-    ensures { λ r. ⌜ now r ≡ unlessRefused refusal (part (now (value .entry)) place length) ⌝ }
+    ensures { λ r. ⌜ now r ≡ parts.unlessRefused refusal (part (now (value .entry)) place length) ⌝ }
 {
     if refusal == 0 {
         return octets::part(value, place, length);
@@ -505,7 +495,7 @@ fn part_octets(value: &[u8], place: usize, length: usize, refusal: u8) -> &[u8]
 
 // The octets of a stored value, from place and length.
 pub fn part<'a>(value: &'a [u8], place: usize, length: usize) -> ValuePart<'a>
-    ensures { λ r. do ⌜ told r ≡ partReport (valueLimits (← ⟦Value::MIN_BYTES⟧ .entry) (← ⟦Value::MAX_BYTES⟧ .entry)) (now (value .entry)) place length ⌝ }
+    ensures { λ r. ⌜ parts.report r ≡ parts.partReport valueLimits (now (value .entry)) place length ⌝ }
 {
     let refusal = part_refusal(value, place, length);
     ValuePart {
@@ -516,7 +506,7 @@ pub fn part<'a>(value: &'a [u8], place: usize, length: usize) -> ValuePart<'a>
 
 // The refusal number of the fifth entry, for callers that hold no struct.
 pub fn part_number(value: &[u8], place: usize, length: usize) -> u8
-    ensures { λ n. do ⌜ n ≡ partReport (valueLimits (← ⟦Value::MIN_BYTES⟧ .entry) (← ⟦Value::MAX_BYTES⟧ .entry)) (now (value .entry)) place length .refusal ⌝ }
+    ensures { λ n. ⌜ n ≡ parts.partReport valueLimits (now (value .entry)) place length .refusal ⌝ }
 {
     let p = part(value, place, length);
     p.refusal
@@ -524,7 +514,7 @@ pub fn part_number(value: &[u8], place: usize, length: usize) -> u8
 
 // The octets of the fifth entry, for callers that hold no struct.
 pub fn part_bytes<'a>(value: &'a [u8], place: usize, length: usize) -> &'a [u8]
-    ensures { λ r. do ⌜ now r ≡ partReport (valueLimits (← ⟦Value::MIN_BYTES⟧ .entry) (← ⟦Value::MAX_BYTES⟧ .entry)) (now (value .entry)) place length .octets ⌝ }
+    ensures { λ r. ⌜ now r ≡ parts.partReport valueLimits (now (value .entry)) place length .octets ⌝ }
 {
     let p = part(value, place, length);
     p.octets

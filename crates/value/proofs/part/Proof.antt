@@ -1,5 +1,5 @@
 -- `value::part` meets its contract: a walk of its MIR, by hand. `part_refusal` is called, then `part_octets` with its number, and the struct is made of both results.
--- All that the proof knows of the two is that each meets its contract. The limits are asked by the same brackets in the contract of `part_refusal` and in this one, so its clause is carried to the exit.
+-- All that the proof knows of the two is that each meets its contract.
 use mathlib.Core.Path.{_≡_, refl, sym, ap, subst}
 use Prim.Native.Nat.{ℕ, _<_, _^_}
 use mathlib.Core.List.{List, [], _∷_}
@@ -14,7 +14,7 @@ use prog.Memory.{Memory}
 use prog.Routine.{Routine}
 use prog.Wp.{Heap, Calls, Loops, WpFn, Tables}
 use ghost.Atoms.{Atoms, sem}
-use contract.Monad.{Fun, fact}
+use contract.Monad.{Fun, fact, fact-mono}
 use contract.Running.{givenOf, tables, tablesOf}
 use types.Kit.{Given, Item, ‵, raw, _⊛_, ⋆, some, later, _$_, _∵_, !, qed, by, move, drop, use1, use2, split, join, pick, fsplit, fjoin, suffices, frame, await, done}
 use types.Part.{agg}
@@ -38,11 +38,10 @@ use denote.Triple.Walked.{Stays, stay-none, stay-none-slice, walkOf, goes-none, 
 use denote.Exit.{yes}
 use denote.Triple.Clauses.{atExit, ensured, lasts}
 use Rattle.octets.specs.Octets as octets
-use Rattle.value.specs.Limits.{limits}
-use Rattle.value.specs.Part.{partReport, unlessRefused, told}
+use Rattle.value.specs.Paper.{valueLimits}
+use Rattle.value.specs.Part.{partReport, unlessRefused, report}
 use Rattle.value.specs.declared.ValuePart.{ValuePart}
 use Rattle.value.proofs.PartSteps.{reported}
-use Rattle.value.proofs.PartCall.{Limited, limited}
 use Rattle.value.proofs.ValuePart as T
 use Rattle.value.proofs.ValuePart.Laws as T′
 use Rattle.value.proofs.part_refusal as refusal
@@ -114,7 +113,7 @@ module _ {M : Type 1} (𝓤 : URA M) (H : Heap 𝓤) (A : Atoms 𝓤) (W : Given
       use2 W (raw (Refusal 𝓤 H A mem run .pre to-refusal)) (qed W (Token ∷ ‵ (owns (Slice ∷ usize ∷ usize ∷ []) (s, (place, (size, tt))) at) ∷ []) ∵ join ! $ frame ! $ done !) $ frame ! $ done !
 
   abbrev Refused : ℕ → SProp 𝓤
-  Refused n = Limited 𝓤 H A mem run κ (λ least most. n ≡ partReport (limits least most) (now s) place size .refusal)
+  Refused n = fact 𝓤 (n ≡ partReport valueLimits (now s) place size .refusal)
 
   refusal-said : (n : ℕ) → ent 𝓤 (ensured 𝓤 H A refusal.ended (refusal.clauses 𝓤 H A mem run) (κ, tt) (s, (place, (size, tt))) tt n) (Refused n)
   refusal-said n = exE 𝓤 _ (λ ws. snd∗ 𝓤 (sem 𝓤 H A (lasts refusal.ended (κ, tt) (s, (place, (size, tt))) ws)) (Refused n))
@@ -159,7 +158,7 @@ module _ {M : Type 1} (𝓤 : URA M) (H : Heap 𝓤) (A : Atoms 𝓤) (W : Given
           qed W (Left vₒ) ∵
           suffices ! _ (ends-at 𝓤 H A part.ended stayed (part.clauses 𝓤 H A mem run) W (((κ, tt), (q, tt), tt, (s, (place, (size, tt))), at), tt) (T′.lowered made) made (tt, (tt, (tt, tt))) (tt, (tt, (tt, tt)))) $
           suffices ! _ (comm∗ 𝓤 Said (onExit 𝓤 H A part.ended stayed (κ, tt) (q, tt) at (T′.lowered made) made (s, (place, (size, tt))) (tt, (tt, (tt, tt))))) $
-          move ! (3 ∷ []) $ use1 W (raw Said) (limited 𝓤 H A mem run κ _ (λ least most. told made ≡ partReport (limits least most) (now s) place size) (λ least most r. reported (limits least most) (now s) (now o) place size n r e)) $ frame ! $
+          move ! (3 ∷ []) $ use1 W (raw Said) (fact-mono 𝓤 (n ≡ partReport valueLimits (now s) place size .refusal) (report made ≡ partReport valueLimits (now s) place size) (λ r. reported valueLimits (now s) (now o) place size n r e)) $ frame ! $
           move ! (1 ∷ []) $ frame ! $
           -- [what o owns; what s owns]
           nothing ! $ owned ! usize (Is usize) (uint-makes 𝓤 H A W w64) size (vint w64 size ∷ []) (refl, ok-size) $ fjoin ! $ owned ! usize (Is usize) (uint-makes 𝓤 H A W w64) place (vint w64 place ∷ []) (refl, ok-place) $ fjoin ! $

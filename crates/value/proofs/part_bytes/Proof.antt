@@ -1,5 +1,5 @@
 -- `value::part_bytes` meets its contract: a walk of its MIR, by hand. `part` is called, and the slice that the struct it returns holds is handed back.
--- All that the proof knows of `part` is that it meets its contract. The limits are asked by the same brackets in both contracts, so its clause is carried to the exit.
+-- All that the proof knows of `part` is that it meets its contract.
 use mathlib.Core.Path.{_≡_, refl, ap}
 use Prim.Native.Nat.{ℕ, _<_, _^_}
 use mathlib.Core.List.{List, [], _∷_}
@@ -13,7 +13,7 @@ use prog.Memory.{Memory}
 use prog.Routine.{Routine}
 use prog.Wp.{Heap, Calls, Loops, WpFn, Tables}
 use ghost.Atoms.{Atoms}
-use contract.Monad.{Fun}
+use contract.Monad.{Fun, fact, fact-mono}
 use contract.Running.{givenOf, tables, tablesOf}
 use types.Kit.{Given, Item, ‵, raw, _⊛_, ⋆, some, later, given, _$_, _∵_, !, qed, by, move, drop, use1, rewrite, split, pick, learn, fjoin, suffices, frame, await, done}
 use types.Part.{whole, sub, look-in}
@@ -38,10 +38,10 @@ use denote.Triple.Table.{entered, cited}
 use denote.Triple.Walked.{Stays, stay-none, stay-none-slice, walkOf, goes-none, goes-none-slice, Walks, onExit, ends-at, walked, walk-meets}
 use denote.Exit.{yes}
 use denote.Triple.Clauses.{ensured}
-use Rattle.value.specs.Limits.{limits}
-use Rattle.value.specs.Part.{PartReport, partReport}
+use Rattle.value.specs.Paper.{valueLimits}
+use Rattle.value.specs.Part.{PartReport, partReport, report}
 use Rattle.value.specs.declared.ValuePart.{ValuePart}
-use Rattle.value.proofs.PartCall.{Limited, limited, Part, B, Slice, Own, Token, Reported, valueOf, passed, to-part, goes-part, part-said, value-is}
+use Rattle.value.proofs.PartCall.{Part, B, Slice, Own, Token, Reported, valueOf, passed, to-part, goes-part, part-said, value-is}
 use Rattle.value.proofs.ValuePart as T
 use Rattle.value.proofs.ValuePart.Laws as T′
 use Rattle.value.proofs.part as part
@@ -76,7 +76,7 @@ module _ {M : Type 1} (𝓤 : URA M) (H : Heap 𝓤) (A : Atoms 𝓤) (W : Given
 
   -- the contract's clause
   abbrev Said : ValuePart → SProp 𝓤
-  Said r = Limited 𝓤 H A mem run κ (λ least most. now (r .octets) ≡ partReport (limits least most) (now s) place size .octets)
+  Said r = fact 𝓤 (now (r .octets) ≡ partReport valueLimits (now s) place size .octets)
 
   -- what is left at exit, with the struct r at the machine value u
   abbrev Left : ValuePart → Val → List (Item 𝓤)
@@ -101,7 +101,7 @@ module _ {M : Type 1} (𝓤 : URA M) (H : Heap 𝓤) (A : Atoms 𝓤) (W : Given
         qed W (Left r u) ∵
         suffices ! _ (ends-at 𝓤 H A bytes.ended stayed (bytes.clauses 𝓤 H A mem run) W (((κ, tt), (q, tt), tt, (s, (place, (size, tt))), at), tt) (valueOf (r .octets)) (r .octets) (tt, (tt, (tt, tt))) (tt, (tt, (tt, tt)))) $
         suffices ! _ (comm∗ 𝓤 (Said r) (onExit 𝓤 H A bytes.ended stayed (κ, tt) (q, tt) at (valueOf (r .octets)) (r .octets) (s, (place, (size, tt))) (tt, (tt, (tt, tt))))) $
-        move ! (2 ∷ []) $ use1 W (raw (Said r)) (limited 𝓤 H A mem run κ _ _ (λ least most e. ap (λ (p : PartReport). p .octets) e)) $ frame ! $
+        move ! (2 ∷ []) $ use1 W (raw (Said r)) (fact-mono 𝓤 (report r ≡ partReport valueLimits (now s) place size) (now (r .octets) ≡ partReport valueLimits (now s) place size .octets) (λ e. ap (λ (p : PartReport). p .octets) e)) $ frame ! $
         move ! (1 ∷ []) $ frame ! $
         -- [what the struct owns; what s owns]
         nothing ! $ owned ! usize (Is usize) (uint-makes 𝓤 H A W w64) size (vint w64 size ∷ []) (refl, ok-size) $ fjoin ! $ owned ! usize (Is usize) (uint-makes 𝓤 H A W w64) place (vint w64 place ∷ []) (refl, ok-place) $ fjoin ! $
