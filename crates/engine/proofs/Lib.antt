@@ -1,3 +1,2 @@
 pub mod ListSteps
-pub mod Answers
 pub mod AskSteps

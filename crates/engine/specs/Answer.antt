@@ -4,11 +4,11 @@ use Prim.Native.Nat.{ℕ}
 use mathlib.Core.Bool.{Bool}
 use mathlib.Core.Option.{Option, none, some}
 use mathlib.Core.List.{List}
-use lib.Dec.{leb, eqb}
+use lib.Dec.{leb}
 use Rattle.octets.specs.Pick.{pick, both, isSome}
+use Rattle.rows.specs.Limits.{tableFits}
 use Rattle.table.specs.Types.{Ty, typeAt}
 use Rattle.table.specs.Admitted.{admitted}
-use Rattle.table.specs.Check.{tableFits}
 use Rattle.value.specs.Decode.{storedValue}
 use Rattle.value.specs.Check.{valueFits}
 use Rattle.filter.specs.Filter.{Filter}
@@ -38,13 +38,9 @@ unfoldable pub budgeted : ℕ → Outcome → Report
 budgeted budget (settled t n) = pick (leb n budget) (answers t n) (refused 5)
 budgeted budget (faulted n) = pick (leb n budget) (refused 7) (refused 5)
 
--- 1: a size or the budget out of its limits: the most octets of a table, whether the value's octets and the filter's are within theirs, the largest
--- budget
-unfoldable pub questionWithin : ℕ → Bool → Bool → ℕ → List ℕ → ℕ → Bool
-questionWithin bytes value filter most t budget = both (tableFits bytes t) (both value (both filter (leb budget most)))
-
+-- 1: sizes and the budget
 unfoldable pub questionFits : Limits → List ℕ → List ℕ → List ℕ → ℕ → Bool
-questionFits l t v s budget = questionWithin (l .bytes) (valueFits (l .value) v) (filterFits (l .filter) s) (l .budget) t budget
+questionFits l t v s budget = both (tableFits (l .table) t) (both (valueFits (l .value) v) (both (filterFits (l .filter) s) (leb budget (l .budget))))
 
 -- a filter that has been read, put to a value of a type
 unfoldable pub evaluated : Ty → List ℕ → Filter → Outcome
@@ -55,11 +51,13 @@ unfoldable pub withFilter : Ty → List ℕ → ℕ → Option Filter → Report
 withFilter ty v budget none = refused 3
 withFilter ty v budget (some f) = pick (isSome (storedValue ty v)) (budgeted budget (evaluated ty v f)) (refused 4)
 
+-- 2, then 3 and the others
+unfoldable pub questionOf : Limits → List ℕ → List ℕ → List ℕ → ℕ → Report
+questionOf l t v s budget = pick (admitted (l .table) t) (withFilter (typeAt (l .table) t 0) v budget (parse (l .filter) s)) (refused 2)
+
+-- 1, then the others
 unfoldable pub askReport : Limits → List ℕ → List ℕ → List ℕ → ℕ → Report
-askReport l t v s budget =
-    pick (questionFits l t v s budget)
-    (pick (admitted (l .table) t) (withFilter (typeAt (l .table) t 0) v budget (parse (l .filter) s)) (refused 2))
-    (refused 1)
+askReport l t v s budget = pick (questionFits l t v s budget) (questionOf l t v s budget) (refused 1)
 
 -- ---- what the code's answer says
 abbrev pub report : Answer → Report
@@ -67,10 +65,6 @@ report (Answer.True n) = answers TRUE n
 report (Answer.False n) = answers FALSE n
 report (Answer.Undefined n) = answers UNDEFINED n
 report (Answer.Refused n) = refused n
-
--- refused, with this number
-abbrev pub isRefused : ℕ → Report → Bool
-isRefused n r = eqb (r .refusal) n
 
 -- a truth with the tests made, and what the evaluation of a filter comes to
 abbrev pub settledAs : Verdict → ℕ → Answer

@@ -6,9 +6,9 @@ use Rattle.trail.specs.Trail.{then, eachFrom, countFrom, positionFrom, findMemb
 use Rattle.judge.specs.Truth.{everyTruth, anyTruth, conjunction, disjunction, truth}
 use Rattle.judge.specs.Reading.{reading}
 use Rattle.judge.specs.Assertion.{asked, testing, outcome}
-use Rattle.engine.specs.Answer.{budgeted, questionWithin, questionFits, evaluated, withFilter, askReport}
+use Rattle.engine.specs.Answer.{budgeted, questionFits, evaluated, withFilter, questionOf, askReport}
 use Rattle.engine.specs.Listing.{written, listed, walked, listingFits, withIds, listingOf, listReport}
 
 unfoldable pub engineComputes : ℕ
-unfolding filterComputes ownHeader openAt then eachFrom countFrom positionFrom findMember findAlternative along trail faulty reached everyTruth anyTruth conjunction disjunction truth reading asked testing outcome budgeted questionWithin questionFits evaluated withFilter askReport written listed walked listingFits withIds listingOf listReport
+unfolding filterComputes ownHeader openAt then eachFrom countFrom positionFrom findMember findAlternative along trail faulty reached everyTruth anyTruth conjunction disjunction truth reading asked testing outcome budgeted questionFits evaluated withFilter questionOf askReport written listed walked listingFits withIds listingOf listReport
 engineComputes = 0

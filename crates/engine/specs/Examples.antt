@@ -10,7 +10,8 @@ use lib.Dec.{eqb}
 use Rattle.octets.specs.Pick.{pick}
 use Rattle.octets.specs.Octets.{bytes, hex}
 use Rattle.table.specs.Types.{typeAt}
-use Rattle.table.specs.Paper.{tableLimits, licence}
+use Rattle.rows.specs.Paper.{tableLimits}
+use Rattle.table.specs.Paper.{licence}
 use Rattle.value.specs.Paper.{licenceRecord}
 use Rattle.filter.specs.Filter.{Item, Join, and, or, Filter, item, list, inverse, endFilters, next}
 use Rattle.reference.specs.Reference.{position, all, Id, name, index}

@@ -1,16 +1,14 @@
 -- The listing: "three numbers for each named value", or a refusal; and the lent memory afterwards. Order: 1, 2, 3, 4, 7, 6.
 use Prim.Native.Nat.{ℕ, _*_}
-use mathlib.Core.Bool.{Bool}
+use mathlib.Core.Bool.{Bool, true, false}
 use mathlib.Core.Option.{Option, none, some}
 use mathlib.Core.List.{List, [], _++_}
 use lib.ListN.{length, drop}
-use lib.Dec.{ltb, leb, eqb}
+use lib.Dec.{ltb, leb}
 use Rattle.octets.specs.Pick.{pick, both, either, no, isSome}
-use Rattle.rows.specs.Limits as table
+use Rattle.rows.specs.Limits.{tableFits}
 use Rattle.table.specs.Types.{Ty, typeAt}
 use Rattle.table.specs.Admitted.{admitted}
-use Rattle.table.specs.Check.{tableFits}
-use Rattle.value.specs.Limits as value
 use Rattle.value.specs.Decode.{storedValue}
 use Rattle.value.specs.Check.{valueFits}
 use Rattle.reference.specs.Reference.{Id, readReference}
@@ -20,16 +18,17 @@ use Rattle.engine.specs.Limits.{Limits}
 use Rattle.trail.specs.Trail.{Trail, trail, faulty, reached}
 use Rattle.engine.specs.declared.Listed.{Listed}
 
--- a refusal number, 0 for none; "the count in its answer is the number of named values", and 0 with a refusal
+-- whether it is done and not refused; the refusal's number, 0 for none; "the count in its answer is the number of named values", and 0 with a refusal
 pub record ListReport : Type 0 where
+  pub done : Bool
   pub refusal : ℕ
   pub count : ℕ
 
 abbrev pub refused : ℕ → ListReport
-refused n = record { refusal = n; count = 0 }
+refused n = record { done = false; refusal = n; count = 0 }
 
 abbrev pub lists : ℕ → ListReport
-lists n = record { refusal = 0; count = n }
+lists n = record { done = true; refusal = 0; count = n }
 
 -- an answer, and the lent memory afterwards
 pub record Listing : Type 0 where
@@ -52,10 +51,13 @@ listed cs room = pick (ltb (length room) (length cs * 3)) (refusedList 6 room) (
 unfoldable pub walked : Trail → List ℕ → Listing
 walked a room = pick (faulty a) (refusedList 7 room) (listed (reached a) room)
 
--- 1: "a listing's reference above 2,048"; where none is given its octets are not looked at. The most octets of a table, the limits of a value, and the
--- most octets of a reference
-unfoldable pub listingFits : ℕ → value.Limits → ℕ → List ℕ → List ℕ → Bool → List ℕ → Bool
-listingFits bytes vl most t v given r = both (tableFits bytes t) (both (valueFits vl v) (either (no given) (leb (length r) most)))
+-- 1: "a listing's reference above 2,048"; where none is given its octets are not looked at
+abbrev pub referenceFits : Limits → Bool → List ℕ → Bool
+referenceFits l given r = either (no given) (leb (length r) (l .reference))
+
+-- 1: sizes
+unfoldable pub listingFits : Limits → List ℕ → List ℕ → Bool → List ℕ → Bool
+listingFits l t v given r = both (tableFits (l .table) t) (both (valueFits (l .value) v) (referenceFits l given r))
 
 -- "The listing may be given no reference; an empty one is refused 3."
 abbrev pub givenIds : Bool → List ℕ → Option (List Id)
@@ -70,24 +72,24 @@ withIds ty v defaults room (some is) =
     (refusedList 3 room)
 
 -- 2, then 3 and the others
-unfoldable pub listingOf : table.Limits → List ℕ → List ℕ → Bool → List ℕ → Bool → List ℕ → Listing
-listingOf l t v given r defaults room = pick (admitted l t) (withIds (typeAt l t 0) v defaults room (givenIds given r)) (refusedList 2 room)
+unfoldable pub listingOf : Limits → List ℕ → List ℕ → Bool → List ℕ → Bool → List ℕ → Listing
+listingOf l t v given r defaults room =
+    pick (admitted (l .table) t)
+    (withIds (typeAt (l .table) t 0) v defaults room (givenIds given r))
+    (refusedList 2 room)
 
+-- 1, then the others
 unfoldable pub listReport : Limits → List ℕ → List ℕ → Bool → List ℕ → Bool → List ℕ → Listing
 listReport l t v given r defaults room =
-    pick (listingFits (l .bytes) (l .value) (l .reference) t v given r)
-    (listingOf (l .table) t v given r defaults room)
+    pick (listingFits l t v given r)
+    (listingOf l t v given r defaults room)
     (refusedList 1 room)
 
 -- ---- what the code's answer says
-abbrev pub listedReport : Listed → ListReport
-listedReport (Listed.Values n) = lists n
-listedReport (Listed.Refused n) = refused n
+abbrev pub report : Listed → ListReport
+report (Listed.Values n) = lists n
+report (Listed.Refused n) = refused n
 
 -- with the lent memory
-abbrev pub listedTold : Listed → List ℕ → Listing
-listedTold r memory = record { report = listedReport r; memory = memory }
-
--- refused, with this number
-abbrev pub isRefused : ℕ → ListReport → Bool
-isRefused n r = eqb (r .refusal) n
+abbrev pub listing : Listed → List ℕ → Listing
+listing a memory = record { report = report a; memory = memory }

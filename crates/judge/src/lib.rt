@@ -32,6 +32,7 @@ ghost use Rattle.trail.specs.Trail.{trail};
 ghost use Rattle.walk.specs.Run as run;
 ghost use Rattle.judge.specs.Assertion.{testing, outcome};
 ghost use Rattle.judge.specs.Work as work;
+ghost use Rattle.rows.specs.Paper.{tableLimits};
 
 pub enum Verdict {
     True,
@@ -70,9 +71,9 @@ pub enum Progress {
 // ---- one assertion
 // Whether a rule is for what a reference leads to.
 fn suits_target(rule: Rule, t: &[u8], s: &[usize], m: &[u64], target: Target) -> bool
-    requires sound { do ⌜ Sound (← ⟦rows::Table::MAX_CHAIN⟧) (now t) (now s) (now m) ⌝ }
+    requires sound { ⌜ Sound (tableLimits .chain) (now t) (now s) (now m) ⌝ }
     requires here { ⌜ reference.rowWithin (now s) target ≡ true ⌝ }
-    ensures { λ r. do ⌜ r ≡ work.suitsAny (meant rule) (reference.targetTold (← ⟦rows::Table::MAX_CHAIN⟧ .entry) (now (t .entry)) (now (s .entry)) target) ⌝ }
+    ensures { λ r. ⌜ r ≡ work.suitsAny (meant rule) (reference.targetTold (tableLimits .chain) (now (t .entry)) (now (s .entry)) target) ⌝ }
 {
     match target {
         Target::Row(i) => rules::suits(rule, t, s, i),
@@ -91,9 +92,9 @@ fn is_asked(
     rule: Rule,
     text: &[u8],
 ) -> bool
-    requires sound { do ⌜ Sound (← ⟦rows::Table::MAX_CHAIN⟧) (now t) (now s) (now m) ⌝ }
+    requires sound { ⌜ Sound (tableLimits .chain) (now t) (now s) (now m) ⌝ }
     requires rows { ⌜ 0 < length (now s) ⌝ }
-    ensures { λ b. do ⌜ b ≡ both (work.suitsAny (meant rule) (reference.leadsTo given (now (r .entry)) (typeFrom (← ⟦rows::Table::MAX_CHAIN⟧ .entry) (now (t .entry)) (now (s .entry)) 0))) (conforms (meant rule) (now (text .entry))) ⌝ }
+    ensures { λ b. ⌜ b ≡ both (work.suitsAny (meant rule) (reference.leadsTo given (now (r .entry)) (typeFrom (tableLimits .chain) (now (t .entry)) (now (s .entry)) 0))) (conforms (meant rule) (now (text .entry))) ⌝ }
 {
     let target = reference::target_of(t, s, m, given, r);
     if !suits_target(rule, t, s, m, target) {
@@ -112,9 +113,9 @@ fn asked_rule(
     name: &[u8],
     text: &[u8],
 ) -> Named
-    requires sound { do ⌜ Sound (← ⟦rows::Table::MAX_CHAIN⟧) (now t) (now s) (now m) ⌝ }
+    requires sound { ⌜ Sound (tableLimits .chain) (now t) (now s) (now m) ⌝ }
     requires rows { ⌜ 0 < length (now s) ⌝ }
-    ensures { λ w. do ⌜ toldRule w ≡ work.askedRule (reference.leadsTo given (now (r .entry)) (typeFrom (← ⟦rows::Table::MAX_CHAIN⟧ .entry) (now (t .entry)) (now (s .entry)) 0)) (now (name .entry)) (now (text .entry)) ⌝ }
+    ensures { λ w. ⌜ toldRule w ≡ work.askedRule (reference.leadsTo given (now (r .entry)) (typeFrom (tableLimits .chain) (now (t .entry)) (now (s .entry)) 0)) (now (name .entry)) (now (text .entry)) ⌝ }
 {
     let Named::Known(rule) = rules::rule_of(name) else {
         return Named::Unknown;
@@ -139,10 +140,10 @@ fn judge_asked(
     budget: usize,
     n: usize,
 ) -> Judged
-    requires ready { do ⌜ work.Ready (← ⟦rows::Table::MAX_CHAIN⟧) (now t) (now s) (now m) (now v) ⌝ }
+    requires ready { ⌜ work.Ready (tableLimits .chain) (now t) (now s) (now m) (now v) ⌝ }
     requires read { ⌜ isSome (pick given (readReference (now r)) (some [])) ≡ true ⌝ }
     requires within { ⌜ n ≤ budget ⌝ }
-    ensures { λ w. do ⌜ w ≡ work.charged budget n (testing (run.acceptsRead (meant rule) (now (text .entry))) 0 (trail defaults (run.idsOr (pick given (readReference (now (r .entry))) (some []))) (typeFrom (← ⟦rows::Table::MAX_CHAIN⟧ .entry) (now (t .entry)) (now (s .entry)) 0) (now (v .entry)))) ⌝ }
+    ensures { λ w. ⌜ w ≡ work.charged budget n (testing (run.acceptsRead (meant rule) (now (text .entry))) 0 (trail defaults (run.idsOr (pick given (readReference (now (r .entry))) (some []))) (typeFrom (tableLimits .chain) (now (t .entry)) (now (s .entry)) 0) (now (v .entry)))) ⌝ }
 {
     let mut out = [0u64; 1];
     let task = Task::Test(rule, budget);
@@ -168,9 +169,9 @@ fn judge_item(
     budget: usize,
     n: usize,
 ) -> Judged
-    requires ready { do ⌜ work.Ready (← ⟦rows::Table::MAX_CHAIN⟧) (now t) (now s) (now m) (now v) ⌝ }
+    requires ready { ⌜ work.Ready (tableLimits .chain) (now t) (now s) (now m) (now v) ⌝ }
     requires within { ⌜ n ≤ budget ⌝ }
-    ensures { λ w. do ⌜ w ≡ work.charged budget n (outcome (typeFrom (← ⟦rows::Table::MAX_CHAIN⟧ .entry) (now (t .entry)) (now (s .entry)) 0) (now (v .entry)) (work.itemGiven given (now (r .entry)) defaults (now (name .entry)) (now (text .entry)))) ⌝ }
+    ensures { λ w. ⌜ w ≡ work.charged budget n (outcome (typeFrom (tableLimits .chain) (now (t .entry)) (now (s .entry)) 0) (now (v .entry)) (work.itemGiven given (now (r .entry)) defaults (now (name .entry)) (now (text .entry)))) ⌝ }
 {
     match asked_rule(t, s, m, given, r, name, text) {
         Named::Known(rule) => judge_asked(t, s, m, v, given, r, defaults, rule, text, budget, n),
@@ -192,9 +193,9 @@ fn judge_component(
     budget: usize,
     n: usize,
 ) -> Judged
-    requires ready { do ⌜ work.Ready (← ⟦rows::Table::MAX_CHAIN⟧) (now t) (now s) (now m) (now v) ⌝ }
+    requires ready { ⌜ work.Ready (tableLimits .chain) (now t) (now s) (now m) (now v) ⌝ }
     requires within { ⌜ n ≤ budget ⌝ }
-    ensures { λ w. do ⌜ w ≡ work.charged budget n (outcome (typeFrom (← ⟦rows::Table::MAX_CHAIN⟧ .entry) (now (t .entry)) (now (s .entry)) 0) (now (v .entry)) (work.itemAt (now (f .entry)) component defaults (now (name .entry)) (now (text .entry)))) ⌝ }
+    ensures { λ w. ⌜ w ≡ work.charged budget n (outcome (typeFrom (tableLimits .chain) (now (t .entry)) (now (s .entry)) 0) (now (v .entry)) (work.itemAt (now (f .entry)) component defaults (now (name .entry)) (now (text .entry)))) ⌝ }
 {
     match component {
         Component::Missing => judge_item(t, s, m, v, false, f, defaults, name, text, budget, n),
@@ -225,9 +226,9 @@ fn judge_parts(
     budget: usize,
     n: usize,
 ) -> Judged
-    requires ready { do ⌜ work.Ready (← ⟦rows::Table::MAX_CHAIN⟧) (now t) (now s) (now m) (now v) ⌝ }
+    requires ready { ⌜ work.Ready (tableLimits .chain) (now t) (now s) (now m) (now v) ⌝ }
     requires within { ⌜ n ≤ budget ⌝ }
-    ensures { λ w. do ⌜ w ≡ work.charged budget n (outcome (typeFrom (← ⟦rows::Table::MAX_CHAIN⟧ .entry) (now (t .entry)) (now (s .entry)) 0) (now (v .entry)) (itemOf (now (f .entry)) p)) ⌝ }
+    ensures { λ w. ⌜ w ≡ work.charged budget n (outcome (typeFrom (tableLimits .chain) (now (t .entry)) (now (s .entry)) 0) (now (v .entry)) (itemOf (now (f .entry)) p)) ⌝ }
 {
     let name = assertion::between(f, p.rule, p.rule_end);
     let text = assertion::between(f, p.value, p.value_end);
@@ -377,9 +378,9 @@ fn judge_assertion(
     budget: usize,
     n: usize,
 ) -> Judging
-    requires ready { do ⌜ work.Ready (← ⟦rows::Table::MAX_CHAIN⟧) (now t) (now s) (now m) (now v) ⌝ }
+    requires ready { ⌜ work.Ready (tableLimits .chain) (now t) (now s) (now m) (now v) ⌝ }
     requires within { ⌜ n ≤ budget ⌝ }
-    ensures { λ w. do ⌜ w ≡ work.judgedFilter (outcome (typeFrom (← ⟦rows::Table::MAX_CHAIN⟧ .entry) (now (t .entry)) (now (s .entry)) 0) (now (v .entry))) live budget n (parsing.made item (assertionAt (now (f .entry)) at)) ⌝ }
+    ensures { λ w. ⌜ w ≡ work.judgedFilter (outcome (typeFrom (tableLimits .chain) (now (t .entry)) (now (s .entry)) 0) (now (v .entry))) live budget n (parsing.made item (assertionAt (now (f .entry)) at)) ⌝ }
 {
     let Assertion::Good(parts) = assertion::read_assertion(f, at) else {
         return Judging::Fault;
@@ -432,10 +433,10 @@ fn judge_filter(
     budget: usize,
     n: usize,
 ) -> Judging
-    requires ready { do ⌜ work.Ready (← ⟦rows::Table::MAX_CHAIN⟧) (now t) (now s) (now m) (now v) ⌝ }
+    requires ready { ⌜ work.Ready (tableLimits .chain) (now t) (now s) (now m) (now v) ⌝ }
     requires read { ⌜ isSome (parsing.filterAt (now f) at) ≡ true ⌝ }
     requires within { ⌜ n ≤ budget ⌝ }
-    ensures { λ w. do ⌜ w ≡ work.judgedFilter (outcome (typeFrom (← ⟦rows::Table::MAX_CHAIN⟧ .entry) (now (t .entry)) (now (s .entry)) 0) (now (v .entry))) live budget n (parsing.filterAt (now (f .entry)) at) ⌝ }
+    ensures { λ w. ⌜ w ≡ work.judgedFilter (outcome (typeFrom (tableLimits .chain) (now (t .entry)) (now (s .entry)) 0) (now (v .entry))) live budget n (parsing.filterAt (now (f .entry)) at) ⌝ }
 {
     match filter::read_head(f, at) {
         Head::Assertion(p) => judge_assertion(t, s, m, v, f, p, live, budget, n),
@@ -459,10 +460,10 @@ fn judge_list(
     budget: usize,
     n: usize,
 ) -> Judging
-    requires ready { do ⌜ work.Ready (← ⟦rows::Table::MAX_CHAIN⟧) (now t) (now s) (now m) (now v) ⌝ }
+    requires ready { ⌜ work.Ready (tableLimits .chain) (now t) (now s) (now m) (now v) ⌝ }
     requires read { ⌜ isSome (parsing.filtersAt (now f) at) ≡ true ⌝ }
     requires within { ⌜ n ≤ budget ⌝ }
-    ensures { λ w. do ⌜ w ≡ work.judgedFilters (outcome (typeFrom (← ⟦rows::Table::MAX_CHAIN⟧ .entry) (now (t .entry)) (now (s .entry)) 0) (now (v .entry))) (joinOf join) (work.begun live) budget n (parsing.filtersAt (now (f .entry)) at) ⌝ }
+    ensures { λ w. ⌜ w ≡ work.judgedFilters (outcome (typeFrom (tableLimits .chain) (now (t .entry)) (now (s .entry)) 0) (now (v .entry))) (joinOf join) (work.begun live) budget n (parsing.filtersAt (now (f .entry)) at) ⌝ }
 {
     let mut i = at;
     let mut k = n;
@@ -482,9 +483,9 @@ fn judge_list(
 
 // The filter of a whole text.
 pub fn judge(t: &[u8], s: &[usize], m: &[u64], v: &[u8], f: &[u8], budget: usize) -> Judged
-    requires ready { do ⌜ work.Ready (← ⟦rows::Table::MAX_CHAIN⟧) (now t) (now s) (now m) (now v) ⌝ }
+    requires ready { ⌜ work.Ready (tableLimits .chain) (now t) (now s) (now m) (now v) ⌝ }
     requires read { ⌜ isSome (parsing.filterAt (now f) 0) ≡ true ⌝ }
-    ensures { λ w. do ⌜ w ≡ work.judgedText (outcome (typeFrom (← ⟦rows::Table::MAX_CHAIN⟧ .entry) (now (t .entry)) (now (s .entry)) 0) (now (v .entry))) budget (parsing.filterAt (now (f .entry)) 0) ⌝ }
+    ensures { λ w. ⌜ w ≡ work.judgedText (outcome (typeFrom (tableLimits .chain) (now (t .entry)) (now (s .entry)) 0) (now (v .entry))) budget (parsing.filterAt (now (f .entry)) 0) ⌝ }
 {
     match judge_filter(t, s, m, v, f, 0, true, budget, 0) {
         Judging::At(u, k, _) => Judged::Of(u, k),

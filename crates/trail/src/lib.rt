@@ -17,6 +17,7 @@ ghost use Rattle.value.specs.Work.{marked};
 ghost use Rattle.trail.specs.Trail as trail;
 ghost use Rattle.trail.specs.Trail.{countFrom};
 ghost use Rattle.trail.specs.Work as work;
+ghost use Rattle.rows.specs.Paper.{tableLimits};
 
 // A value whose header has been read: its place, where its contents start and how long they are.
 pub enum Opening {
@@ -77,9 +78,9 @@ fn own_header(
     at: usize,
     end: usize,
 ) -> Inside
-    requires sound { do ⌜ Sound (← ⟦rows::Table::MAX_CHAIN⟧) (now t) (now s) (now m) ⌝ }
+    requires sound { ⌜ Sound (tableLimits .chain) (now t) (now s) (now m) ⌝ }
     requires here { ⌜ row < length (now s) ⌝ }
-    ensures { λ r. do ⌜ r ≡ ownHeader (typeFrom (← ⟦rows::Table::MAX_CHAIN⟧ .entry) (now (t .entry)) (now (s .entry)) row) (taggingOf mode number) (now (v .entry)) at end ⌝ }
+    ensures { λ r. ⌜ r ≡ ownHeader (typeFrom (tableLimits .chain) (now (t .entry)) (now (s .entry)) row) (taggingOf mode number) (now (v .entry)) at end ⌝ }
 {
     let kind = rows::kind_at(t, rows::row_at(s, row));
     if kind == 13 {
@@ -119,9 +120,9 @@ fn open_wrapped(
     at: usize,
     end: usize,
 ) -> Opening
-    requires sound { do ⌜ Sound (← ⟦rows::Table::MAX_CHAIN⟧) (now t) (now s) (now m) ⌝ }
+    requires sound { ⌜ Sound (tableLimits .chain) (now t) (now s) (now m) ⌝ }
     requires here { ⌜ row < length (now s) ⌝ }
-    ensures { λ r. do ⌜ work.openingTold r ≡ openAt (typeFrom (← ⟦rows::Table::MAX_CHAIN⟧ .entry) (now (t .entry)) (now (s .entry)) row) (taggingOf 1 number) (now (v .entry)) at end ⌝ }
+    ensures { λ r. ⌜ work.openingTold r ≡ openAt (typeFrom (tableLimits .chain) (now (t .entry)) (now (s .entry)) row) (taggingOf 1 number) (now (v .entry)) at end ⌝ }
 {
     let Inside::Of(from, k) = der::open(der::wrapper_octet(number), v, at, end) else {
         return Opening::Misfit;
@@ -148,9 +149,9 @@ pub fn open_at(
     at: usize,
     end: usize,
 ) -> Opening
-    requires sound { do ⌜ Sound (← ⟦rows::Table::MAX_CHAIN⟧) (now t) (now s) (now m) ⌝ }
+    requires sound { ⌜ Sound (tableLimits .chain) (now t) (now s) (now m) ⌝ }
     requires here { ⌜ row < length (now s) ⌝ }
-    ensures { λ r. do ⌜ work.openingTold r ≡ openAt (typeFrom (← ⟦rows::Table::MAX_CHAIN⟧ .entry) (now (t .entry)) (now (s .entry)) row) (taggingOf mode number) (now (v .entry)) at end ⌝ }
+    ensures { λ r. ⌜ work.openingTold r ≡ openAt (typeFrom (tableLimits .chain) (now (t .entry)) (now (s .entry)) row) (taggingOf mode number) (now (v .entry)) at end ⌝ }
 {
     if mode == 1 {
         return open_wrapped(t, s, m, v, row, number, at, end);
@@ -172,9 +173,9 @@ pub fn open_member(
     at: usize,
     end: usize,
 ) -> Opening
-    requires sound { do ⌜ Sound (← ⟦rows::Table::MAX_CHAIN⟧) (now t) (now s) (now m) ⌝ }
+    requires sound { ⌜ Sound (tableLimits .chain) (now t) (now s) (now m) ⌝ }
     requires target { ⌜ typeRowAt (now t) (rowAt (now s) row) < length (now s) ⌝ }
-    ensures { λ r. do ⌜ work.openingTold r ≡ openAt (typeFrom (← ⟦rows::Table::MAX_CHAIN⟧ .entry) (now (t .entry)) (now (s .entry)) (typeRowAt (now (t .entry)) (rowAt (now (s .entry)) row))) (taggingOf (modeAt (now (t .entry)) (rowAt (now (s .entry)) row)) (numberAt (now (t .entry)) (rowAt (now (s .entry)) row))) (now (v .entry)) at end ⌝ }
+    ensures { λ r. ⌜ work.openingTold r ≡ openAt (typeFrom (tableLimits .chain) (now (t .entry)) (now (s .entry)) (typeRowAt (now (t .entry)) (rowAt (now (s .entry)) row))) (taggingOf (modeAt (now (t .entry)) (rowAt (now (s .entry)) row)) (numberAt (now (t .entry)) (rowAt (now (s .entry)) row))) (now (v .entry)) at end ⌝ }
 {
     let p = rows::row_at(s, row);
     let mode = rows::mode_at(t, p);
@@ -206,10 +207,10 @@ pub fn open_element(
     at: usize,
     end: usize,
 ) -> Opening
-    requires sound { do ⌜ Sound (← ⟦rows::Table::MAX_CHAIN⟧) (now t) (now s) (now m) ⌝ }
+    requires sound { ⌜ Sound (tableLimits .chain) (now t) (now s) (now m) ⌝ }
     requires here { ⌜ row < length (now s) ⌝ }
     requires tagged { ⌜ tag ≡ work.elementTag (kindAt (now t) (rowAt (now s) row)) ⌝ }
-    ensures { λ r. do ⌜ work.openingTold r ≡ openAt (typeFrom (← ⟦rows::Table::MAX_CHAIN⟧ .entry) (now (t .entry)) (now (s .entry)) row) (taggingOf 0 0) (now (v .entry)) at end ⌝ }
+    ensures { λ r. ⌜ work.openingTold r ≡ openAt (typeFrom (tableLimits .chain) (now (t .entry)) (now (s .entry)) row) (taggingOf 0 0) (now (v .entry)) at end ⌝ }
 {
     if tag == 0 {
         return open_at(t, s, m, v, row, 0, 0, at, end);
@@ -227,10 +228,10 @@ pub fn count_elements(
     start: usize,
     stop: usize,
 ) -> Counted
-    requires sound { do ⌜ Sound (← ⟦rows::Table::MAX_CHAIN⟧) (now t) (now s) (now m) ⌝ }
+    requires sound { ⌜ Sound (tableLimits .chain) (now t) (now s) (now m) ⌝ }
     requires here { ⌜ row < length (now s) ⌝ }
     requires ordered { ⌜ start ≤ stop ⌝ }
-    ensures { λ r. do ⌜ work.countedTold r ≡ countFrom (openAt (typeFrom (← ⟦rows::Table::MAX_CHAIN⟧ .entry) (now (t .entry)) (now (s .entry)) row) untagged (now (v .entry))) (stop - start) stop 0 start ⌝ }
+    ensures { λ r. ⌜ work.countedTold r ≡ countFrom (openAt (typeFrom (tableLimits .chain) (now (t .entry)) (now (s .entry)) row) untagged (now (v .entry))) (stop - start) stop 0 start ⌝ }
 {
     let tag = element_tag(t, s, row);
     let mut i = start;
@@ -265,10 +266,10 @@ pub fn nth_element(
     stop: usize,
     n: usize,
 ) -> Nth
-    requires sound { do ⌜ Sound (← ⟦rows::Table::MAX_CHAIN⟧) (now t) (now s) (now m) ⌝ }
+    requires sound { ⌜ Sound (tableLimits .chain) (now t) (now s) (now m) ⌝ }
     requires here { ⌜ row < length (now s) ⌝ }
     requires ordered { ⌜ start ≤ stop ⌝ }
-    ensures { λ r. do ⌜ work.nthTold r ≡ work.nthFrom (openAt (typeFrom (← ⟦rows::Table::MAX_CHAIN⟧ .entry) (now (t .entry)) (now (s .entry)) row) untagged (now (v .entry))) (stop - start) stop n start ⌝ }
+    ensures { λ r. ⌜ work.nthTold r ≡ work.nthFrom (openAt (typeFrom (tableLimits .chain) (now (t .entry)) (now (s .entry)) row) untagged (now (v .entry))) (stop - start) stop n start ⌝ }
 {
     let tag = element_tag(t, s, row);
     let mut i = start;
@@ -310,9 +311,9 @@ fn look_there(
     i: usize,
     stop: usize,
 ) -> Look
-    requires sound { do ⌜ Sound (← ⟦rows::Table::MAX_CHAIN⟧) (now t) (now s) (now m) ⌝ }
+    requires sound { ⌜ Sound (tableLimits .chain) (now t) (now s) (now m) ⌝ }
     requires target { ⌜ typeRowAt (now t) (rowAt (now s) row) < length (now s) ⌝ }
-    ensures looks { λ l. do ⌜ work.lookTold (← ⟦rows::Table::MAX_CHAIN⟧ .entry) (now (t .entry)) (now (s .entry)) l ≡ work.orBroken (work.thereOr (same (unfilled (nameAt (now (t .entry)) (rowAt (now (s .entry)) row))) (part (now (r .entry)) a (b - a))) (typeFrom (← ⟦rows::Table::MAX_CHAIN⟧ .entry) (now (t .entry)) (now (s .entry)) (typeRowAt (now (t .entry)) (rowAt (now (s .entry)) row)))) (openAt (typeFrom (← ⟦rows::Table::MAX_CHAIN⟧ .entry) (now (t .entry)) (now (s .entry)) (typeRowAt (now (t .entry)) (rowAt (now (s .entry)) row))) (taggingOf (modeAt (now (t .entry)) (rowAt (now (s .entry)) row)) (numberAt (now (t .entry)) (rowAt (now (s .entry)) row))) (now (v .entry)) i stop) ⌝ }
+    ensures looks { λ l. ⌜ work.lookTold (tableLimits .chain) (now (t .entry)) (now (s .entry)) l ≡ work.orBroken (work.thereOr (same (unfilled (nameAt (now (t .entry)) (rowAt (now (s .entry)) row))) (part (now (r .entry)) a (b - a))) (typeFrom (tableLimits .chain) (now (t .entry)) (now (s .entry)) (typeRowAt (now (t .entry)) (rowAt (now (s .entry)) row)))) (openAt (typeFrom (tableLimits .chain) (now (t .entry)) (now (s .entry)) (typeRowAt (now (t .entry)) (rowAt (now (s .entry)) row))) (taggingOf (modeAt (now (t .entry)) (rowAt (now (s .entry)) row)) (numberAt (now (t .entry)) (rowAt (now (s .entry)) row))) (now (v .entry)) i stop) ⌝ }
     ensures lands { λ l. ⌜ work.looksIn (now (s .entry)) stop l ≡ true ⌝ }
 {
     let p = rows::row_at(s, row);
@@ -327,7 +328,7 @@ fn look_there(
 
 // A member that is not there.
 fn look_absent(t: &[u8], s: &[usize], row: usize, r: &[u8], a: usize, b: usize, i: usize) -> Look
-    ensures { λ l. do ⌜ work.lookTold (← ⟦rows::Table::MAX_CHAIN⟧ .entry) (now (t .entry)) (now (s .entry)) l ≡ pick (same (unfilled (nameAt (now (t .entry)) (rowAt (now (s .entry)) row))) (part (now (r .entry)) a (b - a))) (work.landed (trail.lacking (memberOf (now (t .entry)) row (rowAt (now (s .entry)) row)))) (work.onward i) ⌝ }
+    ensures { λ l. ⌜ work.lookTold (tableLimits .chain) (now (t .entry)) (now (s .entry)) l ≡ pick (same (unfilled (nameAt (now (t .entry)) (rowAt (now (s .entry)) row))) (part (now (r .entry)) a (b - a))) (work.landed (trail.lacking (memberOf (now (t .entry)) row (rowAt (now (s .entry)) row)))) (work.onward i) ⌝ }
 {
     if reference::is_named(t, rows::row_at(s, row), r, a, b) {
         return Look::Lacking(row);
@@ -348,11 +349,11 @@ fn look_member(
     i: usize,
     stop: usize,
 ) -> Look
-    requires sound { do ⌜ Sound (← ⟦rows::Table::MAX_CHAIN⟧) (now t) (now s) (now m) ⌝ }
+    requires sound { ⌜ Sound (tableLimits .chain) (now t) (now s) (now m) ⌝ }
     requires here { ⌜ row < length (now s) ⌝ }
     requires member { ⌜ kindAt (now t) (rowAt (now s) row) ≡ 16 ⌝ }
     requires target { ⌜ typeRowAt (now t) (rowAt (now s) row) < length (now s) ⌝ }
-    ensures looks { λ l. do ⌜ work.lookTold (← ⟦rows::Table::MAX_CHAIN⟧ .entry) (now (t .entry)) (now (s .entry)) l ≡ work.memberLook (part (now (r .entry)) a (b - a)) (memberOf (now (t .entry)) row (rowAt (now (s .entry)) row)) (typeFrom (← ⟦rows::Table::MAX_CHAIN⟧ .entry) (now (t .entry)) (now (s .entry)) (typeRowAt (now (t .entry)) (rowAt (now (s .entry)) row))) (now (v .entry)) stop i ⌝ }
+    ensures looks { λ l. ⌜ work.lookTold (tableLimits .chain) (now (t .entry)) (now (s .entry)) l ≡ work.memberLook (part (now (r .entry)) a (b - a)) (memberOf (now (t .entry)) row (rowAt (now (s .entry)) row)) (typeFrom (tableLimits .chain) (now (t .entry)) (now (s .entry)) (typeRowAt (now (t .entry)) (rowAt (now (s .entry)) row))) (now (v .entry)) stop i ⌝ }
     ensures lands { λ l. ⌜ work.looksIn (now (s .entry)) stop l ≡ true ⌝ }
 {
     if is_there(t, m, rows::row_at(s, row), v, stop, i) {
@@ -374,9 +375,9 @@ pub fn find_member(
     start: usize,
     stop: usize,
 ) -> Found
-    requires sound { do ⌜ Sound (← ⟦rows::Table::MAX_CHAIN⟧) (now t) (now s) (now m) ⌝ }
+    requires sound { ⌜ Sound (tableLimits .chain) (now t) (now s) (now m) ⌝ }
     requires here { ⌜ row < length (now s) ⌝ }
-    ensures found { λ f. do ⌜ work.foundTold (← ⟦rows::Table::MAX_CHAIN⟧ .entry) (now (t .entry)) (now (s .entry)) f ≡ trail.findMember (part (now (r .entry)) a (b - a)) (membersFrom (typeFrom (← ⟦rows::Table::MAX_CHAIN⟧ .entry) (now (t .entry)) (now (s .entry))) (now (t .entry)) (now (s .entry)) (row + 1) (membersAt (now (t .entry)) (rowAt (now (s .entry)) row))) (now (v .entry)) stop start ⌝ }
+    ensures found { λ f. ⌜ work.foundTold (tableLimits .chain) (now (t .entry)) (now (s .entry)) f ≡ trail.findMember (part (now (r .entry)) a (b - a)) (membersFrom (typeFrom (tableLimits .chain) (now (t .entry)) (now (s .entry))) (now (t .entry)) (now (s .entry)) (row + 1) (membersAt (now (t .entry)) (rowAt (now (s .entry)) row))) (now (v .entry)) stop start ⌝ }
     ensures lands { λ f. ⌜ work.landsIn (now (s .entry)) stop f ≡ true ⌝ }
 {
     let n = rows::members_at(t, rows::row_at(s, row));
@@ -410,9 +411,9 @@ fn look_chosen(
     at: usize,
     stop: usize,
 ) -> Found
-    requires sound { do ⌜ Sound (← ⟦rows::Table::MAX_CHAIN⟧) (now t) (now s) (now m) ⌝ }
+    requires sound { ⌜ Sound (tableLimits .chain) (now t) (now s) (now m) ⌝ }
     requires target { ⌜ typeRowAt (now t) (rowAt (now s) row) < length (now s) ⌝ }
-    ensures found { λ f. do ⌜ work.foundTold (← ⟦rows::Table::MAX_CHAIN⟧ .entry) (now (t .entry)) (now (s .entry)) f ≡ work.chosenAs (same (unfilled (nameAt (now (t .entry)) (rowAt (now (s .entry)) row))) (part (now (r .entry)) a (b - a))) (typeFrom (← ⟦rows::Table::MAX_CHAIN⟧ .entry) (now (t .entry)) (now (s .entry)) (typeRowAt (now (t .entry)) (rowAt (now (s .entry)) row))) (openAt (typeFrom (← ⟦rows::Table::MAX_CHAIN⟧ .entry) (now (t .entry)) (now (s .entry)) (typeRowAt (now (t .entry)) (rowAt (now (s .entry)) row))) (taggingOf (modeAt (now (t .entry)) (rowAt (now (s .entry)) row)) (numberAt (now (t .entry)) (rowAt (now (s .entry)) row))) (now (v .entry)) at stop) ⌝ }
+    ensures found { λ f. ⌜ work.foundTold (tableLimits .chain) (now (t .entry)) (now (s .entry)) f ≡ work.chosenAs (same (unfilled (nameAt (now (t .entry)) (rowAt (now (s .entry)) row))) (part (now (r .entry)) a (b - a))) (typeFrom (tableLimits .chain) (now (t .entry)) (now (s .entry)) (typeRowAt (now (t .entry)) (rowAt (now (s .entry)) row))) (openAt (typeFrom (tableLimits .chain) (now (t .entry)) (now (s .entry)) (typeRowAt (now (t .entry)) (rowAt (now (s .entry)) row))) (taggingOf (modeAt (now (t .entry)) (rowAt (now (s .entry)) row)) (numberAt (now (t .entry)) (rowAt (now (s .entry)) row))) (now (v .entry)) at stop) ⌝ }
     ensures lands { λ f. ⌜ work.landsIn (now (s .entry)) stop f ≡ true ⌝ }
 {
     let p = rows::row_at(s, row);
@@ -438,9 +439,9 @@ pub fn find_chosen(
     at: usize,
     stop: usize,
 ) -> Found
-    requires sound { do ⌜ Sound (← ⟦rows::Table::MAX_CHAIN⟧) (now t) (now s) (now m) ⌝ }
+    requires sound { ⌜ Sound (tableLimits .chain) (now t) (now s) (now m) ⌝ }
     requires here { ⌜ row < length (now s) ⌝ }
-    ensures found { λ f. do ⌜ work.foundTold (← ⟦rows::Table::MAX_CHAIN⟧ .entry) (now (t .entry)) (now (s .entry)) f ≡ trail.findAlternative (part (now (r .entry)) a (b - a)) (membersFrom (typeFrom (← ⟦rows::Table::MAX_CHAIN⟧ .entry) (now (t .entry)) (now (s .entry))) (now (t .entry)) (now (s .entry)) (row + 1) (membersAt (now (t .entry)) (rowAt (now (s .entry)) row))) (now (v .entry)) stop at ⌝ }
+    ensures found { λ f. ⌜ work.foundTold (tableLimits .chain) (now (t .entry)) (now (s .entry)) f ≡ trail.findAlternative (part (now (r .entry)) a (b - a)) (membersFrom (typeFrom (tableLimits .chain) (now (t .entry)) (now (s .entry))) (now (t .entry)) (now (s .entry)) (row + 1) (membersAt (now (t .entry)) (rowAt (now (s .entry)) row))) (now (v .entry)) stop at ⌝ }
     ensures lands { λ f. ⌜ work.landsIn (now (s .entry)) stop f ≡ true ⌝ }
 {
     let n = rows::members_at(t, rows::row_at(s, row));
@@ -463,10 +464,10 @@ fn nth_found(
     span: usize,
     i: usize,
 ) -> Found
-    requires sound { do ⌜ Sound (← ⟦rows::Table::MAX_CHAIN⟧) (now t) (now s) (now m) ⌝ }
+    requires sound { ⌜ Sound (tableLimits .chain) (now t) (now s) (now m) ⌝ }
     requires here { ⌜ row < length (now s) ⌝ }
     requires ends { ⌜ start + span ≤ length (now v) ⌝ }
-    ensures found { λ f. do ⌜ work.foundTold (← ⟦rows::Table::MAX_CHAIN⟧ .entry) (now (t .entry)) (now (s .entry)) f ≡ work.nthFound (typeFrom (← ⟦rows::Table::MAX_CHAIN⟧ .entry) (now (t .entry)) (now (s .entry)) row) (now (v .entry)) start span i ⌝ }
+    ensures found { λ f. ⌜ work.foundTold (tableLimits .chain) (now (t .entry)) (now (s .entry)) f ≡ work.nthFound (typeFrom (tableLimits .chain) (now (t .entry)) (now (s .entry)) row) (now (v .entry)) start span i ⌝ }
     ensures lands { λ f. ⌜ work.landsIn (now (s .entry)) (length (now (v .entry))) f ≡ true ⌝ }
 {
     match nth_element(t, s, m, v, row, start, start + span, i) {
@@ -487,10 +488,10 @@ fn far_found(
     span: usize,
     i: usize,
 ) -> Found
-    requires sound { do ⌜ Sound (← ⟦rows::Table::MAX_CHAIN⟧) (now t) (now s) (now m) ⌝ }
+    requires sound { ⌜ Sound (tableLimits .chain) (now t) (now s) (now m) ⌝ }
     requires here { ⌜ row < length (now s) ⌝ }
     requires ends { ⌜ start + span ≤ length (now v) ⌝ }
-    ensures found { λ f. do ⌜ work.foundTold (← ⟦rows::Table::MAX_CHAIN⟧ .entry) (now (t .entry)) (now (s .entry)) f ≡ work.lastFound (typeFrom (← ⟦rows::Table::MAX_CHAIN⟧ .entry) (now (t .entry)) (now (s .entry)) row) (now (v .entry)) start span i ⌝ }
+    ensures found { λ f. ⌜ work.foundTold (tableLimits .chain) (now (t .entry)) (now (s .entry)) f ≡ work.lastFound (typeFrom (tableLimits .chain) (now (t .entry)) (now (s .entry)) row) (now (v .entry)) start span i ⌝ }
     ensures lands { λ f. ⌜ work.landsIn (now (s .entry)) (length (now (v .entry))) f ≡ true ⌝ }
 {
     let Counted::Of(size) = count_elements(t, s, m, v, row, start, start + span) else {
@@ -567,12 +568,12 @@ fn last_from(
     stop: usize,
     i: usize,
 ) -> Tail
-    requires sound { do ⌜ Sound (← ⟦rows::Table::MAX_CHAIN⟧) (now t) (now s) (now m) ⌝ }
+    requires sound { ⌜ Sound (tableLimits .chain) (now t) (now s) (now m) ⌝ }
     requires here { ⌜ row < length (now s) ⌝ }
     requires some { ⌜ 0 < i ⌝ }
     requires low { ⌜ stop < 65536 ⌝ }
     requires ordered { ⌜ at ≤ stop ⌝ }
-    ensures { λ r. do ⌜ work.tailTold r ≡ work.tailFrom (openAt (typeFrom (← ⟦rows::Table::MAX_CHAIN⟧ .entry) (now (t .entry)) (now (s .entry)) row) untagged (now (v .entry))) (stop - at) stop i at ⌝ }
+    ensures { λ r. ⌜ work.tailTold r ≡ work.tailFrom (openAt (typeFrom (tableLimits .chain) (now (t .entry)) (now (s .entry)) row) untagged (now (v .entry))) (stop - at) stop i at ⌝ }
 {
     let tag = element_tag(t, s, row);
     let mut kept = [0u16; KEPT * 3];
@@ -617,10 +618,10 @@ fn last_found(
     span: usize,
     i: usize,
 ) -> Found
-    requires sound { do ⌜ Sound (← ⟦rows::Table::MAX_CHAIN⟧) (now t) (now s) (now m) ⌝ }
+    requires sound { ⌜ Sound (tableLimits .chain) (now t) (now s) (now m) ⌝ }
     requires here { ⌜ row < length (now s) ⌝ }
     requires ends { ⌜ start + span ≤ length (now v) ⌝ }
-    ensures found { λ f. do ⌜ work.foundTold (← ⟦rows::Table::MAX_CHAIN⟧ .entry) (now (t .entry)) (now (s .entry)) f ≡ work.lastFound (typeFrom (← ⟦rows::Table::MAX_CHAIN⟧ .entry) (now (t .entry)) (now (s .entry)) row) (now (v .entry)) start span i ⌝ }
+    ensures found { λ f. ⌜ work.foundTold (tableLimits .chain) (now (t .entry)) (now (s .entry)) f ≡ work.lastFound (typeFrom (tableLimits .chain) (now (t .entry)) (now (s .entry)) row) (now (v .entry)) start span i ⌝ }
     ensures lands { λ f. ⌜ work.landsIn (now (s .entry)) (length (now (v .entry))) f ≡ true ⌝ }
 {
     if !is_near(start + span, i) {
@@ -647,10 +648,10 @@ pub fn locate_name(
     start: usize,
     span: usize,
 ) -> Found
-    requires sound { do ⌜ Sound (← ⟦rows::Table::MAX_CHAIN⟧) (now t) (now s) (now m) ⌝ }
+    requires sound { ⌜ Sound (tableLimits .chain) (now t) (now s) (now m) ⌝ }
     requires here { ⌜ row < length (now s) ⌝ }
     requires ends { ⌜ start + span ≤ length (now v) ⌝ }
-    ensures found { λ f. do ⌜ work.foundTold (← ⟦rows::Table::MAX_CHAIN⟧ .entry) (now (t .entry)) (now (s .entry)) f ≡ work.located (name (part (now (r .entry)) a (b - a))) (typeFrom (← ⟦rows::Table::MAX_CHAIN⟧ .entry) (now (t .entry)) (now (s .entry)) row) (now (v .entry)) (work.standing place start span) ⌝ }
+    ensures found { λ f. ⌜ work.foundTold (tableLimits .chain) (now (t .entry)) (now (s .entry)) f ≡ work.located (name (part (now (r .entry)) a (b - a))) (typeFrom (tableLimits .chain) (now (t .entry)) (now (s .entry)) row) (now (v .entry)) (work.standing place start span) ⌝ }
     ensures lands { λ f. ⌜ work.landsIn (now (s .entry)) (length (now (v .entry))) f ≡ true ⌝ }
 {
     let kind = rows::kind_at(t, rows::row_at(s, row));
@@ -675,10 +676,10 @@ pub fn locate_position(
     start: usize,
     span: usize,
 ) -> Found
-    requires sound { do ⌜ Sound (← ⟦rows::Table::MAX_CHAIN⟧) (now t) (now s) (now m) ⌝ }
+    requires sound { ⌜ Sound (tableLimits .chain) (now t) (now s) (now m) ⌝ }
     requires here { ⌜ row < length (now s) ⌝ }
     requires ends { ⌜ start + span ≤ length (now v) ⌝ }
-    ensures found { λ f. do ⌜ work.foundTold (← ⟦rows::Table::MAX_CHAIN⟧ .entry) (now (t .entry)) (now (s .entry)) f ≡ work.located (index (position i)) (typeFrom (← ⟦rows::Table::MAX_CHAIN⟧ .entry) (now (t .entry)) (now (s .entry)) row) (now (v .entry)) (work.standing place start span) ⌝ }
+    ensures found { λ f. ⌜ work.foundTold (tableLimits .chain) (now (t .entry)) (now (s .entry)) f ≡ work.located (index (position i)) (typeFrom (tableLimits .chain) (now (t .entry)) (now (s .entry)) row) (now (v .entry)) (work.standing place start span) ⌝ }
     ensures lands { λ f. ⌜ work.landsIn (now (s .entry)) (length (now (v .entry))) f ≡ true ⌝ }
 {
     let p = rows::row_at(s, row);
@@ -700,10 +701,10 @@ pub fn locate_from_end(
     start: usize,
     span: usize,
 ) -> Found
-    requires sound { do ⌜ Sound (← ⟦rows::Table::MAX_CHAIN⟧) (now t) (now s) (now m) ⌝ }
+    requires sound { ⌜ Sound (tableLimits .chain) (now t) (now s) (now m) ⌝ }
     requires here { ⌜ row < length (now s) ⌝ }
     requires ends { ⌜ start + span ≤ length (now v) ⌝ }
-    ensures found { λ f. do ⌜ work.foundTold (← ⟦rows::Table::MAX_CHAIN⟧ .entry) (now (t .entry)) (now (s .entry)) f ≡ work.located (index (fromEnd i)) (typeFrom (← ⟦rows::Table::MAX_CHAIN⟧ .entry) (now (t .entry)) (now (s .entry)) row) (now (v .entry)) (work.standing place start span) ⌝ }
+    ensures found { λ f. ⌜ work.foundTold (tableLimits .chain) (now (t .entry)) (now (s .entry)) f ≡ work.located (index (fromEnd i)) (typeFrom (tableLimits .chain) (now (t .entry)) (now (s .entry)) row) (now (v .entry)) (work.standing place start span) ⌝ }
     ensures lands { λ f. ⌜ work.landsIn (now (s .entry)) (length (now (v .entry))) f ≡ true ⌝ }
 {
     let p = rows::row_at(s, row);

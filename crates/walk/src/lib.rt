@@ -23,6 +23,7 @@ ghost use Rattle.trail.specs.Trail.{orFault, countFrom, ending, lackingTrail, o
 ghost use Rattle.trail.specs.Work.{foundTold, landsIn, standing};
 ghost use Rattle.rules.specs.Answers.{meant};
 ghost use Rattle.walk.specs.Run as run;
+ghost use Rattle.rows.specs.Paper.{tableLimits};
 
 // Where a walk stands: going on after so many components; stopped at an accepted one, after so many tests; over, without room or budget; at a header
 // that doesn't fit.
@@ -227,7 +228,7 @@ fn visit_found(
 ) -> State
     requires small { ⌜ length (now v) < 18446744073709551615 ⌝ }
     requires lands { ⌜ landsIn (now s) (length (now v)) found ≡ true ⌝ }
-    ensures { λ w. do ⌜ run.seen w (now (out .exit)) ≡ run.run task (now (text .entry)) (run.seen (State.Going n) (now (out .entry))) (onFound defaults [] place (run.goingOn defaults [] (now (v .entry))) (foundTold (← ⟦rows::Table::MAX_CHAIN⟧ .entry) (now (t .entry)) (now (s .entry)) found)) ⌝ }
+    ensures { λ w. ⌜ run.seen w (now (out .exit)) ≡ run.run task (now (text .entry)) (run.seen (State.Going n) (now (out .entry))) (onFound defaults [] place (run.goingOn defaults [] (now (v .entry))) (foundTold (tableLimits .chain) (now (t .entry)) (now (s .entry)) found)) ⌝ }
 {
     match found {
         Found::At(_, at, start, span) => visit(
@@ -287,11 +288,11 @@ fn walk_size(
     n: usize,
     out: &mut [u64],
 ) -> State
-    requires sound { do ⌜ Sound (← ⟦rows::Table::MAX_CHAIN⟧) (now t) (now s) (now m) ⌝ }
+    requires sound { ⌜ Sound (tableLimits .chain) (now t) (now s) (now m) ⌝ }
     requires here { ⌜ row < length (now s) ⌝ }
     requires ends { ⌜ start + span ≤ length (now v) ⌝ }
     requires read { ⌜ isSome (idsAt (now r) k) ≡ true ⌝ }
-    ensures { λ w. do ⌜ run.seen w (now (out .exit)) ≡ run.run task (now (text .entry)) (run.seen (State.Going n) (now (out .entry))) (orFault (run.tally (run.idsFrom (now (r .entry)) k) place) (countFrom (openAt (typeFrom (← ⟦rows::Table::MAX_CHAIN⟧ .entry) (now (t .entry)) (now (s .entry)) row) untagged (now (v .entry))) span (start + span) 0 start)) ⌝ }
+    ensures { λ w. ⌜ run.seen w (now (out .exit)) ≡ run.run task (now (text .entry)) (run.seen (State.Going n) (now (out .entry))) (orFault (run.tally (run.idsFrom (now (r .entry)) k) place) (countFrom (openAt (typeFrom (tableLimits .chain) (now (t .entry)) (now (s .entry)) row) untagged (now (v .entry))) span (start + span) 0 start)) ⌝ }
 {
     let Counted::Of(size) = trail::count_elements(t, s, m, v, row, start, start + span) else {
         return State::Fault;
@@ -316,11 +317,11 @@ fn walk_count(
     n: usize,
     out: &mut [u64],
 ) -> State
-    requires sound { do ⌜ Sound (← ⟦rows::Table::MAX_CHAIN⟧) (now t) (now s) (now m) ⌝ }
+    requires sound { ⌜ Sound (tableLimits .chain) (now t) (now s) (now m) ⌝ }
     requires here { ⌜ row < length (now s) ⌝ }
     requires ends { ⌜ start + span ≤ length (now v) ⌝ }
     requires read { ⌜ isSome (idsAt (now r) k) ≡ true ⌝ }
-    ensures { λ w. do ⌜ run.seen w (now (out .exit)) ≡ run.run task (now (text .entry)) (run.seen (State.Going n) (now (out .entry))) (along true (index count ∷ run.idsFrom (now (r .entry)) k) (typeFrom (← ⟦rows::Table::MAX_CHAIN⟧ .entry) (now (t .entry)) (now (s .entry)) row) (now (v .entry)) (standing place start span)) ⌝ }
+    ensures { λ w. ⌜ run.seen w (now (out .exit)) ≡ run.run task (now (text .entry)) (run.seen (State.Going n) (now (out .entry))) (along true (index count ∷ run.idsFrom (now (r .entry)) k) (typeFrom (tableLimits .chain) (now (t .entry)) (now (s .entry)) row) (now (v .entry)) (standing place start span)) ⌝ }
 {
     let p = rows::row_at(s, row);
     if !rows::is_list(rows::kind_at(t, p)) {
@@ -361,11 +362,11 @@ fn walk_found(
     n: usize,
     out: &mut [u64],
 ) -> State
-    requires sound { do ⌜ Sound (← ⟦rows::Table::MAX_CHAIN⟧) (now t) (now s) (now m) ⌝ }
+    requires sound { ⌜ Sound (tableLimits .chain) (now t) (now s) (now m) ⌝ }
     requires small { ⌜ length (now v) < 18446744073709551615 ⌝ }
     requires lands { ⌜ landsIn (now s) (length (now v)) found ≡ true ⌝ }
     requires read { ⌜ isSome (idsAt (now r) k) ≡ true ⌝ }
-    ensures { λ w. do ⌜ run.seen w (now (out .exit)) ≡ run.run task (now (text .entry)) (run.seen (State.Going n) (now (out .entry))) (onFound defaults (run.idsFrom (now (r .entry)) k) place (run.goingOn defaults (run.idsFrom (now (r .entry)) k) (now (v .entry))) (foundTold (← ⟦rows::Table::MAX_CHAIN⟧ .entry) (now (t .entry)) (now (s .entry)) found)) ⌝ }
+    ensures { λ w. ⌜ run.seen w (now (out .exit)) ≡ run.run task (now (text .entry)) (run.seen (State.Going n) (now (out .entry))) (onFound defaults (run.idsFrom (now (r .entry)) k) place (run.goingOn defaults (run.idsFrom (now (r .entry)) k) (now (v .entry))) (foundTold (tableLimits .chain) (now (t .entry)) (now (s .entry)) found)) ⌝ }
 {
     if r.len() < k {
         return visit_found(t, s, v, text, defaults, task, found, place, n, out);
@@ -415,12 +416,12 @@ fn walk_each(
     n: usize,
     out: &mut [u64],
 ) -> State
-    requires sound { do ⌜ Sound (← ⟦rows::Table::MAX_CHAIN⟧) (now t) (now s) (now m) ⌝ }
+    requires sound { ⌜ Sound (tableLimits .chain) (now t) (now s) (now m) ⌝ }
     requires here { ⌜ row < length (now s) ⌝ }
     requires ends { ⌜ start + span ≤ length (now v) ⌝ }
     requires small { ⌜ length (now v) < 18446744073709551615 ⌝ }
     requires read { ⌜ isSome (idsAt (now r) k) ≡ true ⌝ }
-    ensures { λ w. do ⌜ run.seen w (now (out .exit)) ≡ run.run task (now (text .entry)) (run.seen (State.Going n) (now (out .entry))) (eachFrom (openAt (typeFrom (← ⟦rows::Table::MAX_CHAIN⟧ .entry) (now (t .entry)) (now (s .entry)) row) untagged (now (v .entry))) (run.goingOn defaults (run.idsFrom (now (r .entry)) k) (now (v .entry)) (typeFrom (← ⟦rows::Table::MAX_CHAIN⟧ .entry) (now (t .entry)) (now (s .entry)) row)) span (start + span) start) ⌝ }
+    ensures { λ w. ⌜ run.seen w (now (out .exit)) ≡ run.run task (now (text .entry)) (run.seen (State.Going n) (now (out .entry))) (eachFrom (openAt (typeFrom (tableLimits .chain) (now (t .entry)) (now (s .entry)) row) untagged (now (v .entry))) (run.goingOn defaults (run.idsFrom (now (r .entry)) k) (now (v .entry)) (typeFrom (tableLimits .chain) (now (t .entry)) (now (s .entry)) row)) span (start + span) start) ⌝ }
 {
     let stop = start + span;
     let step = reference::next_id(r, k);
@@ -480,12 +481,12 @@ fn walk_all(
     n: usize,
     out: &mut [u64],
 ) -> State
-    requires sound { do ⌜ Sound (← ⟦rows::Table::MAX_CHAIN⟧) (now t) (now s) (now m) ⌝ }
+    requires sound { ⌜ Sound (tableLimits .chain) (now t) (now s) (now m) ⌝ }
     requires here { ⌜ row < length (now s) ⌝ }
     requires ends { ⌜ start + span ≤ length (now v) ⌝ }
     requires small { ⌜ length (now v) < 18446744073709551615 ⌝ }
     requires read { ⌜ isSome (idsAt (now r) k) ≡ true ⌝ }
-    ensures { λ w. do ⌜ run.seen w (now (out .exit)) ≡ run.run task (now (text .entry)) (run.seen (State.Going n) (now (out .entry))) (along defaults (index all ∷ run.idsFrom (now (r .entry)) k) (typeFrom (← ⟦rows::Table::MAX_CHAIN⟧ .entry) (now (t .entry)) (now (s .entry)) row) (now (v .entry)) (standing place start span)) ⌝ }
+    ensures { λ w. ⌜ run.seen w (now (out .exit)) ≡ run.run task (now (text .entry)) (run.seen (State.Going n) (now (out .entry))) (along defaults (index all ∷ run.idsFrom (now (r .entry)) k) (typeFrom (tableLimits .chain) (now (t .entry)) (now (s .entry)) row) (now (v .entry)) (standing place start span)) ⌝ }
 {
     let p = rows::row_at(s, row);
     if !rows::is_list(rows::kind_at(t, p)) {
@@ -529,14 +530,14 @@ fn walk(
     n: usize,
     out: &mut [u64],
 ) -> State
-    requires sound { do ⌜ Sound (← ⟦rows::Table::MAX_CHAIN⟧) (now t) (now s) (now m) ⌝ }
+    requires sound { ⌜ Sound (tableLimits .chain) (now t) (now s) (now m) ⌝ }
     requires here { ⌜ row < length (now s) ⌝ }
     requires ends { ⌜ start + span ≤ length (now v) ⌝ }
     requires small { ⌜ length (now v) < 18446744073709551615 ⌝ }
     requires read { ⌜ isSome (idsAt (now r) k) ≡ true ⌝ }
     requires step { ⌜ stepTold (now r) step ≡ headCapped (idsAt (now r) k) ⌝ }
     requires rises { ⌜ advances (now r) k step ≡ true ⌝ }
-    ensures { λ w. do ⌜ run.seen w (now (out .exit)) ≡ run.run task (now (text .entry)) (run.seen (State.Going n) (now (out .entry))) (along defaults (run.idsFrom (now (r .entry)) k) (typeFrom (← ⟦rows::Table::MAX_CHAIN⟧ .entry) (now (t .entry)) (now (s .entry)) row) (now (v .entry)) (standing place start span)) ⌝ }
+    ensures { λ w. ⌜ run.seen w (now (out .exit)) ≡ run.run task (now (text .entry)) (run.seen (State.Going n) (now (out .entry))) (along defaults (run.idsFrom (now (r .entry)) k) (typeFrom (tableLimits .chain) (now (t .entry)) (now (s .entry)) row) (now (v .entry)) (standing place start span)) ⌝ }
 {
     match step {
         Step::Name(a, b, next) => {
@@ -657,11 +658,11 @@ pub fn walk_value(
     n: usize,
     out: &mut [u64],
 ) -> State
-    requires sound { do ⌜ Sound (← ⟦rows::Table::MAX_CHAIN⟧) (now t) (now s) (now m) ⌝ }
+    requires sound { ⌜ Sound (tableLimits .chain) (now t) (now s) (now m) ⌝ }
     requires rows { ⌜ 0 < length (now s) ⌝ }
     requires small { ⌜ length (now v) < 18446744073709551615 ⌝ }
     requires read { ⌜ isSome (pick given (readReference (now r)) (some [])) ≡ true ⌝ }
-    ensures { λ w. do ⌜ run.seen w (now (out .exit)) ≡ run.run task (now (text .entry)) (run.seen (State.Going n) (now (out .entry))) (trail defaults (run.idsOr (pick given (readReference (now (r .entry))) (some []))) (typeFrom (← ⟦rows::Table::MAX_CHAIN⟧ .entry) (now (t .entry)) (now (s .entry)) 0) (now (v .entry))) ⌝ }
+    ensures { λ w. ⌜ run.seen w (now (out .exit)) ≡ run.run task (now (text .entry)) (run.seen (State.Going n) (now (out .entry))) (trail defaults (run.idsOr (pick given (readReference (now (r .entry))) (some []))) (typeFrom (tableLimits .chain) (now (t .entry)) (now (s .entry)) 0) (now (v .entry))) ⌝ }
 {
     let Opening::Of(place, start, span) = trail::open_at(t, s, m, v, 0, 0, 0, 0, v.len()) else {
         return State::Fault;

@@ -1,5 +1,5 @@
 use Rattle.value.proofs.EntrySteps.{fit-here, counted-here, sound-here, rows-here}
-use Rattle.engine.proofs.AskSteps.{not-1, admitted-not, no-answer, names-here, admitted-size, admitted-is, admitted-answer}
+use Rattle.engine.proofs.AskSteps.{admitted-not, names-here, admitted-is}
 use borrow.Author.Needs.{needs}
 use Rattle.engine.proofs.ask_admitted.Statement.{statement}
 use Rattle.engine.proofs.ask_admitted.Tie as tie
@@ -11,9 +11,9 @@ ask-admitted-spec =
     (λ c. search needs)  -- slice-aggregate-admit-table
     (λ c. search needs)  -- slice-aggregate-admit-table-2
     (λ c κs. search needs)  -- admit-table-requires
-    (λ c. (not-1, (search admitted-not, no-answer _)))  -- returns
+    (λ c. search admitted-not)  -- returns
     (λ c. search fit-here)  -- array-share-prefix-starts
     (λ c. search counted-here)  -- slice-aggregate-ask-typed
     (λ c. search needs)  -- slice-aggregate-ask-typed-2
     (λ c κs. (search sound-here, (search names-here, (search rows-here, search needs))))  -- ask-typed-requires
-    (λ c. (search admitted-size, (search admitted-is, search admitted-answer))))  -- returns-2
+    (λ c. search admitted-is))  -- returns-2

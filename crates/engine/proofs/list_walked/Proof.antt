@@ -15,5 +15,6 @@ list-walked-spec =
     (λ c. search needs)  -- same-length-2
     (λ c. search walked-short)  -- returns-2
     (λ c κs. search needs)  -- walk-value-requires-2
+    (λ c κs. search needs)  -- of-requires
     (λ c. search needs)  -- same-length-3
     (λ c. search walked-whole))  -- returns-3
