@@ -1,5 +1,4 @@
-use mathlib.Core.Path.{refl}
-use Rattle.capi.proofs.Steps.{listed-values, listed-refused, done-count}
+use Rattle.capi.proofs.Steps.{listed-values, listed-refused}
 use borrow.Author.Needs.{needs}
 use Rattle.capi.proofs.of_listed.Statement.{statement}
 use Rattle.capi.proofs.of_listed.Tie as tie
@@ -13,5 +12,5 @@ of-listed-spec =
     (λ c. search needs)  -- enum-known-a-2
     (λ c. search needs)  -- cast-of
     (λ c κs. search needs)  -- of-requires-2
-    (λ c. (search listed-values, done-count 0 _ _ refl (c .of .ensures .0)))  -- returns
-    (λ c. (search listed-refused, λ _. c .of2 .ensures .1)))  -- returns-2
+    (λ c. search listed-values)  -- returns
+    (λ c. search listed-refused))  -- returns-2

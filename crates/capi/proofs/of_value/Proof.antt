@@ -12,5 +12,5 @@ of-value-spec =
     (λ c. search needs)  -- enum-known-a
     (λ c. search needs)  -- cast-of
     (λ c κs. search needs)  -- of-requires-2
-    (λ c. (search value-good, search needs))  -- returns
-    (λ c. (search value-refused, search needs)))  -- returns-2
+    (λ c. search value-good)  -- returns
+    (λ c. search value-refused))  -- returns-2

@@ -1,4 +1,5 @@
-use Rattle.capi.proofs.Steps.{ask-small, ask-told}
+use Rattle.capi.specs.Numbers.{ofReport}
+use Rattle.capi.proofs.Steps.{as-numbers}
 use borrow.Author.Needs.{needs}
 use Rattle.capi.proofs.tezqulom_ask.Statement.{statement}
 use Rattle.capi.proofs.tezqulom_ask.Tie as tie
@@ -8,5 +9,5 @@ tezqulom-ask-spec =
     tie.close
     (tie.spec
     (λ c κs. search needs)  -- ask-requires
-    (λ c κs. ask-small _ _ _ _ _ (c .ask .ensures .1 .1))  -- of-answer-requires
-    (λ c. let told = ask-told _ _ _ _ _ (c .of-answer .ensures .0) (c .before .ask .ensures .0) (c .before .ask .ensures .1 .0) (c .before .ask .ensures .1 .1) in (told .0, (told .1 .0, (told .1 .1, c .of-answer .ensures .1)))))  -- returns
+    (λ c κs. search needs)  -- of-answer-requires
+    (λ c. as-numbers ofReport _ _ _ (c .of-answer .ensures) (c .before .ask .ensures)))  -- returns

@@ -1,5 +1,5 @@
-use Rattle.table.specs.Check.{isRefused}
-use Rattle.capi.proofs.Steps.{check-told}
+use Rattle.capi.specs.Numbers.{ofTable}
+use Rattle.capi.proofs.Steps.{as-numbers}
 use borrow.Author.Needs.{needs}
 use Rattle.capi.proofs.tezqulom_check_table.Statement.{statement}
 use Rattle.capi.proofs.tezqulom_check_table.Tie as tie
@@ -10,4 +10,4 @@ tezqulom-check-table-spec =
     (tie.spec
     (λ c κs. search needs)  -- check-table-requires
     (λ c κs. search needs)  -- of-table-requires
-    (λ c. let told = check-told (isRefused 1) _ _ _ _ (c .of-table .ensures .0) (c .before .check-table .ensures .0) (c .before .check-table .ensures .1) in (told .0, (told .1, c .of-table .ensures .1))))  -- returns
+    (λ c. as-numbers ofTable _ _ _ (c .of-table .ensures) (c .before .check-table .ensures)))  -- returns

@@ -1,5 +1,5 @@
-use Rattle.value.specs.Check.{isRefused}
-use Rattle.capi.proofs.Steps.{check-told}
+use Rattle.capi.specs.Numbers.{ofValue}
+use Rattle.capi.proofs.Steps.{as-numbers}
 use borrow.Author.Needs.{needs}
 use Rattle.capi.proofs.tezqulom_check_value.Statement.{statement}
 use Rattle.capi.proofs.tezqulom_check_value.Tie as tie
@@ -10,4 +10,4 @@ tezqulom-check-value-spec =
     (tie.spec
     (λ c κs. search needs)  -- check-value-requires
     (λ c κs. search needs)  -- of-value-requires
-    (λ c. let told = check-told (isRefused 1) _ _ _ _ (c .of-value .ensures .0) (c .before .check-value .ensures .0) (c .before .check-value .ensures .1) in (told .0, (told .1, c .of-value .ensures .1))))  -- returns
+    (λ c. as-numbers ofValue _ _ _ (c .of-value .ensures) (c .before .check-value .ensures)))  -- returns

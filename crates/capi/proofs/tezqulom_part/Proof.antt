@@ -1,4 +1,4 @@
-use Rattle.capi.proofs.Steps.{part-told}
+use Rattle.capi.proofs.Steps.{part-numbers}
 use borrow.Author.Needs.{needs}
 use Rattle.capi.proofs.tezqulom_part.Statement.{statement}
 use Rattle.capi.proofs.tezqulom_part.Tie as tie
@@ -11,4 +11,4 @@ tezqulom-part-spec =
     (λ c κs. search needs)  -- part-bytes-requires
     (λ c. search needs)  -- cast-of
     (λ c κs. search needs)  -- of-requires
-    (λ c. part-told _ _ _ _ _ _ _ _ (c .before .before .part-number .ensures) (c .before .part-bytes .ensures) (c .of .ensures .0) (c .of .ensures .1)))  -- returns
+    (λ c. search part-numbers))  -- returns
