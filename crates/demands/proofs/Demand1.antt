@@ -1,158 +1,179 @@
--- Demand 1 over the definitions.
-use Prim.Native.Nat.{ℕ, _*_}
-use mathlib.Core.Path.{_≡_, refl, sym, ap, _∙_}
+-- Demand 1 of each entry's report.
+use Prim.Native.Nat.{ℕ, _+_, _*_}
+use mathlib.Core.Path.{_≡_, refl, sym, ap, _∙_, subst}
 use mathlib.Core.Bool.{Bool, true, false, true≢false}
 use mathlib.Core.Option.{Option, none, some}
-use mathlib.Core.List.{List}
+use mathlib.Core.List.{List, []}
+use borrow.Author.Tests.{leb-true, leb-false, lt-ltb, le-ltb}
 use lib.ListN.{length}
 use lib.Dec.{leb, ltb, eqb}
 use Rattle.octets.specs.Pick.{pick, both, no, isSome, bind}
-use Rattle.table.specs.Admitted.{admitted}
+use Rattle.octets.specs.Octets.{part}
+use Rattle.rows.specs.Limits.{tableFits}
+use Rattle.rows.specs.Row.{rows}
 use Rattle.table.specs.Types.{Ty, typeAt}
+use Rattle.table.specs.Admitted.{admitted}
+use Rattle.table.specs.Check as table
+use Rattle.value.specs.Value.{Value}
 use Rattle.value.specs.Decode.{storedValue}
-use Rattle.value.specs.Check.{isStored}
+use Rattle.value.specs.Check as value
+use Rattle.value.specs.Check.{valueFits, isStored}
+use Rattle.value.specs.Part.{PartReport, refusedPart, partReport}
 use Rattle.reference.specs.Reference.{Id}
 use Rattle.reference.specs.Allowed.{allowed}
-use Rattle.trail.specs.Trail.{Trail, trail, faulty, reached}
+use Rattle.reference.specs.Named.{named}
+use Rattle.reference.specs.Numbers.{Component}
 use Rattle.filter.specs.Filter.{Filter}
 use Rattle.filter.specs.Parse.{parse}
-use Rattle.judge.specs.Truth.{Truth}
+use Rattle.trail.specs.Trail.{Trail, trail, faulty, reached}
+use Rattle.trail.proofs.Agreeing.{trail-named, laid-reached}
 use Rattle.judge.specs.Reading.{Outcome, settled, faulted}
-use Rattle.engine.specs.Limits.{Limits}
-use Rattle.engine.specs.Answer.{Report, refused, answers, budgeted, questionFits, evaluated, withFilter, askReport}
+use Rattle.engine.specs.Paper.{limits}
+use Rattle.engine.specs.Answer.{Report, refused, answers, budgeted, questionFits, evaluated, withFilter, questionOf, askReport}
 use Rattle.engine.specs.Listing.{Listing, refusedList, lists, written, listed, walked, listingFits, givenIds, withIds, listingOf, listReport}
-use Rattle.demands.specs.Refusals.{enough, isFault, ofFilter, Refuses, walkOf, ofWalk, walks, RefusesListing}
+use Rattle.demands.specs.Named.{components}
+use Rattle.demands.specs.Refusals.{TableRefusals, RefusesTable, ValueRefusals, RefusesValue, partRefusal, PartRefused, ListRefusals, ofSome, RefusesListing, AskRefusals, enough, isFault, over, faults, RefusesFilter}
 
--- the report by its tests: sizes, admission, the filter that was read, the check of the value, and what the filter comes to
-abbrev byTests : ℕ → Bool → Bool → Option Filter → Bool → (Filter → Outcome) → Report
-byTests budget fits ok none stored f = pick fits (pick ok (refused 3) (refused 2)) (refused 1)
-byTests budget fits ok (some x) stored f = pick fits (pick ok (pick stored (budgeted budget (f x)) (refused 4)) (refused 2)) (refused 1)
-
-pub record Told (budget : ℕ) (r : Report) (fits ok : Bool) (p : Option Filter) (stored : Bool) (f : Filter → Outcome) : Type 0 where
-  pub one : eqb (r .refusal) 1 ≡ no fits
-  pub two : eqb (r .refusal) 2 ≡ both fits (no ok)
-  pub three : eqb (r .refusal) 3 ≡ both (both fits ok) (no (isSome p))
-  pub four : eqb (r .refusal) 4 ≡ both (both fits ok) (both (isSome p) (no stored))
-  pub five : eqb (r .refusal) 5 ≡ both (both (both fits ok) (both (isSome p) stored)) (ofFilter (λ x. no (enough budget (f x))) p)
-  pub six : eqb (r .refusal) 6 ≡ false
-  pub seven : eqb (r .refusal) 7 ≡ both (both (both fits ok) (both (isSome p) stored)) (ofFilter (λ x. both (isFault (f x)) (enough budget (f x))) p)
-  pub truth : isSome (r .truth) ≡ eqb (r .refusal) 0
-  pub count : eqb (r .refusal) 0 ≡ false → r .tests ≡ 0
-
-within : (budget : ℕ) (x : Filter) (f : Filter → Outcome) (o : Outcome) → f x ≡ o → Told budget (budgeted budget o) true true (some x) true f
-unfolding budgeted
-within budget x f (settled u n) e = go (leb n budget) refl
+-- ---- the table check
+pub refuses-table : (t : List ℕ) (r : table.TableReport) → r ≡ table.tableReport (limits .table) t → RefusesTable t r
+unfolding table.tableReport
+refuses-table t r e = subst (λ (y : table.TableReport). RefusesTable t y) (sym e) (go (tableFits (limits .table) t) (admitted (limits .table) t) (length (rows (limits .table .rows) t)))
   where
-    go : (b : Bool) → leb n budget ≡ b → Told budget (pick b (answers u n) (refused 5)) true true (some x) true f
-    go true q = record { one = refl; two = refl; three = refl; four = refl; five = sym (ap (λ (o : Outcome). no (enough budget o)) e ∙ ap no q); six = refl; seven = sym (ap (λ (o : Outcome). both (isFault o) (enough budget o)) e); truth = refl; count = λ z. absurd (true≢false z) }
-    go false q = record { one = refl; two = refl; three = refl; four = refl; five = sym (ap (λ (o : Outcome). no (enough budget o)) e ∙ ap no q); six = refl; seven = sym (ap (λ (o : Outcome). both (isFault o) (enough budget o)) e); truth = refl; count = λ z. refl }
-within budget x f (faulted n) e = go (leb n budget) refl
+    go : (a b : Bool) (n : ℕ) → TableRefusals (no a) (no b) (pick a (pick b (table.admits n) (table.refused 2)) (table.refused 1))
+    go true true n = record { number = refl; done = refl; count = λ z. absurd (true≢false z) }
+    go true false n = record { number = refl; done = refl; count = λ z. refl }
+    go false b n = record { number = refl; done = refl; count = λ z. refl }
+
+-- ---- the value check
+pub refuses-value : (t v : List ℕ) (r : value.ValueReport) → r ≡ value.valueReport (limits .table) (limits .value) t v → RefusesValue t v r
+unfolding value.valueReport value.storage
+refuses-value t v r e =
+    subst (λ (y : value.ValueReport). RefusesValue t v y) (sym e)
+    (go (both (tableFits (limits .table) t) (valueFits (limits .value) v)) (admitted (limits .table) t) (isStored (limits .table) t v))
   where
-    go : (b : Bool) → leb n budget ≡ b → Told budget (pick b (refused 7) (refused 5)) true true (some x) true f
-    go true q = record { one = refl; two = refl; three = refl; four = refl; five = sym (ap (λ (o : Outcome). no (enough budget o)) e ∙ ap no q); six = refl; seven = sym (ap (λ (o : Outcome). both (isFault o) (enough budget o)) e ∙ q); truth = refl; count = λ z. refl }
-    go false q = record { one = refl; two = refl; three = refl; four = refl; five = sym (ap (λ (o : Outcome). no (enough budget o)) e ∙ ap no q); six = refl; seven = sym (ap (λ (o : Outcome). both (isFault o) (enough budget o)) e ∙ q); truth = refl; count = λ z. refl }
+    go : (a b c : Bool) → ValueRefusals (no a) (no b) (no c) (pick a (pick b (pick c value.good (value.refused 4)) (value.refused 2)) (value.refused 1))
+    go true true true = record { number = refl; done = refl }
+    go true true false = record { number = refl; done = refl }
+    go true false c = record { number = refl; done = refl }
+    go false b c = record { number = refl; done = refl }
 
-told : (budget : ℕ) (fits ok : Bool) (p : Option Filter) (stored : Bool) (f : Filter → Outcome) → Told budget (byTests budget fits ok p stored f) fits ok p stored f
-told budget false ok none stored f = record { one = refl; two = refl; three = refl; four = refl; five = refl; six = refl; seven = refl; truth = refl; count = λ z. refl }
-told budget false ok (some x) stored f = record { one = refl; two = refl; three = refl; four = refl; five = refl; six = refl; seven = refl; truth = refl; count = λ z. refl }
-told budget true false none stored f = record { one = refl; two = refl; three = refl; four = refl; five = refl; six = refl; seven = refl; truth = refl; count = λ z. refl }
-told budget true false (some x) stored f = record { one = refl; two = refl; three = refl; four = refl; five = refl; six = refl; seven = refl; truth = refl; count = λ z. refl }
-told budget true true none stored f = record { one = refl; two = refl; three = refl; four = refl; five = refl; six = refl; seven = refl; truth = refl; count = λ z. refl }
-told budget true true (some x) false f = record { one = refl; two = refl; three = refl; four = refl; five = refl; six = refl; seven = refl; truth = refl; count = λ z. refl }
-told budget true true (some x) true f = within budget x f (f x) refl
+-- ---- the fifth entry
+beyond : (a b : ℕ) → ltb a b ≡ no (leb b a)
+beyond a b = go (leb b a) refl
+  where
+    go : (x : Bool) → leb b a ≡ x → ltb a b ≡ no x
+    go true q = le-ltb a b (leb-true b a q)
+    go false q = lt-ltb a b (leb-false b a q)
 
-module _ (l : Limits) (t v s : List ℕ) (budget : ℕ) where
-  by-tests : askReport l t v s budget ≡ byTests budget (questionFits l t v s budget) (admitted (l .table) t) (parse (l .filter) s) (isStored (l .table) t v) (λ x. evaluated (typeAt (l .table) t 0) v x)
-  unfolding askReport withFilter isStored
-  by-tests = go (parse (l .filter) s) (questionFits l t v s budget) (admitted (l .table) t)
+module _ (v : List ℕ) (place size : ℕ) where
+  abbrev there : PartReport
+  there = record { refusal = 0; octets = part v place size }
+
+  abbrev by : Bool → Bool → PartReport
+  by a b = pick a (pick b there (refusedPart 4)) (refusedPart 1)
+
+  number-by : (a b : Bool) → by a b .refusal ≡ pick (no a) 1 (pick (no b) 4 0)
+  number-by true true = refl
+  number-by true false = refl
+  number-by false b = refl
+
+  pub refuses-part : (n : ℕ) → n ≡ partReport (limits .value) v place size .refusal → n ≡ partRefusal v place size
+  unfolding partReport
+  refuses-part n e =
+      e ∙ number-by (valueFits (limits .value) v) (leb (place + size) (length v))
+      ∙ ap (λ (y : Bool). pick (no (valueFits (limits .value) v)) 1 (pick y 4 0)) (sym (beyond (length v) (place + size)))
+
+  pub empties-part : (o : List ℕ) → o ≡ partReport (limits .value) v place size .octets → PartRefused (partRefusal v place size) o
+  unfolding partReport
+  empties-part o e =
+      record { empty = λ z. e ∙ empty-by (valueFits (limits .value) v) (leb (place + size) (length v)) (ap (λ (k : ℕ). eqb k 0) (refuses-part (partReport (limits .value) v place size .refusal) refl) ∙ z) }
     where
-      go : (p : Option Filter) (fits ok : Bool) → pick fits (pick ok (withFilter (typeAt (l .table) t 0) v budget p) (refused 2)) (refused 1) ≡ byTests budget fits ok p (isStored (l .table) t v) (λ x. evaluated (typeAt (l .table) t 0) v x)
-      go none true true = refl
-      go none true false = refl
-      go none false ok = refl
-      go (some x) true true = refl
-      go (some x) true false = refl
-      go (some x) false ok = refl
+      empty-by : (a b : Bool) → eqb (by a b .refusal) 0 ≡ false → by a b .octets ≡ []
+      empty-by true true z = absurd (true≢false z)
+      empty-by true false z = refl
+      empty-by false b z = refl
 
-  pub refuses : Refuses l t v s budget
-  refuses =
-      let w = told budget (questionFits l t v s budget) (admitted (l .table) t) (parse (l .filter) s) (isStored (l .table) t v) (λ x. evaluated (typeAt (l .table) t 0) v x) in
-      let e = by-tests in
-      record {
-        one = ap (λ (r : Report). eqb (r .refusal) 1) e ∙ w .one;
-        two = ap (λ (r : Report). eqb (r .refusal) 2) e ∙ w .two;
-        three = ap (λ (r : Report). eqb (r .refusal) 3) e ∙ w .three;
-        four = ap (λ (r : Report). eqb (r .refusal) 4) e ∙ w .four;
-        five = ap (λ (r : Report). eqb (r .refusal) 5) e ∙ w .five;
-        six = ap (λ (r : Report). eqb (r .refusal) 6) e ∙ w .six;
-        seven = ap (λ (r : Report). eqb (r .refusal) 7) e ∙ w .seven;
-        truth = ap (λ (r : Report). isSome (r .truth)) e ∙ w .truth ∙ sym (ap (λ (r : Report). eqb (r .refusal) 0) e);
-        count = λ z. ap (λ (r : Report). r .tests) e ∙ w .count (sym (ap (λ (r : Report). eqb (r .refusal) 0) e) ∙ z);
-      }
-
--- ---- the listing, by its tests: sizes, admission, whether the type allows the reference, the check of the value, and the walk
-pub record ToldListing (room : List ℕ) (r : Listing) (fits ok leading stored : Bool) (walk : Option Trail) : Type 0 where
-  pub one : eqb (r .report .refusal) 1 ≡ no fits
-  pub two : eqb (r .report .refusal) 2 ≡ both fits (no ok)
-  pub three : eqb (r .report .refusal) 3 ≡ both (both fits ok) (no leading)
-  pub four : eqb (r .report .refusal) 4 ≡ both (both fits ok) (both leading (no stored))
-  pub five : eqb (r .report .refusal) 5 ≡ false
-  pub six : eqb (r .report .refusal) 6 ≡ both (both (both fits ok) (both leading stored)) (ofWalk (λ a. both (no (faulty a)) (ltb (length room) (length (reached a) * 3))) walk)
-  pub seven : eqb (r .report .refusal) 7 ≡ both (both (both fits ok) (both leading stored)) (ofWalk faulty walk)
-  pub count : eqb (r .report .refusal) 0 ≡ false → r .report .count ≡ 0
-  pub unwritten : eqb (r .report .refusal) 0 ≡ false → r .memory ≡ room
-
-walked-told : (room : List ℕ) (a : Trail) → ToldListing room (walked a room) true true true true (some a)
-unfolding walked listed
-walked-told room a = go (faulty a) refl (ltb (length room) (length (reached a) * 3)) refl
-  where
-    go : (x : Bool) → faulty a ≡ x → (y : Bool) → ltb (length room) (length (reached a) * 3) ≡ y
-        → ToldListing room (pick x (refusedList 7 room) (pick y (refusedList 6 room) (record { report = lists (length (reached a)); memory = written (reached a) room }))) true true true true (some a)
-    go true p y q = record { one = refl; two = refl; three = refl; four = refl; five = refl; six = sym (ap (λ (u : Bool). both (no u) (ltb (length room) (length (reached a) * 3))) p); seven = sym p; count = λ z. refl; unwritten = λ z. refl }
-    go false p true q = record { one = refl; two = refl; three = refl; four = refl; five = refl; six = sym (ap (λ (u : Bool). both (no u) (ltb (length room) (length (reached a) * 3))) p ∙ q); seven = sym p; count = λ z. refl; unwritten = λ z. refl }
-    go false p false q = record { one = refl; two = refl; three = refl; four = refl; five = refl; six = sym (ap (λ (u : Bool). both (no u) (ltb (length room) (length (reached a) * 3))) p ∙ q); seven = sym p; count = λ z. absurd (true≢false z); unwritten = λ z. absurd (true≢false z) }
-
-module _ (ty : Ty) (v : List ℕ) (d : Bool) (room : List ℕ) where
-  abbrev walkFrom : Option (List Id) → Option Trail
-  walkFrom none = none
-  walkFrom (some is) = some (trail d is ty v)
-
-  ids-told : (o : Option (List Id)) → ToldListing room (withIds ty v d room o) true true (isSome (bind o (λ is. allowed is ty))) (isSome (storedValue ty v)) (walkFrom o)
-  unfolding withIds
-  ids-told none = record { one = refl; two = refl; three = refl; four = refl; five = refl; six = refl; seven = refl; count = λ z. refl; unwritten = λ z. refl }
-  ids-told (some is) = go (isSome (allowed is ty)) (isSome (storedValue ty v))
+-- ---- the listing
+module _ (room : List ℕ) where
+  -- a walk, by what it reaches
+  walk-by : (a : Trail) → ListRefusals room false false false false (faulty a) (ltb (length room) (length (reached a) * 3)) (walked a room)
+  unfolding walked listed
+  walk-by a = go (faulty a) (ltb (length room) (length (reached a) * 3))
     where
-      go : (x y : Bool) → ToldListing room (pick x (pick y (walked (trail d is ty v) room) (refusedList 4 room)) (refusedList 3 room)) true true x y (some (trail d is ty v))
-      go true true = walked-told room (trail d is ty v)
-      go true false = record { one = refl; two = refl; three = refl; four = refl; five = refl; six = refl; seven = refl; count = λ z. refl; unwritten = λ z. refl }
-      go false y = record { one = refl; two = refl; three = refl; four = refl; five = refl; six = refl; seven = refl; count = λ z. refl; unwritten = λ z. refl }
+      go : (x y : Bool) → ListRefusals room false false false false x y (pick x (refusedList 7 room) (pick y (refusedList 6 room) (record { report = lists (length (reached a)); memory = written (reached a) room })))
+      go true y = record { number = refl; done = refl; count = λ z. refl; unwritten = λ z. refl }
+      go false true = record { number = refl; done = refl; count = λ z. refl; unwritten = λ z. refl }
+      go false false = record { number = refl; done = refl; count = λ z. absurd (true≢false z); unwritten = λ z. absurd (true≢false z) }
 
-  listing-told : (fits ok : Bool) (o : Option (List Id)) → ToldListing room (pick fits (pick ok (withIds ty v d room o) (refusedList 2 room)) (refusedList 1 room)) fits ok (isSome (bind o (λ is. allowed is ty))) (isSome (storedValue ty v)) (walkFrom o)
-  listing-told false ok o = record { one = refl; two = refl; three = refl; four = refl; five = refl; six = refl; seven = refl; count = λ z. refl; unwritten = λ z. refl }
-  listing-told true false o = record { one = refl; two = refl; three = refl; four = refl; five = refl; six = refl; seven = refl; count = λ z. refl; unwritten = λ z. refl }
-  listing-told true true o = ids-told o
+  module _ (ty : Ty) (v : List ℕ) (d : Bool) where
+    -- with the components that are named in the decoded value
+    walk-named : (is : List Id) (x : Value) → storedValue ty v ≡ some x
+        → ListRefusals room false false false false (faulty (trail d is ty v)) (ltb (length room) (length (components d is x) * 3)) (walked (trail d is ty v) room)
+    walk-named is x e =
+        subst (λ (cs : List Component). ListRefusals room false false false false (faulty (trail d is ty v)) (ltb (length room) (length cs * 3)) (walked (trail d is ty v) room))
+        (ap reached (trail-named d is ty v x e) ∙ laid-reached (named d is x)) (walk-by (trail d is ty v))
 
-module _ (l : Limits) (t v : List ℕ) (given : Bool) (r : List ℕ) (defaults : Bool) (room : List ℕ) where
-  abbrev ty : Ty
-  ty = typeAt (l .table) t 0
+    abbrev By : Bool → Bool → Bool → Option Value → Option (List Id) → Listing → Type 0
+    By fits ok leading stored ids l =
+        ListRefusals room (no fits) (no ok) (no leading) (no (isSome stored)) (ofSome (λ is. faulty (trail d is ty v)) ids)
+        (ofSome (λ cs. ltb (length room) (length cs * 3)) (bind ids (λ is. bind stored (λ x. some (components d is x))))) l
 
-  walk-from : (o : Option (List Id)) → walkOf l t v defaults o ≡ walkFrom ty v defaults room o
-  walk-from none = refl
-  walk-from (some is) = refl
+    ids-by : (o : Option (List Id)) → By true true (isSome (bind o (λ is. allowed is ty))) (storedValue ty v) o (withIds ty v d room o)
+    unfolding withIds
+    ids-by none = record { number = refl; done = refl; count = λ z. refl; unwritten = λ z. refl }
+    ids-by (some is) = go (isSome (allowed is ty)) (storedValue ty v) refl
+      where
+        go : (b : Bool) (s : Option Value) → storedValue ty v ≡ s → By true true b s (some is) (pick b (pick (isSome s) (walked (trail d is ty v) room) (refusedList 4 room)) (refusedList 3 room))
+        go false s q = record { number = refl; done = refl; count = λ z. refl; unwritten = λ z. refl }
+        go true none q = record { number = refl; done = refl; count = λ z. refl; unwritten = λ z. refl }
+        go true (some x) q = walk-named is x q
 
-  pub refuses-listing : RefusesListing l t v given r defaults room
-  unfolding listReport listingOf isStored
-  refuses-listing =
-      let w = listing-told ty v defaults room (listingFits (l .bytes) (l .value) (l .reference) t v given r) (admitted (l .table) t) (givenIds given r) in
-      let e = walk-from (givenIds given r) in
-      record {
-        one = w .one;
-        two = w .two;
-        three = w .three;
-        four = w .four;
-        five = w .five;
-        six = w .six ∙ ap (λ (a : Option Trail). both (walks l t v given r defaults room) (ofWalk (λ a. both (no (faulty a)) (ltb (length room) (length (reached a) * 3))) a)) (sym e);
-        seven = w .seven ∙ ap (λ (a : Option Trail). both (walks l t v given r defaults room) (ofWalk faulty a)) (sym e);
-        count = w .count;
-        unwritten = w .unwritten;
-      }
+    list-by : (fits ok : Bool) (o : Option (List Id))
+        → By fits ok (isSome (bind o (λ is. allowed is ty))) (storedValue ty v) o (pick fits (pick ok (withIds ty v d room o) (refusedList 2 room)) (refusedList 1 room))
+    list-by false ok o = record { number = refl; done = refl; count = λ z. refl; unwritten = λ z. refl }
+    list-by true false o = record { number = refl; done = refl; count = λ z. refl; unwritten = λ z. refl }
+    list-by true true o = ids-by o
+
+pub refuses-listing : (t v : List ℕ) (given : Bool) (r : List ℕ) (defaults : Bool) (room : List ℕ) (l : Listing) → l ≡ listReport limits t v given r defaults room → RefusesListing t v given r defaults room l
+unfolding listReport listingOf isStored
+refuses-listing t v given r defaults room l e =
+    subst (λ (y : Listing). RefusesListing t v given r defaults room y) (sym e)
+    (list-by room (typeAt (limits .table) t 0) v defaults (listingFits limits t v given r) (admitted (limits .table) t) (givenIds given r))
+
+-- ---- a filter
+module _ (t v : List ℕ) (budget : ℕ) where
+  abbrev ByFilter : Bool → Bool → Bool → Option Filter → Report → Type 0
+  ByFilter fits ok stored p r = AskRefusals (no fits) (no ok) (no (isSome p)) (no stored) (ofSome (over t v budget) p) (ofSome (faults t v) p) r
+
+  outcome-by : (o : Outcome) → AskRefusals false false false false (no (enough budget o)) (isFault o) (budgeted budget o)
+  unfolding budgeted
+  outcome-by (settled u n) = go (leb n budget)
+    where
+      go : (b : Bool) → AskRefusals false false false false (no b) false (pick b (answers u n) (refused 5))
+      go true = record { number = refl; truth = refl; count = λ z. absurd (true≢false z) }
+      go false = record { number = refl; truth = refl; count = λ z. refl }
+  outcome-by (faulted n) = go (leb n budget)
+    where
+      go : (b : Bool) → AskRefusals false false false false (no b) true (pick b (refused 7) (refused 5))
+      go true = record { number = refl; truth = refl; count = λ z. refl }
+      go false = record { number = refl; truth = refl; count = λ z. refl }
+
+  filter-by : (p : Option Filter) → ByFilter true true (isSome (storedValue (typeAt (limits .table) t 0) v)) p (withFilter (typeAt (limits .table) t 0) v budget p)
+  unfolding withFilter
+  filter-by none = record { number = refl; truth = refl; count = λ z. refl }
+  filter-by (some f) = go (isSome (storedValue (typeAt (limits .table) t 0) v))
+    where
+      go : (b : Bool) → ByFilter true true b (some f) (pick b (budgeted budget (evaluated (typeAt (limits .table) t 0) v f)) (refused 4))
+      go true = outcome-by (evaluated (typeAt (limits .table) t 0) v f)
+      go false = record { number = refl; truth = refl; count = λ z. refl }
+
+  ask-by : (fits ok : Bool) (p : Option Filter)
+      → ByFilter fits ok (isSome (storedValue (typeAt (limits .table) t 0) v)) p (pick fits (pick ok (withFilter (typeAt (limits .table) t 0) v budget p) (refused 2)) (refused 1))
+  ask-by false ok p = record { number = refl; truth = refl; count = λ z. refl }
+  ask-by true false p = record { number = refl; truth = refl; count = λ z. refl }
+  ask-by true true p = filter-by p
+
+pub refuses-filter : (t v s : List ℕ) (budget : ℕ) (r : Report) → r ≡ askReport limits t v s budget → RefusesFilter t v s budget r
+unfolding askReport questionOf isStored
+refuses-filter t v s budget r e =
+    subst (λ (y : Report). RefusesFilter t v s budget y) (sym e) (ask-by t v budget (questionFits limits t v s budget) (admitted (limits .table) t) (parse (limits .filter) s))

@@ -1,30 +1,74 @@
--- Demand 2 over the definitions: "Otherwise the truth is the one RFC 3687 gives the filter for that value .., and the reported tests are those of the
--- stated left-to-right reading."
+-- Demand 2 of every report with a truth.
 use Prim.Native.Nat.{ℕ, _≤_, _*_, _/_}
 use mathlib.Core.Path.{_≡_, refl, sym, ap, ap₂, _∙_, subst}
-use mathlib.Core.Bool.{Bool, true, false, false≢true}
+use mathlib.Core.Bool.{Bool, true, false}
 use mathlib.Core.Option.{Option, none, some}
-use mathlib.Core.List.{List, [], _∷_}
+use mathlib.Core.List.{List, [], _∷_, map}
 use native.Mathlib.Omega.{arith}
 use lib.ListN.{length}
 use lib.Dec.{leb}
+use Prim.Native.Nat.{suc, _+_}
 use Rattle.octets.specs.Pick.{pick, both, either, isSome}
-use Rattle.table.specs.Types.{typeAt}
+use Rattle.table.specs.Types.{Ty, typeAt}
 use Rattle.table.specs.Admitted.{admitted}
 use Rattle.value.specs.Value.{Value}
 use Rattle.value.specs.Decode.{storedValue}
+use Rattle.reference.specs.Named.{Held, named}
+use Rattle.reference.specs.Numbers.{Component, component}
+use Rattle.rules.specs.Accepts.{accepts}
 use Rattle.filter.specs.Filter.{Item, Join, and, or, Filter, Filters, item, list, inverse, endFilters, next, items}
 use Rattle.filter.specs.Parse.{parse}
-use Rattle.judge.specs.Truth.{Truth, TRUE, FALSE, UNDEFINED, everyTruth, anyTruth, conjunction, disjunction, joined, truth, truths, isTrue, isFalse}
-use Rattle.judge.specs.Reading.{Outcome, settled, faulted, reading}
-use Rattle.judge.specs.Assertion.{outcome}
+use Rattle.trail.proofs.Agreeing.{laid, trail-named}
+use Rattle.judge.specs.Truth.{Truth, TRUE, FALSE, UNDEFINED, everyTruth, anyTruth, conjunction, disjunction, joined, opposite, truth, truths, isTrue, isFalse}
+use Rattle.judge.specs.Reading.{Outcome, settled, faulted, andThen, inverted, reading, readingIn}
+use Rattle.judge.specs.Assertion.{Asked, asked, testing, outcomeOf, outcome}
 use Rattle.judge.proofs.Laws.{truthOf, Settles, reading-truth}
 use Rattle.judge.proofs.Few.{testsOf, tests-few}
-use Rattle.engine.specs.Limits.{Limits}
-use Rattle.engine.specs.Answer.{Report, refused, answers, budgeted, questionFits, evaluated, withFilter, askReport}
+use Rattle.engine.specs.Paper.{limits}
+use Rattle.engine.specs.Answer.{Report, refused, answers, budgeted, questionFits, evaluated, withFilter, questionOf, askReport}
+use Rattle.demands.specs.Named.{acceptsOne, needed, truthBy, itemTruth, itemTests, truthFor, testsFor}
+use Rattle.demands.specs.Truths.{EachItem, EachItems, Alone, Answers, Answered, AnswersTruly}
 use Rattle.demands.specs.Order.{Reordered, none, keeps, swaps, then}
 
--- ---- an answer that is a truth
+-- ---- an assertion, by what its reference names
+testing-laid : (f : Component → Bool) (n : ℕ) (hs : List Held) → testing f n (laid hs) ≡ settled (truthBy f (map component hs)) (n + needed f (map component hs))
+unfolding testing laid acceptsOne needed
+testing-laid f n [] = let e : n ≡ n + 0 = omega arith in ap (settled FALSE) e
+testing-laid f n (h ∷ hs) = go (f (component h)) (testing-laid f (n + 1) hs)
+  where
+    go : (b : Bool) → testing f (n + 1) (laid hs) ≡ settled (truthBy f (map component hs)) (n + 1 + needed f (map component hs))
+        → pick b (settled TRUE (n + 1)) (testing f (n + 1) (laid hs)) ≡ settled (pick (either b (acceptsOne f (map component hs))) TRUE FALSE) (n + pick b 1 (suc (needed f (map component hs))))
+    go true e = refl
+    go false e = let q : n + 1 + needed f (map component hs) ≡ n + suc (needed f (map component hs)) = omega arith in e ∙ ap (settled (truthBy f (map component hs))) q
+
+pub tested-named : (f : Component → Bool) (hs : List Held) → testing f 0 (laid hs) ≡ settled (truthBy f (map component hs)) (needed f (map component hs))
+tested-named f hs = let e : 0 + needed f (map component hs) ≡ needed f (map component hs) = omega arith in testing-laid f 0 hs ∙ ap (settled (truthBy f (map component hs))) e
+
+module _ (ty : Ty) (v : List ℕ) (x : Value) (decodes : storedValue ty v ≡ some x) where
+  abbrev says : Item → Outcome
+  says i = settled (itemTruth ty x i) (itemTests ty x i)
+
+  outcome-named : (i : Item) → outcome ty v i ≡ says i
+  unfolding outcome
+  outcome-named i = go (asked ty i)
+    where
+      go : (o : Option Asked) → outcomeOf ty v i o ≡ settled (truthFor x i o) (testsFor x i o)
+      go none = refl
+      go (some a) = ap (testing (accepts (a .rule) (i .value)) 0) (trail-named (i .defaults) (a .ids) ty v x decodes) ∙ tested-named (accepts (a .rule) (i .value)) (named (i .defaults) (a .ids) x)
+
+mutual
+  unfolding reading
+
+  reading-same : (f g : Item → Outcome) → ((i : Item) → f i ≡ g i) → (x : Filter) → reading f x ≡ reading g x
+  reading-same f g h (item i) = h i
+  reading-same f g h (list j xs) = readings-same f g h j xs
+  reading-same f g h (inverse x) = ap inverted (reading-same f g h x)
+
+  readings-same : (f g : Item → Outcome) → ((i : Item) → f i ≡ g i) → (j : Join) (xs : Filters) → readingIn f j xs ≡ readingIn g j xs
+  readings-same f g h j endFilters = refl
+  readings-same f g h j (next x xs) = ap₂ (andThen j) (reading-same f g h x) (readings-same f g h j xs)
+
+-- ---- a report with a truth: what was read, and what it comes to
 settles : (budget : ℕ) (o : Outcome) (u : Truth) (n : ℕ) → budgeted budget o ≡ answers u n → o ≡ settled u n
 unfolding budgeted
 settles budget (settled w k) u n e = go (leb k budget) e
@@ -38,53 +82,81 @@ settles budget (faulted k) u n e = absurd (go (leb k budget) e)
     go true q = let z : _≡_ {A = ℕ} 7 0 = ap (λ (r : Report). r .refusal) q in omega arith
     go false q = let z : _≡_ {A = ℕ} 5 0 = ap (λ (r : Report). r .refusal) q in omega arith
 
--- an assertion's own truth
-abbrev pub itemTruth : Limits → List ℕ → List ℕ → Item → Truth
-itemTruth l t v i = truthOf (outcome (typeAt (l .table) t 0) v i)
+module _ (ty : Ty) (v : List ℕ) (budget : ℕ) (u : Truth) (n : ℕ) where
+  abbrev Read : Option Filter → Type 0
+  Read p = (f : Filter) × (p ≡ some f) × (x : Value) × (storedValue ty v ≡ some x) × (reading (outcome ty v) f ≡ settled u n)
 
-module _ (l : Limits) (t v s : List ℕ) (budget : ℕ) (f : Filter) (parses : parse (l .filter) s ≡ some f) (u : Truth) (n : ℕ) (answered : askReport l t v s budget ≡ answers u n) where
-  -- it is the reading's, with the reading's tests
-  pub is-reading : reading (outcome (typeAt (l .table) t 0) v) f ≡ settled u n
-  unfolding askReport withFilter evaluated
-  is-reading = go (questionFits l t v s budget) (admitted (l .table) t) (isSome (storedValue (typeAt (l .table) t 0) v)) (rw parses at answered)
+  filter-view : (p : Option Filter) → withFilter ty v budget p ≡ answers u n → Read p
+  unfolding withFilter evaluated
+  filter-view none e = absurd (let z : _≡_ {A = ℕ} 3 0 = ap (λ (r : Report). r .refusal) e in omega arith)
+  filter-view (some f) e = go (storedValue ty v) refl e
     where
-      go : (a b c : Bool) → pick a (pick b (pick c (budgeted budget (reading (outcome (typeAt (l .table) t 0) v) f)) (refused 4)) (refused 2)) (refused 1) ≡ answers u n → reading (outcome (typeAt (l .table) t 0) v) f ≡ settled u n
-      go true true true e = settles budget (reading (outcome (typeAt (l .table) t 0) v) f) u n e
-      go true true false e = absurd (let z : _≡_ {A = ℕ} 4 0 = ap (λ (r : Report). r .refusal) e in omega arith)
-      go true false c e = absurd (let z : _≡_ {A = ℕ} 2 0 = ap (λ (r : Report). r .refusal) e in omega arith)
-      go false b c e = absurd (let z : _≡_ {A = ℕ} 1 0 = ap (λ (r : Report). r .refusal) e in omega arith)
+      go : (o : Option Value) → storedValue ty v ≡ o → pick (isSome o) (budgeted budget (reading (outcome ty v) f)) (refused 4) ≡ answers u n → Read (some f)
+      go none q w = absurd (let z : _≡_ {A = ℕ} 4 0 = ap (λ (r : Report). r .refusal) w in omega arith)
+      go (some x) q w = (f, refl, x, q, settles budget (reading (outcome ty v) f) u n w)
 
-  -- "a larger filter's, where it isn't refused, nor any of its items alone with budget enough for it, is what its lists and `not` make of these"
-  pub is-truth : u ≡ truth (itemTruth l t v) f
-  is-truth = go (reading (outcome (typeAt (l .table) t 0) v) f) is-reading (reading-truth f (outcome (typeAt (l .table) t 0) v))
-    where
-      go : (o : Outcome) → o ≡ settled u n → Settles o (truth (itemTruth l t v) f) → u ≡ truth (itemTruth l t v) f
-      go (settled w k) e h = let a : w ≡ u = cc in sym a ∙ h
-      go (faulted k) e h = absurd (let z : _≡_ {A = ℕ} 0 1 = cc in omega arith)
+  view : (fits ok : Bool) (p : Option Filter) → pick fits (pick ok (withFilter ty v budget p) (refused 2)) (refused 1) ≡ answers u n → Read p
+  view true true p e = filter-view p e
+  view true false p e = absurd (let z : _≡_ {A = ℕ} 2 0 = ap (λ (r : Report). r .refusal) e in omega arith)
+  view false ok p e = absurd (let z : _≡_ {A = ℕ} 1 0 = ap (λ (r : Report). r .refusal) e in omega arith)
 
-  -- the value is one of the type of row 0
-  is-stored : isSome (storedValue (typeAt (l .table) t 0) v) ≡ true
-  unfolding askReport withFilter
-  is-stored = go (questionFits l t v s budget) (admitted (l .table) t) (isSome (storedValue (typeAt (l .table) t 0) v)) (rw parses at answered)
-    where
-      go : (a b c : Bool) → pick a (pick b (pick c (budgeted budget (evaluated (typeAt (l .table) t 0) v f)) (refused 4)) (refused 2)) (refused 1) ≡ answers u n → c ≡ true
-      go true true true e = refl
-      go true true false e = absurd (let z : _≡_ {A = ℕ} 4 0 = ap (λ (r : Report). r .refusal) e in omega arith)
-      go true false c e = absurd (let z : _≡_ {A = ℕ} 2 0 = ap (λ (r : Report). r .refusal) e in omega arith)
-      go false b c e = absurd (let z : _≡_ {A = ℕ} 1 0 = ap (λ (r : Report). r .refusal) e in omega arith)
+module _ (t v : List ℕ) where
+  abbrev ty : Ty
+  ty = typeAt (limits .table) t 0
 
-  -- "The count is at most items times half the value's length, rounded down."
-  pub few-tests : n ≤ items f * (length v / 2)
-  few-tests = go (storedValue (typeAt (l .table) t 0) v) refl is-stored
-    where
-      go : (o : Option Value) → storedValue (typeAt (l .table) t 0) v ≡ o → isSome o ≡ true → n ≤ items f * (length v / 2)
-      go none e h = absurd (false≢true h)
-      go (some x) e h = subst (λ (o : Outcome). testsOf o ≤ items f * (length v / 2)) is-reading (tests-few (typeAt (l .table) t 0) v x f e)
+  answer-view : (s : List ℕ) (budget : ℕ) (u : Truth) (n : ℕ) → askReport limits t v s budget ≡ answers u n → Read ty v budget u n (parse (limits .filter) s)
+  unfolding askReport questionOf
+  answer-view s budget u n e = view ty v budget u n (questionFits limits t v s budget) (admitted (limits .table) t) (parse (limits .filter) s) e
 
--- "An assertion's truth there is the engine's for a filter of that item alone"
-pub item-alone : (l : Limits) (t v s : List ℕ) (budget : ℕ) (i : Item) → parse (l .filter) s ≡ some (item i) → (u : Truth) (n : ℕ) → askReport l t v s budget ≡ answers u n → u ≡ itemTruth l t v i
-unfolding truth
-item-alone l t v s budget i parses u n answered = is-truth l t v s budget (item i) parses u n answered
+  module _ (x : Value) (decodes : storedValue ty v ≡ some x) where
+    -- the engine's truth for a filter of one item is the item's own
+    alone-is : (u : Truth) (i : Item) → Alone t v u i → u ≡ itemTruth ty x i
+    unfolding reading
+    alone-is u i a =
+        let w = answer-view (a .text) (a .budget) u (a .tests) (a .answered) in
+        let same : _≡_ {A = Option Filter} (some (item i)) (some (w .0)) = sym (a .parses) ∙ w .1 in
+        let is : item i ≡ w .0 = cc in
+        let read : outcome ty v i ≡ settled u (a .tests) = ap (reading (outcome ty v)) is ∙ w .4 in
+        ap truthOf (sym read ∙ outcome-named ty v x decodes i)
+
+    mutual
+      unfolding EachItem truth
+
+      truth-alone : (alone : Item → Truth) (f : Filter) → EachItem (λ i. Alone t v (alone i) i) f → truth alone f ≡ truth (itemTruth ty x) f
+      truth-alone alone (item i) w = alone-is (alone i) i w
+      truth-alone alone (list j fs) w = ap (joined j) (truths-alone alone fs w)
+      truth-alone alone (inverse f) w = ap opposite (truth-alone alone f w)
+
+      truths-alone : (alone : Item → Truth) (fs : Filters) → EachItems (λ i. Alone t v (alone i) i) fs → truths alone fs ≡ truths (itemTruth ty x) fs
+      truths-alone alone endFilters w = refl
+      truths-alone alone (next f fs) w = ap₂ (λ (u : Truth) (us : List Truth). u ∷ us) (truth-alone alone f (w .0)) (truths-alone alone fs (w .1))
+
+    module _ (s : List ℕ) (f : Filter) (u : Truth) (n : ℕ) (read : reading (outcome ty v) f ≡ settled u n) where
+      read-named : reading (says ty v x decodes) f ≡ settled u n
+      read-named = sym (reading-same (outcome ty v) (says ty v x decodes) (outcome-named ty v x decodes) f) ∙ read
+
+      is-truth : u ≡ truth (itemTruth ty x) f
+      is-truth = go (reading (says ty v x decodes) f) read-named (reading-truth f (says ty v x decodes))
+        where
+          go : (o : Outcome) → o ≡ settled u n → Settles o (truth (itemTruth ty x) f) → u ≡ truth (itemTruth ty x) f
+          go (settled w k) e h = let a : w ≡ u = cc in sym a ∙ h
+          go (faulted k) e h = absurd (let z : _≡_ {A = ℕ} 0 1 = cc in omega arith)
+
+      pub answers-truly : Answers t v s f x u n
+      answers-truly = record {
+        truth = is-truth;
+        tests = read-named;
+        few = subst (λ (o : Outcome). testsOf o ≤ items f * (length v / 2)) read (tests-few ty v x f decodes);
+        larger = λ alone w. is-truth ∙ sym (truth-alone alone f w);
+      }
+
+pub answered-truly : (t v s : List ℕ) (budget : ℕ) (r : Report) → r ≡ askReport limits t v s budget → AnswersTruly t v s r
+answered-truly t v s budget r e = record { answered = go }
+  where
+    go : (u : Truth) (n : ℕ) → r ≡ answers u n → Answered t v s u n
+    go u n q =
+        let w = answer-view t v s budget u n (sym e ∙ q) in
+        record { filter = w .0; value = w .2; parses = w .1; decodes = w .3; answers = answers-truly t v (w .2) (w .3) s (w .0) u n (w .4) }
 
 -- ---- the order of a list's filters doesn't affect its truth
 swap-both : (a b c : Bool) → both a (both b c) ≡ both b (both a c)

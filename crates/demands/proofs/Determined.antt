@@ -24,7 +24,7 @@ use Rattle.reference.specs.Named as names
 use Rattle.reference.specs.Named.{Held, value, missing, counted, absentNames, memberNamed, size, each, indexedBy, step, replaced, held, named}
 use Rattle.reference.specs.Numbers.{Component, stored, defaulted, tallied, component, numbersOf, threes}
 use Rattle.rules.specs.Accepts.{accepts}
-use Rattle.demands.specs.Demand.{components, acceptsOne}
+use Rattle.demands.specs.Named.{components, acceptsOne}
 use Rattle.demands.specs.Numbers.{componentBy, componentsBy, readBack, Each, Determined}
 
 -- ---- members of the types of a table t with the rows s

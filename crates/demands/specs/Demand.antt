@@ -1,20 +1,19 @@
--- Demand 3, as a statement over the definitions: what the reference names, what the listing gives, what an assertion's truth is.
-use Prim.Native.Nat.{ℕ, suc, _≤_, _<_, _*_}
+-- Demand 3, of the listing and the answer to a filter for one table and value.
+use Prim.Native.Nat.{ℕ, _≤_, _<_, _*_}
 use mathlib.Core.Path.{_≡_}
 use mathlib.Core.Bool.{Bool, true}
 use mathlib.Core.Option.{Option, none, some}
-use mathlib.Core.List.{List, [], _∷_, _++_, map}
+use mathlib.Core.List.{List, _++_}
 use lib.ListN.{length, drop}
 use lib.Dec.{leb}
-use Rattle.octets.specs.Pick.{pick, both, either, isSome, bind}
-use Rattle.table.specs.Types.{Ty, typeAt}
+use Rattle.octets.specs.Pick.{pick, both, bind}
+use Rattle.table.specs.Types.{typeAt}
 use Rattle.table.specs.Admitted as table
 use Rattle.value.specs.Value.{Value}
 use Rattle.value.specs.Decode.{storedValue}
 use Rattle.reference.specs.Reference.{Id}
 use Rattle.reference.specs.Allowed as reference
-use Rattle.reference.specs.Named.{named}
-use Rattle.reference.specs.Numbers.{Component, component, threes}
+use Rattle.reference.specs.Numbers.{Component, threes}
 use Rattle.rules.specs.Rule.{Rule, ruleOf}
 use Rattle.rules.specs.Suits.{suits}
 use Rattle.rules.specs.Asserted.{conforms}
@@ -22,48 +21,43 @@ use Rattle.rules.specs.Accepts.{accepts}
 use Rattle.filter.specs.Filter.{Item, item}
 use Rattle.filter.specs.Parse.{filterFits, parse}
 use Rattle.trail.specs.Spread.{Spread}
-use Rattle.judge.specs.Truth.{Truth, TRUE, FALSE, UNDEFINED}
-use Rattle.engine.specs.Limits.{Limits}
+use Rattle.judge.specs.Truth.{UNDEFINED}
+use Rattle.engine.specs.Paper.{limits}
 use Rattle.engine.specs.Answer as answer
-use Rattle.engine.specs.Listing.{listingFits, listReport, givenIds, refusedList, lists}
+use Rattle.engine.specs.Listing.{Listing, listingFits, givenIds, refusedList, lists}
+use Rattle.demands.specs.Named.{components, needed, truthBy}
+use Rattle.demands.specs.Numbers.{Determined}
+use Rattle.demands.specs.Truths.{AnswersTruly}
 
 -- "Take any admitted table, any value of its type, any component reference allowed there or none, .. with sizes within limits": table t, stored
--- value v, which decodes to x; reference r where one is given, with the identifiers is, which lead to a target
-pub record Taken (l : Limits) (t v : List ℕ) (given : Bool) (r : List ℕ) (x : Value) (is : List Id) (target : reference.Target) : Type 0 where
-  pub sizes : listingFits (l .bytes) (l .value) (l .reference) t v given r ≡ true
-  pub admitted : table.admitted (l .table) t ≡ true
-  pub decodes : storedValue (typeAt (l .table) t 0) v ≡ some x
+-- value v, which decodes to x; reference r where one is given, with the identifiers is, which lead to a target. There is no cause for refusal 7: the
+-- walk along a stored value meets no header that doesn't fit
+pub record Taken (t v : List ℕ) (given : Bool) (r : List ℕ) (x : Value) (is : List Id) (target : reference.Target) : Type 0 where
+  pub sizes : listingFits limits t v given r ≡ true
+  pub admitted : table.admitted (limits .table) t ≡ true
+  pub decodes : storedValue (typeAt (limits .table) t 0) v ≡ some x
   pub reads : givenIds given r ≡ some is
-  pub allowed : reference.allowed is (typeAt (l .table) t 0) ≡ some target
+  pub allowed : reference.allowed is (typeAt (limits .table) t 0) ≡ some target
 
--- "the component values that the reference names", with "either choice about defaults"
-abbrev pub components : Bool → List Id → Value → List Component
-components defaults is x = map component (named defaults is x)
-
--- "With enough room, the listing is, in document 01's three numbers, exactly the component values that the reference names: every one of them,
--- each once, by rising place in the record, and no other." With less room it is refused 6, and nothing is written.
-pub record Listed (l : Limits) (t v : List ℕ) (given : Bool) (r : List ℕ) (defaults : Bool) (cs : List Component) : Type 0 where
-  pub enough : (room : List ℕ) → length cs * 3 ≤ length room → listReport l t v given r defaults room ≡ record { report = lists (length cs); memory = threes cs ++ drop (length cs * 3) room }
-  pub short : (room : List ℕ) → length room < length cs * 3 → listReport l t v given r defaults room ≡ refusedList 6 room
+-- ---- the listing, of the components cs that the reference names
+pub record Listed (t v room : List ℕ) (cs : List Component) (l : Listing) : Type 0 where
+  -- "With enough room, the listing is, in document 01's three numbers, exactly the component values that the reference names: every one of them, ..
+  -- and no other"; the rest of the room is as it was
+  pub enough : length cs * 3 ≤ length room → l ≡ record { report = lists (length cs); memory = threes cs ++ drop (length cs * 3) room }
+  -- with too little room it is refused 6, and nothing is written
+  pub short : length room < length cs * 3 → l ≡ refusedList 6 room
+  -- "each once, by rising place in the record"
   pub rising : Spread 0 (length v) cs
+  -- the listed numbers determine the components, and so what a rule accepts
+  pub determined : Determined (limits .table) t v cs
 
 -- ---- an assertion
--- a rule accepts one of the components
-unfoldable pub acceptsOne : (Component → Bool) → List Component → Bool
-acceptsOne accepted [] = Bool.false
-acceptsOne accepted (c ∷ cs) = either (accepted c) (acceptsOne accepted cs)
-
--- the tests needed: one for each component up to the first accepted one
-unfoldable pub needed : (Component → Bool) → List Component → ℕ
-needed accepted [] = 0
-needed accepted (c ∷ cs) = let more = suc (needed accepted cs) in pick (accepted c) 1 more
-
 -- "Now put any assertion to the same table and value, with the same reference and choice, .. With filter and budget within their limits": the
 -- filter text s is the assertion i alone
-pub record Put (l : Limits) (given : Bool) (r : List ℕ) (defaults : Bool) (s : List ℕ) (i : Item) (budget : ℕ) : Type 0 where
-  pub fits : filterFits (l .filter) s ≡ true
-  pub within : leb budget (l .budget) ≡ true
-  pub parses : parse (l .filter) s ≡ some (item i)
+pub record Put (given : Bool) (r : List ℕ) (defaults : Bool) (s : List ℕ) (i : Item) (budget : ℕ) : Type 0 where
+  pub fits : filterFits (limits .filter) s ≡ true
+  pub within : leb budget (limits .budget) ≡ true
+  pub parses : parse (limits .filter) s ≡ some (item i)
   pub same-reference : i .component ≡ pick given (some r) none
   pub same-choice : i .defaults ≡ defaults
 
@@ -71,10 +65,17 @@ pub record Put (l : Limits) (given : Bool) (r : List ℕ) (defaults : Bool) (s :
 abbrev pub ruleFor : reference.Target → Item → Option Rule
 ruleFor target i = bind (ruleOf (i .rule)) (λ u. pick (both (suits u target) (conforms u (i .value))) (some u) none)
 
--- "if document 01 .. doesn't make it Undefined, it is TRUE if its rule accepts at least one value on that list, else FALSE"
-abbrev pub truthBy : (Component → Bool) → List Component → Truth
-truthBy accepted cs = pick (acceptsOne accepted cs) TRUE FALSE
+pub record Asserted (i : Item) (budget : ℕ) (target : reference.Target) (cs : List Component) (b : answer.Report) : Type 0 where
+  -- where document 01 makes it Undefined
+  pub undefined : ruleFor target i ≡ none → b ≡ answer.answers UNDEFINED 0
+  -- "with .. budget enough, if document 01 .. doesn't make it Undefined, it is TRUE if its rule accepts at least one value on that list, else FALSE"
+  pub defined : (u : Rule) → ruleFor target i ≡ some u → needed (accepts u (i .value)) cs ≤ budget
+      → b ≡ answer.answers (truthBy (accepts u (i .value)) cs) (needed (accepts u (i .value)) cs)
 
-pub record Answered (l : Limits) (t v s : List ℕ) (budget : ℕ) (i : Item) (target : reference.Target) (cs : List Component) : Type 0 where
-  pub undefined : ruleFor target i ≡ none → answer.askReport l t v s budget ≡ answer.answers UNDEFINED 0
-  pub defined : (u : Rule) → ruleFor target i ≡ some u → needed (accepts u (i .value)) cs ≤ budget → answer.askReport l t v s budget ≡ answer.answers (truthBy (accepts u (i .value)) cs) (needed (accepts u (i .value)) cs)
+-- ---- in one piece: a listing l with its memory and a filter's report b
+pub record Demanded (t v : List ℕ) (given : Bool) (r : List ℕ) (defaults : Bool) (room s : List ℕ) (budget : ℕ) (l : Listing) (b : answer.Report) : Type 0 where
+  pub listed : (x : Value) (is : List Id) (target : reference.Target) → Taken t v given r x is target → Listed t v room (components defaults is x) l
+  pub asserted : (x : Value) (is : List Id) (target : reference.Target) → Taken t v given r x is target → (i : Item) → Put given r defaults s i budget
+      → Asserted i budget target (components defaults is x) b
+  -- any other filter, among which are the larger ones
+  pub answered : AnswersTruly t v s b

@@ -1,7 +1,9 @@
+pub mod Named
 pub mod Refusals
+pub mod Truths
 pub mod Order
+pub mod Numbers
 pub mod Demand
 pub mod Shown
 pub mod Licence
 pub mod Rfc3687
-pub mod Numbers

@@ -12,7 +12,7 @@ use Rattle.reader.specs.There.{contentsThere}
 use Rattle.reference.specs.Numbers.{Component, stored, defaulted, tallied, Numbers, numbersOf, threes}
 use Rattle.rules.specs.Rule.{Rule}
 use Rattle.rules.specs.Accepts.{accepts}
-use Rattle.demands.specs.Demand.{acceptsOne}
+use Rattle.demands.specs.Named.{acceptsOne}
 
 -- "Stored: 0, start of its own tag octet .., its whole length": with the contents behind the header there
 abbrev pub storedBy : List ℕ → ℕ → ℕ → Component

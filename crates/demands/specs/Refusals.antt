@@ -7,14 +7,13 @@ use mathlib.Core.Option.{Option, none, some}
 use mathlib.Core.List.{List, []}
 use lib.ListN.{length}
 use lib.Dec.{leb, ltb, eqb}
-use Rattle.octets.specs.Pick.{pick, no, isSome, bind}
+use Rattle.octets.specs.Pick.{pick, both, no, isSome, bind}
 use Rattle.rows.specs.Limits.{tableFits}
 use Rattle.table.specs.Types.{typeAt}
 use Rattle.table.specs.Admitted.{admitted}
 use Rattle.table.specs.Check.{TableReport}
 use Rattle.value.specs.Decode.{storedValue}
 use Rattle.value.specs.Check.{ValueReport, valueFits, isStored}
-use Rattle.value.specs.Part.{PartReport}
 use Rattle.reference.specs.Reference.{Id}
 use Rattle.reference.specs.Allowed.{allowed}
 use Rattle.reference.specs.Numbers.{Component}
@@ -43,18 +42,17 @@ pub record ValueRefusals (one two four : Bool) (r : ValueReport) : Type 0 where
 
 -- 1: the table's size or the value's
 abbrev pub sizes : List ℕ → List ℕ → Bool
-sizes t v = pick (tableFits (limits .table) t) (valueFits (limits .value) v) false
+sizes t v = both (tableFits (limits .table) t) (valueFits (limits .value) v)
 
 abbrev pub RefusesValue : List ℕ → List ℕ → ValueReport → Type 0
 RefusesValue t v r = ValueRefusals (no (sizes t v)) (no (admitted (limits .table) t)) (no (isStored (limits .table) t v)) r
 
 -- ---- the fifth entry: "refused 1 for the value's size, then 4 if place plus length passes that size, each with an empty part"
-pub record PartRefusals (one four : Bool) (r : PartReport) : Type 0 where
-  pub number : r .refusal ≡ pick one 1 (pick four 4 0)
-  pub empty : eqb (r .refusal) 0 ≡ false → r .octets ≡ []
+abbrev pub partRefusal : List ℕ → ℕ → ℕ → ℕ
+partRefusal v place size = pick (no (valueFits (limits .value) v)) 1 (pick (ltb (length v) (place + size)) 4 0)
 
-abbrev pub RefusesPart : List ℕ → ℕ → ℕ → PartReport → Type 0
-RefusesPart v place size r = PartRefusals (no (valueFits (limits .value) v)) (ltb (length v) (place + size)) r
+pub record PartRefused (refusal : ℕ) (octets : List ℕ) : Type 0 where
+  pub empty : eqb refusal 0 ≡ false → octets ≡ []
 
 -- ---- the listing; "in a listing 7 goes before 6"
 pub record ListRefusals (room : List ℕ) (one two three four seven six : Bool) (r : Listing) : Type 0 where
@@ -105,16 +103,15 @@ abbrev pub isFault : Outcome → Bool
 isFault (settled u n) = Bool.false
 isFault (faulted n) = Bool.true
 
-module _ (t v s : List ℕ) (budget : ℕ) where
-  -- 5: "tests needed exceed the budget", counted up to a header that doesn't fit where one is reached
-  abbrev pub over : Filter → Bool
-  over f = no (enough budget (evaluated (typeAt (limits .table) t 0) v f))
+-- 5: "tests needed exceed the budget", counted up to a header that doesn't fit where one is reached
+abbrev pub over : List ℕ → List ℕ → ℕ → Filter → Bool
+over t v budget f = no (enough budget (evaluated (typeAt (limits .table) t 0) v f))
 
-  -- 7: such a header is reached
-  abbrev pub faults : Filter → Bool
-  faults f = isFault (evaluated (typeAt (limits .table) t 0) v f)
+-- 7: such a header is reached
+abbrev pub faults : List ℕ → List ℕ → Filter → Bool
+faults t v f = isFault (evaluated (typeAt (limits .table) t 0) v f)
 
-  abbrev pub RefusesFilter : Report → Type 0
-  RefusesFilter r =
-      AskRefusals (no (questionFits limits t v s budget)) (no (admitted (limits .table) t)) (no (isSome (parse (limits .filter) s))) (no (isStored (limits .table) t v))
-      (ofSome over (parse (limits .filter) s)) (ofSome faults (parse (limits .filter) s)) r
+abbrev pub RefusesFilter : List ℕ → List ℕ → List ℕ → ℕ → Report → Type 0
+RefusesFilter t v s budget r =
+    AskRefusals (no (questionFits limits t v s budget)) (no (admitted (limits .table) t)) (no (isSome (parse (limits .filter) s))) (no (isStored (limits .table) t v))
+    (ofSome (over t v budget) (parse (limits .filter) s)) (ofSome (faults t v) (parse (limits .filter) s)) r

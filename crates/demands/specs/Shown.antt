@@ -9,7 +9,7 @@ use Prim.Native.Nat.{_*_}
 use Rattle.octets.specs.Pick.{pick}
 use Rattle.octets.specs.Octets as octets
 use Prim.Native.String.{String}
-use Rattle.table.specs.Paper.{tableBytes, tableLimits}
+use Rattle.rows.specs.Paper.{tableLimits}
 use Rattle.table.specs.Check as table
 use Rattle.value.specs.Paper.{valueLimits}
 use Rattle.value.specs.Check as value
@@ -31,13 +31,13 @@ abbrev pub showTable : table.TableReport → List ℕ
 showTable r = answered (r .refusal) (r .rows ∷ [])
 
 abbrev pub shownTable : List ℕ → List ℕ
-shownTable t = showTable (table.tableReport tableBytes tableLimits t)
+shownTable t = showTable (table.tableReport tableLimits t)
 
 abbrev pub showValue : value.ValueReport → List ℕ
 showValue r = answered (r .refusal) []
 
 abbrev pub shownValue : List ℕ → List ℕ → List ℕ
-shownValue t v = showValue (value.valueReport tableBytes tableLimits valueLimits t v)
+shownValue t v = showValue (value.valueReport tableLimits valueLimits t v)
 
 -- then the octets
 abbrev pub showPart : part.PartReport → List ℕ

@@ -1,0 +1,49 @@
+-- What demands 2 and 3 say of an assertion: the components that its reference names in the decoded value, the tests that its rule makes of them, and
+-- its truth.
+use Prim.Native.Nat.{ℕ, suc}
+use mathlib.Core.Bool.{Bool, false}
+use mathlib.Core.Option.{Option, none, some}
+use mathlib.Core.List.{List, [], _∷_, map}
+use Rattle.octets.specs.Pick.{pick, either}
+use Rattle.table.specs.Types.{Ty}
+use Rattle.value.specs.Value.{Value}
+use Rattle.reference.specs.Reference.{Id}
+use Rattle.reference.specs.Named.{named}
+use Rattle.reference.specs.Numbers.{Component, component}
+use Rattle.rules.specs.Accepts.{accepts}
+use Rattle.filter.specs.Filter.{Item}
+use Rattle.judge.specs.Truth.{Truth, TRUE, FALSE, UNDEFINED}
+use Rattle.judge.specs.Assertion.{Asked, asked}
+
+-- "the component values that the reference names", with "either choice about defaults"
+abbrev pub components : Bool → List Id → Value → List Component
+components defaults is x = map component (named defaults is x)
+
+-- a rule accepts one of the components
+unfoldable pub acceptsOne : (Component → Bool) → List Component → Bool
+acceptsOne accepted [] = false
+acceptsOne accepted (c ∷ cs) = either (accepted c) (acceptsOne accepted cs)
+
+-- the tests needed: one for each component up to the first accepted one
+unfoldable pub needed : (Component → Bool) → List Component → ℕ
+needed accepted [] = 0
+needed accepted (c ∷ cs) = let more = suc (needed accepted cs) in pick (accepted c) 1 more
+
+-- "TRUE if its rule accepts at least one value on that list, else FALSE"
+abbrev pub truthBy : (Component → Bool) → List Component → Truth
+truthBy accepted cs = pick (acceptsOne accepted cs) TRUE FALSE
+
+-- ---- an assertion about a decoded value, by what it asks of the type: nothing where document 01 makes it Undefined
+abbrev pub truthFor : Value → Item → Option Asked → Truth
+truthFor x i none = UNDEFINED
+truthFor x i (some a) = truthBy (accepts (a .rule) (i .value)) (components (i .defaults) (a .ids) x)
+
+abbrev pub testsFor : Value → Item → Option Asked → ℕ
+testsFor x i none = 0
+testsFor x i (some a) = needed (accepts (a .rule) (i .value)) (components (i .defaults) (a .ids) x)
+
+abbrev pub itemTruth : Ty → Value → Item → Truth
+itemTruth ty x i = truthFor x i (asked ty i)
+
+abbrev pub itemTests : Ty → Value → Item → ℕ
+itemTests ty x i = testsFor x i (asked ty i)
