@@ -9,17 +9,11 @@ use table::TableCheck;
 use value::Value;
 use value::ValueCheck;
 ghost use Prim.Native.Nat.{_≤_};
-ghost use Rattle.io.specs.Counts.{Counts};
 
-// Reads n octets to the start of buf, or as many as fit or are left.
-fn read_part(buf: &mut [u8], n: usize) -> usize
-    ensures { λ r. ⌜ Counts r (now (buf .exit)) ⌝ }
-{
-    if n <= buf.len() {
-        io::read_full(STDIN_FILENO, &mut buf[..n])
-    } else {
-        io::read_full(STDIN_FILENO, buf)
-    }
+// A number that was read, or none.
+enum Number {
+    Of(usize),
+    None,
 }
 
 fn wide(b: u8) -> usize
@@ -42,47 +36,54 @@ fn print_line(word: &[u8], n: u64) {
     print_word(b"\n");
 }
 
-// An input's length: two octets, most significant first; 0 at the end of the input.
-fn read_length() -> usize
-    ensures { λ r. ⌜ r ≤ 65535 ⌝ }
-{
+// ---- last lines: of an input that isn't as docs/CASES.md has it
+fn truncated() -> bool {
+    print_word(b"TRUNCATED\n");
+    false
+}
+
+fn too_long(n: usize) -> bool {
+    print_line(b"TOO LONG ", n as u64);
+    false
+}
+
+fn unknown(kind: u8) -> bool {
+    print_line(b"UNKNOWN ", kind as u64);
+    false
+}
+
+// ---- reading; with false or None a last line was printed
+// Fills buf.
+fn read_whole(buf: &mut [u8]) -> bool {
+    if io::read_full(STDIN_FILENO, buf) < buf.len() {
+        return truncated();
+    }
+    true
+}
+
+// One octet.
+fn read_octet() -> Number {
+    let mut head = [0u8; 1];
+    if !read_whole(&mut head) {
+        return Number::None;
+    }
+    Number::Of(wide(head[0]))
+}
+
+// A length: two octets, most significant first.
+fn read_length() -> Number {
     let mut head = [0u8; 2];
-    let got = io::read_full(STDIN_FILENO, &mut head);
-    if got < 2 {
-        return 0;
+    if !read_whole(&mut head) {
+        return Number::None;
     }
-    wide(head[0]) * 256 + wide(head[1])
+    Number::Of(wide(head[0]) * 256 + wide(head[1]))
 }
 
-fn table_case() {
-    let mut table = [0u8; Table::MAX_BYTES + 1];
-    let n = read_length();
-    let t = read_part(&mut table, n);
-    match table::check_table(&table[..t]) {
-        TableCheck::Admitted(rows) => print_line(b"admitted ", rows as u64),
-        TableCheck::Refused(refusal) => print_line(b"refused ", refusal as u64),
-    }
-}
-
-fn value_case() {
-    let mut table = [0u8; Table::MAX_BYTES + 1];
-    let mut value = [0u8; Value::MAX_BYTES + 1];
-    let n = read_length();
-    let t = read_part(&mut table, n);
-    let k = read_length();
-    let v = read_part(&mut value, k);
-    match value::check_value(&table[..t], &value[..v]) {
-        ValueCheck::Good => print_word(b"good\n"),
-        ValueCheck::Refused(refusal) => print_line(b"refused ", refusal as u64),
-    }
-}
-
-// A number: eight octets, most significant first; 0 at the end of the input.
-fn read_number() -> usize {
+// A number: eight octets, most significant first.
+fn read_number() -> Number {
     let mut head = [0u8; 8];
-    let got = io::read_full(STDIN_FILENO, &mut head);
-    if got < 8 {
-        return 0;
+    if !read_whole(&mut head) {
+        return Number::None;
     }
     let mut n = 0u64;
     let mut i = 0;
@@ -90,7 +91,56 @@ fn read_number() -> usize {
         n = (n << 8) | octets::wide64(head[i]);
         i += 1;
     }
-    n as usize
+    Number::Of(n as usize)
+}
+
+// So many octets to the start of buf.
+fn read_part(buf: &mut [u8], n: usize) -> Number {
+    if buf.len() < n {
+        too_long(n);
+        return Number::None;
+    }
+    if !read_whole(&mut buf[..n]) {
+        return Number::None;
+    }
+    Number::Of(n)
+}
+
+// An input of octets: a length, and so many octets.
+fn read_input(buf: &mut [u8]) -> Number {
+    let Number::Of(n) = read_length() else {
+        return Number::None;
+    };
+    read_part(buf, n)
+}
+
+// ---- cases and questions; with false a last line was printed
+fn table_case() -> bool {
+    let mut table = [0u8; Table::MAX_BYTES + 1];
+    let Number::Of(t) = read_input(&mut table) else {
+        return false;
+    };
+    match table::check_table(octets::part(&table, 0, t)) {
+        TableCheck::Admitted(rows) => print_line(b"admitted ", rows as u64),
+        TableCheck::Refused(refusal) => print_line(b"refused ", refusal as u64),
+    }
+    true
+}
+
+fn value_case() -> bool {
+    let mut table = [0u8; Table::MAX_BYTES + 1];
+    let mut value = [0u8; Value::MAX_BYTES + 1];
+    let Number::Of(t) = read_input(&mut table) else {
+        return false;
+    };
+    let Number::Of(v) = read_input(&mut value) else {
+        return false;
+    };
+    match value::check_value(octets::part(&table, 0, t), octets::part(&value, 0, v)) {
+        ValueCheck::Good => print_word(b"good\n"),
+        ValueCheck::Refused(refusal) => print_line(b"refused ", refusal as u64),
+    }
+    true
 }
 
 fn digit(n: u8) -> u8 {
@@ -135,27 +185,26 @@ fn print_octets(part: &[u8]) {
     io::write_all(STDOUT_FILENO, octets::part(&text, 0, i * 2));
 }
 
-fn part_case() {
+fn part_case() -> bool {
     let mut value = [0u8; Value::MAX_BYTES + 1];
-    let k = read_length();
-    let v = read_part(&mut value, k);
-    let place = read_number();
-    let length = read_number();
-    let refusal = value::part_number(&value[..v], place, length);
+    let Number::Of(v) = read_input(&mut value) else {
+        return false;
+    };
+    let Number::Of(place) = read_number() else {
+        return false;
+    };
+    let Number::Of(length) = read_number() else {
+        return false;
+    };
+    let refusal = value::part_number(octets::part(&value, 0, v), place, length);
     if refusal != 0 {
         print_line(b"refused ", refusal as u64);
     } else {
         print_word(b"part ");
-        print_octets(value::part_bytes(&value[..v], place, length));
+        print_octets(value::part_bytes(octets::part(&value, 0, v), place, length));
         print_word(b"\n");
     }
-}
-
-// A flag: one octet that is not 0.
-fn read_flag() -> bool {
-    let mut flag = [0u8; 1];
-    let got = io::read_full(STDIN_FILENO, &mut flag);
-    got == 1 && flag[0] != 0
+    true
 }
 
 fn print_listed(listed: Listed) {
@@ -189,7 +238,7 @@ fn list_all(
     print_room(room);
 }
 
-// A listing into the first n numbers of room, or into all.
+// A listing into the first n numbers of room.
 fn list_into(
     table: &[u8],
     value: &[u8],
@@ -198,75 +247,100 @@ fn list_into(
     defaults: bool,
     n: usize,
     room: &mut [u64],
-) {
-    if n <= room.len() {
-        list_all(table, value, given, reference, defaults, &mut room[..n]);
-    } else {
-        list_all(table, value, given, reference, defaults, room);
+) -> bool {
+    if room.len() < n {
+        return too_long(n);
     }
+    list_all(table, value, given, reference, defaults, &mut room[..n]);
+    true
 }
 
 // A listing. Before it each number of the room is 9999, which no listing writes.
-fn list_case(table: &[u8], value: &[u8]) {
+fn list_case(table: &[u8], value: &[u8]) -> bool {
     let mut reference = [0u8; Listed::MAX_REFERENCE + 1];
     let mut room = [9999u64; Value::MAX_BYTES / 2 * 3];
-    let given = read_flag();
-    let k = read_length();
-    let r = read_part(&mut reference, k);
-    let defaults = read_flag();
-    let n = read_length();
-    list_into(table, value, given, &reference[..r], defaults, n, &mut room);
+    let Number::Of(given) = read_octet() else {
+        return false;
+    };
+    let Number::Of(r) = read_input(&mut reference) else {
+        return false;
+    };
+    let Number::Of(defaults) = read_octet() else {
+        return false;
+    };
+    let Number::Of(n) = read_length() else {
+        return false;
+    };
+    list_into(
+        table,
+        value,
+        given != 0,
+        octets::part(&reference, 0, r),
+        defaults != 0,
+        n,
+        &mut room,
+    )
 }
 
-fn filter_case(table: &[u8], value: &[u8]) {
+fn filter_case(table: &[u8], value: &[u8]) -> bool {
     let mut filter = [0u8; Filter::MAX_BYTES + 1];
-    let k = read_length();
-    let f = read_part(&mut filter, k);
-    let budget = read_number();
-    match engine::ask(table, value, &filter[..f], budget as u64) {
+    let Number::Of(f) = read_input(&mut filter) else {
+        return false;
+    };
+    let Number::Of(budget) = read_number() else {
+        return false;
+    };
+    match engine::ask(table, value, octets::part(&filter, 0, f), budget as u64) {
         Answer::True(n) => print_line(b"TRUE ", n as u64),
         Answer::False(n) => print_line(b"FALSE ", n as u64),
         Answer::Undefined(n) => print_line(b"UNDEFINED ", n as u64),
         Answer::Refused(refusal) => print_line(b"refused ", refusal as u64),
     }
+    true
 }
 
-// One question about a table and a value; false at the end of the input and at a kind of question that there is not.
+// One question about a table and a value.
 fn question(table: &[u8], value: &[u8]) -> bool {
     let mut kind = [0u8; 1];
-    let got = io::read_full(STDIN_FILENO, &mut kind);
-    if got < 1 {
+    if !read_whole(&mut kind) {
         return false;
     }
     if kind[0] == b'l' {
-        list_case(table, value);
-        return true;
+        return list_case(table, value);
     }
     if kind[0] == b'f' {
-        filter_case(table, value);
-        return true;
+        return filter_case(table, value);
     }
-    false
+    unknown(kind[0])
 }
 
-fn questions(table: &[u8], value: &[u8]) {
-    let mut left = read_length();
-    while left > 0 && question(table, value) {
+fn questions(table: &[u8], value: &[u8]) -> bool {
+    let Number::Of(n) = read_length() else {
+        return false;
+    };
+    let mut left = n;
+    while left > 0 {
+        if !question(table, value) {
+            return false;
+        }
         left -= 1;
     }
+    true
 }
 
-fn questions_case() {
+fn questions_case() -> bool {
     let mut table = [0u8; Table::MAX_BYTES + 1];
     let mut value = [0u8; Value::MAX_BYTES + 1];
-    let n = read_length();
-    let t = read_part(&mut table, n);
-    let k = read_length();
-    let v = read_part(&mut value, k);
-    questions(&table[..t], &value[..v]);
+    let Number::Of(t) = read_input(&mut table) else {
+        return false;
+    };
+    let Number::Of(v) = read_input(&mut value) else {
+        return false;
+    };
+    questions(octets::part(&table, 0, t), octets::part(&value, 0, v))
 }
 
-// One case; false at the end of the input and at a kind of case that there is not.
+// One case; false at the end of the input too.
 fn one() -> bool {
     let mut kind = [0u8; 1];
     let got = io::read_full(STDIN_FILENO, &mut kind);
@@ -274,22 +348,18 @@ fn one() -> bool {
         return false;
     }
     if kind[0] == b't' {
-        table_case();
-        return true;
+        return table_case();
     }
     if kind[0] == b'v' {
-        value_case();
-        return true;
+        return value_case();
     }
     if kind[0] == b'p' {
-        part_case();
-        return true;
+        return part_case();
     }
     if kind[0] == b'q' {
-        questions_case();
-        return true;
+        return questions_case();
     }
-    false
+    unknown(kind[0])
 }
 
 fn main() {

@@ -4,10 +4,10 @@ use Rattle.cases.proofs.read_number.Statement.{statement}
 use Rattle.cases.proofs.read_number.Tie as tie
 
 abbrev Inv-loop : tie.InvT-loop
-Inv-loop head got n₀ i₀ n i = i ≤ 8
+Inv-loop head n₀ i₀ n i = i ≤ 8
 
 abbrev μ-loop : tie.MeasureT-loop
-μ-loop head got n₀ i₀ n i = 8 - i
+μ-loop head n₀ i₀ n i = 8 - i
 
 pub read-number-spec : {M : Type 1} → statement M
 read-number-spec =
@@ -15,8 +15,8 @@ read-number-spec =
     (tie.spec
     Inv-loop
     μ-loop
-    (λ c. search needs)  -- slice-aggregate-read-full
-    (λ c κs. search needs)  -- read-full-requires
+    (λ c. search needs)  -- slice-aggregate-read-whole
+    (λ c κs. search needs)  -- read-whole-requires
     (λ c. search needs)  -- returns
     (λ c. search needs)  -- loop-holds
     (λ c. search needs)  -- array-read-wide64
