@@ -121,7 +121,7 @@ fn table_case() -> bool {
         return false;
     };
     match table::check_table(octets::part(&table, 0, t)) {
-        TableCheck::Admitted(rows) => print_line(b"admitted ", rows as u64),
+        TableCheck::Admitted(admitted) => print_line(b"admitted ", admitted.rows as u64),
         TableCheck::Refused(refusal) => print_line(b"refused ", refusal as u64),
     }
     true
