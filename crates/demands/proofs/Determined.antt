@@ -1,22 +1,18 @@
 -- The listed numbers determine the components: what a reference names in a stored value is given back by table, value and its three numbers.
-use mathlib.Core.Path.{_≡_, refl, sym, ap, ap₂, _∙_, subst}
+use mathlib.Core.Path.{_≡_, refl, sym, ap, ap₂, _∙_}
 use mathlib.Core.Bool.{Bool, true, false}
-use mathlib.Core.Option.{Option, none, some}
+use mathlib.Core.Option.{some}
 use mathlib.Core.List.{List, [], _∷_, _++_, map}
 use Prim.Native.Nat.{ℕ, zero, suc, _+_, _-_}
-use borrow.Author.Tests.{ltb-true, ltb-false}
-use lib.ListN.{length}
-use lib.Dec.{ltb, leb, eqb}
+use lib.Dec.{leb, eqb}
 use Rattle.octets.specs.Pick.{pick, either}
 use Rattle.octets.specs.Octets.{same}
-use Rattle.octets.proofs.Laws.{pick-cases}
 use Rattle.rows.specs.Limits.{Limits}
 use Rattle.rows.specs.Row.{kindAt, elementAt, typeRowAt, isList, rows, rowAt, membersAt}
-use Rattle.table.specs.Types.{Tagging, untagged, explicit, implicit, Presence, mandatory, optional, default, Member, Ty, basic, sequence, choice, listOf, Members, noMore, more, memberOf, membersFrom, typeFrom, typeAt}
+use Rattle.table.specs.Types.{Tagging, Presence, mandatory, optional, default, Member, Ty, basic, sequence, choice, listOf, Members, noMore, more, memberOf, membersFrom, typeFrom, typeAt}
 use Rattle.value.specs.Value.{Spot, spotOf, Value, leaf, fields, chosen, elements, Fields, endFields, present, absent, Values, endValues, next}
-use Rattle.value.specs.Decode.{Decoded, afterOf, inWrapper, startsHere, choiceOf, presentThen, absentThen, many, unwrapped, fieldsFrom, alternativeFrom, decode, storedValue}
-use Rattle.value.proofs.Views.{none-some, some-same, bind-view, pick-view, leaf-view, fields-view, elements-view, choice-view, wrapper-view}
-use Rattle.value.proofs.Laws.{many-end, many-zero, many-more, next-view, present-view, absent-view}
+use Rattle.value.specs.Decode.{storedValue}
+use Rattle.value.proofs.Decodes.{Decodes, is-basic, is-sequence, is-choice, is-list, Tagged, bare, filling, Fielded, none-left, there, lacks, Chosen, this, other, Elements, ends, goes, decodes-stored}
 use Rattle.reader.specs.Sees.{Sees, SeesAll, SeesFields, SeesElements}
 use Rattle.reader.proofs.Laws.{stored-seen}
 use Rattle.reference.specs.Reference.{Index, position, fromEnd, count, all, Id, name, index}
@@ -77,71 +73,33 @@ unfoldable mutual
   LackEach t s endValues = Unit {0}
   LackEach t s (next x xs) = Lacks t s x × LackEach t s xs
 
--- under any tag mode
-lacks-by : (t s : List ℕ) (g : Tagging) (f : ℕ → ℕ → Option Decoded) (v : List ℕ) (at end : ℕ) (d : Decoded) → ((a e : ℕ) → f a e ≡ some d → Lacks t s (d .value)) → inWrapper afterOf g f v at end ≡ some d → Lacks t s (d .value)
-unfolding inWrapper
-lacks-by t s untagged f v at end d inner e = inner at end e
-lacks-by t s (implicit n) f v at end d inner e = inner at end e
-lacks-by t s (explicit n) f v at end d inner e = let w = wrapper-view v at end d n f e in inner (w .0) (w .0 + w .1) (w .3)
-
--- elements in turn
-module _ (t s : List ℕ) (f : ℕ → ℕ → Option Decoded) (one : (i stop : ℕ) (d : Decoded) → f i stop ≡ some d → Lacks t s (d .value)) where
-  lacks-elements : (k stop i : ℕ) (xs : Values) → many f k stop i ≡ some xs → LackEach t s xs
-  unfolding Lacks
-  lacks-elements zero stop i xs e = go (ltb i stop) refl
-    where
-      go : (x : Bool) → ltb i stop ≡ x → LackEach t s xs
-      go false q = subst (LackEach t s) (some-same endValues xs (sym (many-end f stop i 0 (ltb-false i stop q)) ∙ e)) tt
-      go true q = none-some xs (sym (many-zero f stop i (ltb-true i stop q)) ∙ e)
-  lacks-elements (suc k) stop i xs e = go (λ j ys. lacks-elements k stop j ys) (ltb i stop) refl
-    where
-      go : ((j : ℕ) (ys : Values) → many f k stop j ≡ some ys → LackEach t s ys) → (x : Bool) → ltb i stop ≡ x → LackEach t s xs
-      go rest false q = subst (LackEach t s) (some-same endValues xs (sym (many-end f stop i (suc k) (ltb-false i stop q)) ∙ e)) tt
-      go rest true q =
-          let w = next-view (λ j. many f k stop j) (f i stop) xs (sym (many-more f stop i k (ltb-true i stop q)) ∙ e) in
-          subst (LackEach t s) (w .4) (one i stop (w .0) (w .2), rest (w .0 .after) (w .1) (w .3))
-
 -- a value of a type lacks members of that type
-mutual
-  unfolding unwrapped Rowed Lacks
+module _ (t s v : List ℕ) where
+  mutual
+    unfolding Rowed Lacks
 
-  lacks : (t s : List ℕ) (ty : Ty) (g : Tagging) (v : List ℕ) (at end : ℕ) (d : Decoded) → Rowed t s ty → unwrapped ty g v at end ≡ some d → Lacks t s (d .value)
-  lacks t s (basic k) g v at end d r e = let w = leaf-view v at end d k g e in subst (λ (y : Decoded). Lacks t s (y .value)) (w .4) tt
-  lacks t s (sequence ms) g v at end d r e =
-      let w = fields-view v at end d ms g e in
-      subst (λ (y : Decoded). Lacks t s (y .value)) (w .5) (lacks-fields t s ms v (w .0 + w .1) (w .0) (w .2) r (w .4))
-  lacks t s (choice ms) g v at end d r e = lacks-choice t s ms v at end d r e
-  lacks t s (listOf k ty) g v at end d r e =
-      let w = elements-view v at end d k ty g e in
-      subst (λ (y : Decoded). Lacks t s (y .value)) (w .6) (lacks-elements t s (λ i stop. unwrapped ty untagged v i stop) (λ i stop x q. lacks t s ty untagged v i stop x r q) (w .1) (w .0 + w .1) (w .0) (w .2) (w .4))
+    lacks-members : {ty : Ty} {g : Tagging} {at end : ℕ} {x : Value} {after : ℕ} → Decodes v ty g at end x after → Rowed t s ty → Lacks t s x
+    lacks-members (is-basic b l) r = tt
+    lacks-members (is-sequence b w) r = lacks-fields w r
+    lacks-members (is-choice c) r = lacks-choice c r
+    lacks-members (is-list b w q) r = lacks-elements w r
 
-  lacks-choice : (t s : List ℕ) (ms : Members) (v : List ℕ) (at end : ℕ) (d : Decoded) → RowedIn t s ms → alternativeFrom ms v at end ≡ some d → Lacks t s (d .value)
-  lacks-choice t s noMore v at end d r e = none-some d e
-  lacks-choice t s (more m ty ms) v at end d r e =
-      pick-cases (λ (o : Option Decoded). o ≡ some d → Lacks t s (d .value)) (startsHere m ty v end at) (choiceOf m v at end (inWrapper afterOf (m .tagging) (λ a e. unwrapped ty (m .tagging) v a e) v at end)) (alternativeFrom ms v at end)
-      (λ b f.
-      let w = choice-view v at end d m (inWrapper afterOf (m .tagging) (λ a e. unwrapped ty (m .tagging) v a e) v at end) f in
-      let x = lacks-by t s (m .tagging) (λ a e. unwrapped ty (m .tagging) v a e) v at end (w .0) (λ a e q. lacks t s ty (m .tagging) v a e (w .0) (r .1 .0) q) (w .3) in
-      subst (λ (y : Decoded). Lacks t s (y .value)) (w .5) x)
-      (λ b f. lacks-choice t s ms v at end d (r .1 .1) f) e
+    lacks-tagged : {ty : Ty} {g : Tagging} {at end : ℕ} {x : Value} {after : ℕ} → Tagged v ty g at end x after → Rowed t s ty → Lacks t s x
+    lacks-tagged (bare q d) r = lacks-members d r
+    lacks-tagged (filling e d q) r = lacks-members d r
 
-  lacks-fields : (t s : List ℕ) (ms : Members) (v : List ℕ) (stop i : ℕ) (fs : Fields) → RowedIn t s ms → fieldsFrom ms v stop i ≡ some fs → LackIn t s fs
-  lacks-fields t s noMore v stop i fs r e = let w = pick-view (eqb i stop) endFields fs e in subst (LackIn t s) (w .1) tt
-  lacks-fields t s (more m ty ms) v stop i fs r e =
-      pick-cases (λ (o : Option Fields). o ≡ some fs → LackIn t s fs) (startsHere m ty v stop i)
-      (presentThen m (λ i. fieldsFrom ms v stop i) (inWrapper afterOf (m .tagging) (λ a e. unwrapped ty (m .tagging) v a e) v i stop)) (absentThen m (fieldsFrom ms v stop i))
-      (λ b f.
-      let w = present-view m (λ i. fieldsFrom ms v stop i) (inWrapper afterOf (m .tagging) (λ a e. unwrapped ty (m .tagging) v a e) v i stop) fs f in
-      let x = lacks-by t s (m .tagging) (λ a e. unwrapped ty (m .tagging) v a e) v i stop (w .0) (λ a e q. lacks t s ty (m .tagging) v a e (w .0) (r .1 .0) q) (w .2) in
-      subst (LackIn t s) (w .5) (x, lacks-fields t s ms v stop (w .0 .after) (w .1) (r .1 .1) (w .4)))
-      (λ b f. let w = absent-view m (fieldsFrom ms v stop i) fs f in subst (LackIn t s) (w .3) (r .0, lacks-fields t s ms v stop i (w .0) (r .1 .1) (w .2))) e
+    lacks-choice : {end at : ℕ} {ms : Members} {x : Value} {after : ℕ} → Chosen v end at ms x after → RowedIn t s ms → Lacks t s x
+    lacks-choice (this q d e p) r = lacks-tagged d (r .1 .0)
+    lacks-choice (other q c) r = lacks-choice c (r .1 .1)
 
-stored-lacks : (t s : List ℕ) (ty : Ty) (v : List ℕ) (x : Value) → Rowed t s ty → storedValue ty v ≡ some x → Lacks t s x
-unfolding storedValue decode
-stored-lacks t s ty v x r e =
-    let b = bind-view (inWrapper afterOf untagged (unwrapped ty untagged v) v 0 (length v)) (λ d. pick (eqb (d .after) (length v)) (some (d .value)) none) x e in
-    let p = pick-view (eqb (b .0 .after) (length v)) (b .0 .value) x (b .2) in
-    subst (Lacks t s) (p .1) (lacks-by t s untagged (unwrapped ty untagged v) v 0 (length v) (b .0) (λ a z q. lacks t s ty untagged v a z (b .0) r q) (b .1))
+    lacks-fields : {stop : ℕ} {ms : Members} {i : ℕ} {fs : Fields} → Fielded v stop ms i fs → RowedIn t s ms → LackIn t s fs
+    lacks-fields (none-left q) r = tt
+    lacks-fields (there q d n w) r = (lacks-tagged d (r .1 .0), lacks-fields w (r .1 .1))
+    lacks-fields (lacks q n w) r = (r .0, lacks-fields w (r .1 .1))
+
+    lacks-elements : {ty : Ty} {stop k i : ℕ} {xs : Values} → Elements v ty stop k i xs → Rowed t s ty → LackEach t s xs
+    lacks-elements (ends q) r = tt
+    lacks-elements (goes q d w) r = (lacks-members d r, lacks-elements w r)
 
 -- ---- held values: each is seen at its place, and lacks members of the table; a default is of such a member
 abbrev Known : List ℕ → List ℕ → List ℕ → Value → Type 0
@@ -287,6 +245,6 @@ pub named-determined : (l : Limits) (t v : List ℕ) (x : Value) → storedValue
 unfolding typeAt named
 named-determined l t v x e defaults is =
     let s = rows (l .rows) t in
-    let known : Known t s v x = (stored-seen (typeFrom (l .chain) t s 0) v x e, stored-lacks t s (typeFrom (l .chain) t s 0) v x (type-rowed t s (l .chain) 0) e) in
+    let known : Known t s v x = (stored-seen (typeFrom (l .chain) t s 0) v x e, lacks-members t s v (decodes-stored (typeFrom (l .chain) t s 0) v x e) (type-rowed t s (l .chain) 0)) in
     let back : Each (λ c. readBack l t v c ≡ c) (components defaults is x) = each-back l t v (held defaults is (value x ∷ [])) (held-known t s v defaults is (value x ∷ []) (one-held t s v x known)) in
     record { each = back; all = each-map (readBack l t v) (components defaults is x) back; listed = each-listed l t v (components defaults is x) back; acceptance = λ u text. each-accepted (accepts u text) (readBack l t v) (components defaults is x) back }

@@ -1,7 +1,7 @@
 -- Alternatives by name: one lemma for each return; its premises are the facts as the code has them.
 use mathlib.Core.Path.{_≡_, refl, sym, ap, ap₂, _∙_}
 use mathlib.Core.Bool.{Bool, true, false, not}
-use mathlib.Core.Option.{Option, none, some}
+use mathlib.Core.Option.{Option}
 use mathlib.Core.List.{List}
 use Prim.Native.Nat.{ℕ, zero, suc, _≤_, _<_, _+_, _-_}
 use native.Mathlib.Omega.{arith}
@@ -14,7 +14,7 @@ use Rattle.rows.specs.Row.{rowAt, nameAt, typeRowAt, membersAt, modeAt, numberA
 use Rattle.table.specs.Types.{taggingOf, unfilled, memberOf, Ty, membersFrom, typeFrom}
 use Rattle.table.specs.Work.{Sound}
 use Rattle.value.specs.Decode.{startsHere}
-use Rattle.value.specs.Work.{first, marked, markedOf}
+use Rattle.value.specs.Work.{first, markedOf}
 use Rattle.value.proofs.LeafSteps.{first-none, first-step}
 use Rattle.value.proofs.MemberSteps.{starts-as}
 use Rattle.trail.specs.Opened.{Opened, openAt}

@@ -1,28 +1,27 @@
 -- Members and alternatives by name: one lemma for each return and each turn of a loop; its premises are the facts as the code has them.
 use mathlib.Core.Path.{_≡_, refl, sym, ap, ap₂, _∙_}
-use mathlib.Core.Bool.{Bool, true, false, not}
+use mathlib.Core.Bool.{Bool, true, false}
 use mathlib.Core.Option.{Option, none, some}
 use mathlib.Core.List.{List}
-use Prim.Native.Nat.{ℕ, zero, suc, _≤_, _<_, _+_, _-_}
+use Prim.Native.Nat.{ℕ, suc, _≤_, _<_, _+_, _-_}
 use native.Mathlib.Omega.{arith}
 use borrow.Author.Tests.{eq-eqb, ne-eqb, lt-ltb, le-leb}
 use lib.ListN.{length}
 use lib.Dec.{ltb, leb, eqb}
 use Rattle.octets.specs.Pick.{pick, both, either}
-use Rattle.octets.specs.Octets.{part, same}
+use Rattle.octets.specs.Octets.{same}
 use Rattle.rows.specs.Row.{rowAt, kindAt, nameAt, typeRowAt, membersAt, modeAt, numberAt, presenceAt, defaultAt}
-use Rattle.table.specs.Types.{Tagging, taggingOf, presenceOf, unfilled, Member, memberOf, Ty, Members, noMore, more, membersFrom, typeFrom}
+use Rattle.table.specs.Types.{Tagging, taggingOf, unfilled, Member, memberOf, Ty, Members, more, membersFrom, typeFrom}
 use Rattle.table.specs.Begins.{isMandatory}
 use Rattle.table.specs.Work.{Sound}
 use Rattle.table.proofs.TagLaws.{mandatory-as}
 use Rattle.value.specs.Decode.{startsHere}
 use Rattle.value.specs.Work.{marked}
 use Rattle.value.proofs.MemberSteps.{starts-as}
-use Rattle.trail.specs.Opened.{Opened, after, openAt}
+use Rattle.trail.specs.Opened.{Opened, openAt}
 use Rattle.trail.specs.Trail as trail
-use Rattle.trail.specs.Work.{openingTold, foundTold, looksIn, Looked, onward, landed, lookTold, thereOr, orBroken, memberLook, thenLook}
+use Rattle.trail.specs.Work.{openingTold, looksIn, Looked, onward, landed, lookTold, thereOr, orBroken, memberLook, thenLook}
 use Rattle.trail.specs.declared.Opening.{Opening}
-use Rattle.trail.specs.declared.Found.{Found}
 use Rattle.trail.specs.declared.Look.{Look}
 use Rattle.trail.proofs.OpenSteps.{open-long}
 

@@ -14,9 +14,8 @@ use lib.Dec.{ltb, leb, eqb}
 use Rattle.octets.specs.Pick.{pick, bind}
 use Rattle.octets.proofs.Laws.{pick-cases}
 use Rattle.table.specs.Types.{untagged, taggingOf, Ty, typeFrom}
-use Rattle.value.specs.Decode.{inWrapper}
-use Rattle.value.proofs.Views.{none-some, some-same, opened-view}
-use Rattle.trail.specs.Opened.{Opened, after, ownHeader, openedAs, openAt}
+use Rattle.value.proofs.Views.{none-some, some-same, opened-view, in-bare}
+use Rattle.trail.specs.Opened.{Opened, after, ownHeader, openedAs, openOwn, openAt}
 use Rattle.trail.specs.Trail as trail
 use Rattle.trail.specs.Trail.{countFrom}
 use Rattle.trail.specs.Work.{standing, openingTold, foundTold, landsIn, elementFound, nthFound, ofLast, lastFound, Reached, reached, past, unfit, orUnfit, reachedOr, nthFrom, keep, keptAt, keptAs, Ended, landed, short, broken, tailTold, preceded, orEnded, tailFrom, folded, isNear}
@@ -84,8 +83,10 @@ module _ (stop i : ℕ) (r : Bool) (told : r ≡ isNear stop i) (h : not r ≡ f
 
 -- ---- the elements from a place on
 open-place : (ty : Ty) (v : List ℕ) (at end : ℕ) (o : Opened) → openAt ty untagged v at end ≡ some o → at ≡ o .place
-unfolding openAt inWrapper
-open-place ty v at end o e = let w = opened-view (ownHeader ty untagged v at end) (openedAs at) o e in ap (λ (x : Opened). x .place) (some-same _ o (w .3))
+unfolding openAt
+open-place ty v at end o e =
+    let w = opened-view (ownHeader ty untagged v at end) (openedAs at) o (sym (in-bare after untagged (openOwn ty untagged v) v at end refl) ∙ e) in
+    ap (λ (x : Opened). x .place) (some-same _ o (w .3))
 
 -- elements are of two octets at least, and end within the list
 tail-step : (o : ℕ → ℕ → Option Opened) (k stop i at : ℕ) → at < stop → tailFrom o (suc k) stop i at ≡ orEnded (λ x. preceded i x (tailFrom o k stop i (after x))) (o at stop)

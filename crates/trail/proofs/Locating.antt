@@ -18,7 +18,7 @@ use Rattle.reference.specs.Numbers.{stored, tallied}
 use Rattle.reference.specs.Work.{cap}
 use Rattle.reference.proofs.Laws.{cap-cases}
 use Rattle.trail.specs.Opened.{Opened, openedSpot, after, openAt}
-use Rattle.trail.specs.Trail.{Trail, done, reach, orFault, eachFrom, countFrom, positionFrom, Found, found, nothing, ending, onFound, fromLast, along, trail}
+use Rattle.trail.specs.Trail.{Trail, done, reach, orFault, eachFrom, countFrom, positionFrom, Found, nothing, ending, onFound, fromLast, along, trail}
 use Rattle.trail.specs.Work.{Reached, reached, past, unfit, orUnfit, reachedOr, nthFrom, elementFound, nthFound, ofLast, lastFound, located}
 use Rattle.trail.proofs.ListSteps.{onReached, position-as}
 

@@ -1,9 +1,9 @@
 -- Headers: one lemma for each return; its premises are the facts as the code has them.
-use mathlib.Core.Path.{_≡_, refl, sym, ap, ap₂, _∙_}
+use mathlib.Core.Path.{_≡_, refl, sym, ap, _∙_}
 use mathlib.Core.Bool.{Bool, true, false, not, true≢false}
 use mathlib.Core.Option.{Option, none, some}
 use mathlib.Core.List.{List}
-use Prim.Native.Nat.{ℕ, zero, suc, _≤_, _<_, _+_, _-_}
+use Prim.Native.Nat.{ℕ, _≤_, _<_, _+_, _-_}
 use native.Mathlib.Omega.{arith}
 use borrow.Author.Tests.{eqb-false, not-true, not-false, eq-eqb, ne-eqb, eqb-true}
 use lib.ListN.{length}
@@ -12,7 +12,6 @@ use Rattle.octets.specs.Pick.{pick, bind}
 use Rattle.octets.specs.Octets.{octet}
 use Rattle.der.specs.Tag.{tagOf, wrapperOctet}
 use Rattle.der.specs.Header.{headerAt, insideAt, anyTag, opened}
-use Rattle.der.specs.declared.Header.{Header}
 use Rattle.der.specs.declared.Inside.{Inside}
 use Rattle.der.proofs.Laws.{tag-small, header-long, header-within, inside-long, inside-within, any-view}
 use Rattle.rows.specs.Row.{rowAt, kindAt, elementAt, typeRowAt, membersAt, modeAt, numberAt, isList}
@@ -21,10 +20,9 @@ use Rattle.table.specs.Begins.{begins}
 use Rattle.table.specs.Work.{bitOf, Sound}
 use Rattle.value.specs.Decode.{tagOctet, inside, inWrapper}
 use Rattle.value.proofs.CheckSteps.{typed-choice, typed-sequence, typed-list, typed-basic}
-use Rattle.value.proofs.Views.{none-some, some-same, bind-view, pick-view, opened-view}
+use Rattle.value.proofs.Views.{some-same, opened-view, wrapper-view, in-bare, in-explicit}
 use Rattle.trail.specs.Opened.{Opened, after, ownHeader, openedAs, openOwn, openAt}
 use Rattle.trail.specs.Work.{elementTag, choiceHeader}
-use Rattle.trail.specs.declared.Opening.{Opening}
 
 -- ---- the header of a CHOICE
 module _ (m : List ℕ) (row : ℕ) (v : List ℕ) (at end o : ℕ) (b : Bool) (octet-read : o ≡ octet v at) (marked : b ≡ bitOf (rowAt m row) (tagOf o)) where
@@ -84,8 +82,8 @@ module _ (at : ℕ) (x h : Inside) (told : h ≡ x) where
 
 module _ (ty : Ty) (v : List ℕ) (at end number : ℕ) where
   in-wrapper : openAt ty (taggingOf 1 number) v at end ≡ opened (insideAt (wrapperOctet number) v at end) (inside after (openOwn ty (taggingOf 1 number) v))
-  unfolding openAt inWrapper taggingOf
-  in-wrapper = refl
+  unfolding openAt taggingOf
+  in-wrapper = in-explicit after number (openOwn ty (explicit number) v) v at end
 
   module _ (o : ℕ) (h : Inside) (tag : o ≡ wrapperOctet number) (opening : h ≡ insideAt o v at end) where
     wrapper : (i : Inside) → h ≡ i → insideAt (wrapperOctet number) v at end ≡ i
@@ -118,12 +116,12 @@ module _ (ty : Ty) (v : List ℕ) (at end mode number : ℕ) (r : Option Opened)
   at-explicit h e = e ∙ ap (λ (x : ℕ). openAt ty (taggingOf x number) v at end) (sym h)
 
   at-other : (mode ≡ 1 → ⊥) → r ≡ openOwn ty (taggingOf mode number) v at end → r ≡ openAt ty (taggingOf mode number) v at end
-  unfolding openAt inWrapper taggingOf
+  unfolding openAt taggingOf
   at-other h e = rw (ne-eqb mode 1 h) (go (eqb mode 0) (rw (ne-eqb mode 1 h) at e))
     where
       go : (x : Bool) → r ≡ openOwn ty (pick x untagged (implicit number)) v at end → r ≡ inWrapper after (pick x untagged (implicit number)) (openOwn ty (pick x untagged (implicit number)) v) v at end
-      go true q = q
-      go false q = q
+      go true q = q ∙ sym (in-bare after untagged (openOwn ty untagged v) v at end refl)
+      go false q = q ∙ sym (in-bare after (implicit number) (openOwn ty (implicit number) v) v at end refl)
 
 module _ (chain : ℕ) (t s m : List ℕ) (row : ℕ) (ok : Sound chain t s m) (here : row < length s) (p k : ℕ) (placed : p ≡ rowAt s row) (read : k ≡ kindAt t p) (v : List ℕ) (at end mode number : ℕ) (unwrapped : mode ≡ 1 → ⊥) (r : Option Opened) where
   pub at-choice : k ≡ 13 → r ≡ opened (choiceHeader m row v at end) (openedAs at) → r ≡ openAt (typeFrom chain t s row) (taggingOf mode number) v at end
@@ -193,14 +191,12 @@ plain-long ty g v at end o e =
     (omega arith, omega arith)
 
 pub open-long : (ty : Ty) (g : Tagging) (v : List ℕ) (at end : ℕ) (o : Opened) → openAt ty g v at end ≡ some o → (at + 2 ≤ after o) × (after o ≤ end)
-unfolding openAt inWrapper
-open-long ty untagged v at end o e = plain-long ty untagged v at end o e
-open-long ty (implicit n) v at end o e = plain-long ty (implicit n) v at end o e
+unfolding openAt
+open-long ty untagged v at end o e = plain-long ty untagged v at end o (sym (in-bare after untagged (openOwn ty untagged v) v at end refl) ∙ e)
+open-long ty (implicit n) v at end o e = plain-long ty (implicit n) v at end o (sym (in-bare after (implicit n) (openOwn ty (implicit n) v) v at end refl) ∙ e)
 open-long ty (explicit n) v at end o e =
-    let w = opened-view (insideAt (wrapperOctet n) v at end) (inside after (openOwn ty (explicit n) v)) o e in
-    let b = bind-view (openOwn ty (explicit n) v (w .0) (w .0 + w .1)) (λ x. pick (eqb (after x) (w .0 + w .1)) (some x) none) o (w .3) in
-    let p = pick-view (eqb (after (b .0)) (w .0 + w .1)) (b .0) o (b .2) in
-    let q : after o ≡ w .0 + w .1 = ap after (sym (p .1)) ∙ eqb-true (after (b .0)) (w .0 + w .1) (p .0) in
+    let w = wrapper-view after v at end o n (openOwn ty (explicit n) v) e in
+    let q = w .4 in
     let x = inside-long (wrapperOctet n) v at end (w .0) (w .1) (w .2) in
     let y = inside-within (wrapperOctet n) v at end (w .0) (w .1) (w .2) in
     (omega arith, omega arith)

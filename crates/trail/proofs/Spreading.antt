@@ -1,23 +1,21 @@
 -- The places of what a reference names rise strictly, at least two octets apart, so it names at most half as many values as the stored value has octets.
-use mathlib.Core.Path.{_≡_, refl, sym, ap, subst}
+use mathlib.Core.Path.{_≡_}
 use mathlib.Core.Bool.{Bool, true, false}
-use mathlib.Core.Option.{Option, none, some}
+use mathlib.Core.Option.{some}
 use mathlib.Core.List.{List, [], _∷_, _++_, map}
 use Prim.Native.Nat.{ℕ, _≤_, _<_, _+_, _-_, _*_}
 use native.Mathlib.Omega.{arith}
-use borrow.Author.Tests.{eqb-true}
 use lib.ListN.{length}
 use lib.Dec.{leb, eqb}
 use Rattle.octets.specs.Pick.{pick}
 use Rattle.octets.specs.Octets.{same}
-use Rattle.table.specs.Types.{untagged, Presence, mandatory, optional, default, Member, Ty}
-use Rattle.value.specs.Value.{Spot, spotOf, Value, leaf, fields, chosen, elements, Fields, endFields, present, absent, Values, endValues, next}
+use Rattle.table.specs.Types.{Presence, mandatory, optional, default, Member, Ty}
+use Rattle.value.specs.Value.{spotOf, Value, leaf, fields, chosen, elements, Fields, endFields, present, absent, Values, endValues, next}
 use Rattle.value.specs.Lies.{InSpot, endOf, Lies, LieInFields, LieInTurn}
-use Rattle.value.specs.Decode.{Decoded, afterOf, decode, storedValue}
-use Rattle.value.proofs.Views.{bind-view, pick-view}
-use Rattle.value.proofs.Laws.{lies-wider, Placed, placed}
+use Rattle.value.specs.Decode.{storedValue}
+use Rattle.value.proofs.Laws.{lies-wider, stored-lies}
 use Rattle.reference.specs.Reference.{Index, position, fromEnd, count, all, Id, name, index}
-use Rattle.reference.specs.Named.{Held, value, missing, counted, absentNames, memberNamed, size, each, elementAt, elementFromEnd, indexedBy, step, replaced, held, named}
+use Rattle.reference.specs.Named.{Held, value, missing, counted, absentNames, memberNamed, size, each, elementAt, indexedBy, step, replaced, held, named}
 use Rattle.reference.specs.Numbers.{Component, component, numbersOf}
 use Rattle.trail.specs.Spread.{Spread}
 
@@ -170,13 +168,8 @@ spread lo hi (counted p n ∷ hs) w = (w .0, spread (p + 2) hi hs (w .1))
 
 -- what a reference names in a stored value: places rise, from the first octet on, within the value
 pub named-spread : (defaults : Bool) (is : List Id) (ty : Ty) (v : List ℕ) (x : Value) → storedValue ty v ≡ some x → Spread 0 (length v) (map component (named defaults is x))
-unfolding storedValue named
-named-spread defaults is ty v x e =
-    let w = bind-view (decode ty untagged v 0 (length v)) (λ d. pick (eqb (d .after) (length v)) (some (d .value)) none) x e in
-    let p = pick-view (eqb (w .0 .after) (length v)) (w .0 .value) x (w .2) in
-    let s = placed ty untagged v 0 (length v) (w .0) (w .1) in
-    let l : Lies 0 (length v) (w .0 .value) = lies-wider 0 (length v) 0 (w .0 .after) (w .0 .value) (omega arith) (s .within) (s .lies) in
-    spread 0 (length v) (held defaults is (value x ∷ [])) (held-ranged defaults is 0 (length v) (value x ∷ []) (subst (λ (y : Value). Ranged 0 (length v) (value y ∷ [])) (p .1) (one-value 0 (length v) (w .0 .value) l)))
+unfolding named
+named-spread defaults is ty v x e = spread 0 (length v) (held defaults is (value x ∷ [])) (held-ranged defaults is 0 (length v) (value x ∷ []) (one-value 0 (length v) x (stored-lies ty v x e)))
 
 -- so many as half the octets at most
 pub spread-few : (lo hi : ℕ) (cs : List Component) → Spread lo hi cs → lo + 2 * length cs ≤ hi

@@ -1,38 +1,28 @@
 -- The check of one value: one lemma for each return; its premises are the facts as the code has them.
 use mathlib.Core.Path.{_≡_, refl, sym, ap, ap₂, _∙_}
-use mathlib.Core.Bool.{Bool, true, false, not, true≢false, false≢true}
+use mathlib.Core.Bool.{Bool, true, false, false≢true}
 use mathlib.Core.Option.{Option, none, some}
 use mathlib.Core.List.{List}
-use Prim.Native.Nat.{ℕ, zero, suc, _≤_, _<_, _+_, _-_, _*_}
+use Prim.Native.Nat.{ℕ, _≤_, _<_, _+_, _-_, _*_}
 use native.Mathlib.Omega.{arith}
-use borrow.Author.Tests.{not-true, not-false, eq-eqb, ne-eqb, eqb-true, eqb-false, leb-true}
+use borrow.Author.Tests.{eq-eqb, ne-eqb, eqb-true, eqb-false}
 use lib.ListN.{length}
-use lib.Dec.{ltb, leb, eqb}
-use Rattle.octets.specs.Pick.{pick, both, either, no, bind, isSome}
-use Rattle.octets.specs.Octets.{octet, part, same}
-use Rattle.octets.proofs.Laws.{both-true}
+use lib.Dec.{eqb}
+use Rattle.octets.specs.Pick.{pick, either, bind, isSome}
+use Rattle.octets.specs.Octets.{part}
 use Rattle.der.specs.Kind as kind
-use Rattle.der.specs.Tag.{tagOf, wrapperOctet}
-use Rattle.der.specs.Header.{headerAt, insideAt, anyTag, opened}
+use Rattle.der.specs.Tag.{wrapperOctet}
+use Rattle.der.specs.Header.{insideAt, opened}
 use Rattle.der.specs.Contents.{legal}
-use Rattle.der.specs.declared.Header.{Header}
 use Rattle.der.specs.declared.Inside.{Inside}
-use Rattle.der.proofs.Laws.{tag-small, inside-within}
-use Rattle.rows.specs.Row.{rowAt, kindAt, elementAt, typeRowAt, membersAt, isList, modeAt, numberAt, presenceAt, defaultLengthAt, defaultAt}
-use Rattle.groups.specs.Clauses.{memberPlace, typeKind, defaultAllowed, defaultLegal}
-use Rattle.groups.specs.Work.{memberType}
-use Rattle.table.specs.Types.{Tagging, untagged, explicit, implicit, Presence, mandatory, optional, default, taggingOf, presenceOf, Member, memberOf, Ty, basic, sequence, choice, listOf, Members, noMore, more, membersFrom, typed, typeFrom}
-use Rattle.table.specs.Begins.{memberBegins, isMandatory}
-use Rattle.table.specs.Work.{bitOf, memberMask, Sound}
-use Rattle.table.proofs.TagLaws.{mandatory-as}
-use Rattle.table.proofs.SoundLaws.{member-tags}
-use Rattle.value.specs.Value.{spotAt, spotOf, Value, leaf, fields, Fields, Values}
+use Rattle.rows.specs.Row.{rowAt, kindAt, elementAt, typeRowAt, membersAt, isList, modeAt, numberAt}
+use Rattle.table.specs.Types.{untagged, implicit, taggingOf, Ty, basic, sequence, choice, listOf, Members, membersFrom, typed, typeFrom}
+use Rattle.table.specs.Work.{Sound}
+use Rattle.value.specs.Value.{spotAt, Value, leaf, fields, Fields, Values}
 use Rattle.value.specs.Order.{rising}
-use Rattle.value.specs.Decode.{Decoded, decoded, afterOf, tagOctet, inside, inWrapper, startsHere, leafOf, fieldsOf, elementsOf, choiceOf, isDefault, unlessDefault, many, unwrapped, fieldsFrom, alternativeFrom, decode}
-use Rattle.value.specs.Work.{told, upTo, first, marked, markedOf, contentsAt, holds, storedDefault, absentTold, memberTold, fieldsTold, inOrder, elementsTold}
+use Rattle.value.specs.Decode.{Decoded, decoded, afterOf, tagOctet, inside, inWrapper, leafOf, fieldsOf, elementsOf, many, unwrapped, fieldsFrom, alternativeFrom, decode}
+use Rattle.value.specs.Work.{told, upTo, fieldsTold, inOrder, elementsTold}
 use Rattle.value.specs.declared.Checked.{Checked}
-use Rattle.value.proofs.Views.{none-some, leaf-view, wrapper-view}
-use Rattle.value.proofs.Laws.{Own, own, framed-by}
 
 -- ---- a row's type by its kind
 pub typed-choice : (k : ℕ) (e : Ty) (ms : Members) → k ≡ 13 → typed k e ms ≡ choice ms

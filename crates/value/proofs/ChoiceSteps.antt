@@ -9,27 +9,24 @@ use borrow.Author.Tests.{lt-ltb, le-ltb}
 use lib.ListN.{length}
 use lib.Dec.{ltb}
 use Rattle.octets.specs.Pick.{pick}
-use Rattle.der.specs.Header.{headerAt, anyTag}
-use Rattle.der.specs.declared.Header.{Header}
-use Rattle.rows.specs.Row.{rowAt, kindAt, typeRowAt, membersAt, modeAt, numberAt}
-use Rattle.groups.specs.Clauses.{memberPlace}
-use Rattle.table.specs.Types.{Tagging, taggingOf, Member, memberOf, Ty, Members, more, membersFrom, typeFrom}
+use Rattle.rows.specs.Row.{rowAt, typeRowAt, membersAt, modeAt, numberAt}
+use Rattle.table.specs.Types.{Tagging, taggingOf, Member, memberOf, Ty, membersFrom, typeFrom}
 use Rattle.table.specs.Work.{Sound}
-use Rattle.value.specs.Decode.{Decoded, afterOf, inWrapper, startsHere, choiceOf, unwrapped, alternativeFrom, decode}
-use Rattle.value.specs.Work.{told, first, marked, markedOf}
+use Rattle.value.specs.Decode.{Decoded, startsHere, choiceOf, unwrapped, alternativeFrom, decode}
+use Rattle.value.specs.Work.{told, first, markedOf}
 use Rattle.value.specs.declared.Checked.{Checked}
-use Rattle.value.proofs.Laws.{own, framed-by}
+use Rattle.value.proofs.Decodes.{decodes-tagged}
+use Rattle.value.proofs.Laws.{framed-by}
 use Rattle.value.proofs.LeafSteps.{first-none, first-step}
 use Rattle.value.proofs.MemberSteps.{starts-as}
 
 -- a CHOICE is there where its alternative is
 told-choice : (mem : Member) (ty : Ty) (g : Tagging) (v : List ℕ) (at end : ℕ) → told (choiceOf mem v at end (decode ty g v at end)) ≡ told (decode ty g v at end)
-unfolding decode
-told-choice mem ty g v at end = go (inWrapper afterOf g (unwrapped ty g v) v at end) refl
+told-choice mem ty g v at end = go (decode ty g v at end) refl
   where
-    go : (o : Option Decoded) → inWrapper afterOf g (unwrapped ty g v) v at end ≡ o → told (choiceOf mem v at end o) ≡ told o
+    go : (o : Option Decoded) → decode ty g v at end ≡ o → told (choiceOf mem v at end o) ≡ told o
     go none q = refl
-    go (some d) q = let w = framed-by g (unwrapped ty g v) v at end d (λ e. own ty g v at end d e) q in rw (w .header)
+    go (some d) q = let w = framed-by v (decodes-tagged ty g v at end d q) in rw (w .header)
 
 module _ (chain : ℕ) (t s m : List ℕ) (row : ℕ) (ok : Sound chain t s m) (here : row < length s) (v : List ℕ) (at end : ℕ) where
   abbrev tests : ℕ → Bool

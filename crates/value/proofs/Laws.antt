@@ -1,128 +1,118 @@
 -- Laws of decoded values, for the check and for the layers above.
 use mathlib.Core.Path.{_≡_, refl, sym, ap, ap₂, _∙_, subst}
 use mathlib.Core.Bool.{Bool, true, false}
-use mathlib.Core.Option.{Option, none, some}
+use mathlib.Core.Option.{some}
 use mathlib.Core.List.{List}
-use Prim.Native.Nat.{ℕ, zero, suc, _≤_, _<_, _+_, _-_}
+use Prim.Native.Nat.{ℕ, _≤_, _<_, _+_, _-_}
 use native.Mathlib.Omega.{arith}
-use borrow.Author.Tests.{eqb-true, ltb-true, ltb-false, le-ltb, lt-ltb}
-use lib.Dec.{ltb, eqb}
-use Rattle.octets.specs.Pick.{pick, both, either, bind}
+use lib.Dec.{ltb}
+use lib.ListN.{length}
+use Rattle.octets.specs.Pick.{either}
 use Rattle.octets.specs.Octets.{octet, part}
-use Rattle.octets.proofs.Laws.{pick-cases}
+use Rattle.octets.proofs.Laws.{both-true}
 use Rattle.der.specs.Kind as kind
-use Rattle.der.specs.Header.{headerAt, insideAt, anyTag, opened}
+use Rattle.der.specs.Tag.{tagOf, wrapperOctet}
+use Rattle.der.specs.Header.{headerAt, anyTag}
 use Rattle.der.specs.declared.Header.{Header}
 use Rattle.der.specs.declared.Inside.{Inside}
 use Rattle.der.proofs.Laws.{header-long, header-within, inside-view, any-view, inside-long}
-use Rattle.table.specs.Types.{Tagging, untagged, explicit, implicit, Member, Ty, basic, sequence, choice, listOf, Members, noMore, more}
-use Rattle.table.specs.Begins.{isMandatory}
+use Rattle.table.specs.Types.{Tagging, Ty, choice, Members}
+use Rattle.table.specs.Begins.{asTagged, begins, someBegins, memberBegins}
 use Rattle.value.specs.Value.{Spot, spotAt, spotOf, encoding, Value, leaf, fields, chosen, elements, Fields, endFields, present, absent, Values, endValues, next}
 use Rattle.value.specs.Lies.{InSpot, endOf, Lies, LieInFields, LieInTurn}
-use Rattle.value.specs.Decode.{Decoded, afterOf, tagOctet, inWrapper, startsHere, choiceOf, isDefault, unlessDefault, presentThen, absentThen, nextThen, many, unwrapped, fieldsFrom, alternativeFrom, decode}
-use Rattle.value.proofs.Views.{none-some, some-same, bind-view, pick-view, leaf-view, fields-view, elements-view, choice-view, wrapper-view}
+use Rattle.value.specs.Decode.{tagOctet, startsHere, storedValue}
+use Rattle.value.proofs.Decodes.{Behind, Decodes, is-basic, is-sequence, is-choice, is-list, Tagged, bare, filling, Fielded, none-left, there, lacks, Chosen, this, other, Elements, ends, goes, decodes-stored}
 
 -- ---- what is decoded at a place ends with the header there
-pub record Framed (v : List ℕ) (at end : ℕ) (d : Decoded) : Type 0 where
+pub record Framed (v : List ℕ) (at end after : ℕ) : Type 0 where
   pub octet : ℕ
   pub start : ℕ
   pub n : ℕ
   pub header : headerAt v at end ≡ Header.Found octet start n
-  pub ends : start + n ≡ d .after
+  pub ends : start + n ≡ after
 
 -- a value's own spot: the place, and the contents of the header there
-pub record Own (v : List ℕ) (at end : ℕ) (d : Decoded) : Type 0 where
+pub record Own (v : List ℕ) (at end : ℕ) (x : Value) (after : ℕ) : Type 0 where
   pub octet : ℕ
   pub start : ℕ
   pub n : ℕ
   pub header : headerAt v at end ≡ Header.Found octet start n
-  pub ends : start + n ≡ d .after
-  pub spot : spotAt v at start n ≡ spotOf (d .value)
+  pub ends : start + n ≡ after
+  pub spot : spotAt v at start n ≡ spotOf x
 
-pub framed : (v : List ℕ) (at end : ℕ) (d : Decoded) → Own v at end d → Framed v at end d
-framed v at end d w = record { octet = w .octet; start = w .start; n = w .n; header = w .header; ends = w .ends }
-
-by-inside : (g : ℕ) (v : List ℕ) (at end start n : ℕ) (x : Value) (d : Decoded) → insideAt g v at end ≡ Inside.Of start n → spotAt v at start n ≡ spotOf x → record { value = x; after = start + n } ≡ d → Own v at end d
-by-inside g v at end start n x d e q r = record { octet = g; start = start; n = n; header = inside-view g v at end start n e; ends = ap afterOf r; spot = q ∙ ap (λ (y : Decoded). spotOf (y .value)) r }
-
-pub found-same : (a b c x y z : ℕ) → _≡_ {A = Header} (Header.Found a b c) (Header.Found x y z) → b + c ≡ y + z
+found-same : (a b c x y z : ℕ) → _≡_ {A = Header} (Header.Found a b c) (Header.Found x y z) → b + c ≡ y + z
 found-same a b c x y z e = let p : b ≡ y = cc in let q : c ≡ z = cc in ap₂ _+_ p q
 
-wrapped : (v : List ℕ) (at end : ℕ) (d : Decoded) (n : ℕ) (f : ℕ → ℕ → Option Decoded) → inWrapper afterOf (explicit n) f v at end ≡ some d → Framed v at end d
-wrapped v at end d n f e =
-    let w = wrapper-view v at end d n f e in
-    record { octet = _; start = w .0; n = w .1; header = inside-view _ v at end (w .0) (w .1) (w .2); ends = sym (w .4) }
+-- any header there ends where what is decoded does
+pub framed-ends : (v : List ℕ) (at end start n after : ℕ) → Framed v at end after → anyTag (headerAt v at end) ≡ Inside.Of start n → start + n ≡ after
+framed-ends v at end start n after r e = found-same (octet v at) start n (r .octet) (r .start) (r .n) (sym (any-view v at end start n e) ∙ r .header) ∙ r .ends
 
--- under any tag mode
-pub framed-by : (g : Tagging) (f : ℕ → ℕ → Option Decoded) (v : List ℕ) (at end : ℕ) (d : Decoded) → (f at end ≡ some d → Own v at end d) → inWrapper afterOf g f v at end ≡ some d → Framed v at end d
-unfolding inWrapper
-framed-by untagged f v at end d own e = framed v at end d (own e)
-framed-by (implicit n) f v at end d own e = framed v at end d (own e)
-framed-by (explicit n) f v at end d own e = wrapped v at end d n f e
+module _ (v : List ℕ) where
+  pub framed : (at end : ℕ) (x : Value) (after : ℕ) → Own v at end x after → Framed v at end after
+  framed at end x after w = record { octet = w .octet; start = w .start; n = w .n; header = w .header; ends = w .ends }
 
-mutual
-  unfolding unwrapped
+  own-behind : (o at end start n : ℕ) (x : Value) (after : ℕ) → Behind v o at end start n (spotOf x) after → Own v at end x after
+  own-behind o at end start n x after b = record { octet = o; start = start; n = n; header = inside-view o v at end start n (b .header); ends = b .ends; spot = b .spot }
 
-  pub own : (ty : Ty) (g : Tagging) (v : List ℕ) (at end : ℕ) (d : Decoded) → unwrapped ty g v at end ≡ some d → Own v at end d
-  own (basic k) g v at end d e =
-      let w = leaf-view v at end d k g e in by-inside (tagOctet g k) v at end (w .0) (w .1) (leaf k (spotAt v at (w .0) (w .1))) d (w .2) refl (w .4)
-  own (sequence ms) g v at end d e =
-      let w = fields-view v at end d ms g e in by-inside (tagOctet g kind.sequence) v at end (w .0) (w .1) (fields (spotAt v at (w .0) (w .1)) (w .2)) d (w .3) refl (w .5)
-  own (choice ms) g v at end d e = own-choice ms v at end d e
-  own (listOf k ty) g v at end d e =
-      let w = elements-view v at end d k ty g e in by-inside (tagOctet g k) v at end (w .0) (w .1) (elements (spotAt v at (w .0) (w .1)) (w .2)) d (w .3) refl (w .6)
+  mutual
+    pub own : {ty : Ty} {g : Tagging} {at end : ℕ} {x : Value} {after : ℕ} → Decodes v ty g at end x after → Own v at end x after
+    own (is-basic {k = k} {g = g} {at = at} {end = end} {start = start} {n = n} {after = after} {s = s} b l) = own-behind (tagOctet g k) at end start n (leaf k s) after b
+    own (is-sequence {g = g} {at = at} {end = end} {start = start} {n = n} {after = after} {s = s} {fs = fs} b w) = own-behind (tagOctet g kind.sequence) at end start n (fields s fs) after b
+    own (is-choice c) = own-choice c
+    own (is-list {k = k} {g = g} {at = at} {end = end} {start = start} {n = n} {after = after} {s = s} {xs = xs} b w r) = own-behind (tagOctet g k) at end start n (elements s xs) after b
 
-  pub own-choice : (ms : Members) (v : List ℕ) (at end : ℕ) (d : Decoded) → alternativeFrom ms v at end ≡ some d → Own v at end d
-  own-choice noMore v at end d e = none-some d e
-  own-choice (more m ty ms) v at end d e =
-      pick-cases (λ (o : Option Decoded). o ≡ some d → Own v at end d) (startsHere m ty v end at) (choiceOf m v at end (inWrapper afterOf (m .tagging) (λ a e. unwrapped ty (m .tagging) v a e) v at end)) (alternativeFrom ms v at end)
-      (λ t f.
-      let w = choice-view v at end d m (inWrapper afterOf (m .tagging) (λ a e. unwrapped ty (m .tagging) v a e) v at end) f in
-      let h = any-view v at end (w .1) (w .2) (w .4) in
-      let r = framed-by (m .tagging) (λ a e. unwrapped ty (m .tagging) v a e) v at end (w .0) (λ q. own ty (m .tagging) v at end (w .0) q) (w .3) in
-      let q = found-same (octet v at) (w .1) (w .2) (r .octet) (r .start) (r .n) (sym h ∙ r .header) in
-      record { octet = octet v at; start = w .1; n = w .2; header = h; ends = q ∙ r .ends ∙ ap afterOf (w .5); spot = ap (λ (y : Decoded). spotOf (y .value)) (w .5) })
-      (λ t f. own-choice ms v at end d f) e
+    pub own-choice : {end at : ℕ} {ms : Members} {x : Value} {after : ℕ} → Chosen v end at ms x after → Own v at end x after
+    own-choice (this {end = end} {at = at} {start = start} {n = n} {after = after} q t e spot) =
+        record { octet = octet v at; start = start; n = n; header = any-view v at end start n e; ends = framed-ends v at end start n after (framed-by t) e; spot = spot }
+    own-choice (other q c) = own-choice c
+
+    -- under any tag mode
+    pub framed-by : {ty : Ty} {g : Tagging} {at end : ℕ} {x : Value} {after : ℕ} → Tagged v ty g at end x after → Framed v at end after
+    framed-by (bare {at = at} {end = end} {after = after} {x = x} q d) = framed at end x after (own d)
+    framed-by (filling {k = k} {at = at} {end = end} {start = start} {n = n} e d q) = record { octet = wrapperOctet k; start = start; n = n; header = inside-view (wrapperOctet k) v at end start n e; ends = sym q }
+
+-- a CHOICE can begin with the tag of its alternative
+pub begins-chosen : {v : List ℕ} {end at : ℕ} {ms : Members} {x : Value} {after : ℕ} → Chosen v end at ms x after → begins (choice ms) (tagOf (octet v at)) ≡ true
+unfolding begins memberBegins startsHere
+begins-chosen {v = v} (this {end = end} {at = at} q t e r) = rw (both-true (ltb at end) _ q .1)
+begins-chosen {v = v} (other {at = at} {m = m} {ty = ty} {ms = ms} q c) = last (asTagged (m .tagging) (begins ty (tagOf (octet v at))) (tagOf (octet v at))) (begins-chosen c)
+  where
+    last : (b : Bool) → someBegins ms (tagOf (octet v at)) ≡ true → either b (someBegins ms (tagOf (octet v at))) ≡ true
+    last true e = refl
+    last false e = e
 
 -- ---- a decoded value lies from its place on, within its end, and takes at least two octets
-module _ (v : List ℕ) (at end : ℕ) (d : Decoded) where
-  pub framed-long : Framed v at end d → at + 2 ≤ d .after
-  framed-long w = let h = header-long v at end (w .octet) (w .start) (w .n) (w .header) in let e = w .ends in omega arith
+module _ (v : List ℕ) (at end : ℕ) where
+  pub framed-long : (after : ℕ) → Framed v at end after → at + 2 ≤ after
+  framed-long after w = let h = header-long v at end (w .octet) (w .start) (w .n) (w .header) in let e = w .ends in omega arith
 
-  pub framed-within : Framed v at end d → d .after ≤ end
-  framed-within w = let h = header-within v at end (w .octet) (w .start) (w .n) (w .header) in let e = w .ends in omega arith
+  pub framed-within : (after : ℕ) → Framed v at end after → after ≤ end
+  framed-within after w = let h = header-within v at end (w .octet) (w .start) (w .n) (w .header) in let e = w .ends in omega arith
 
-  pub own-place : Own v at end d → at ≡ spotOf (d .value) .place
-  unfolding spotAt
-  own-place w = ap (λ (s : Spot). s .place) (w .spot)
+  module _ (x : Value) (after : ℕ) (w : Own v at end x after) where
+    own-place : at ≡ spotOf x .place
+    unfolding spotAt
+    own-place = ap (λ (s : Spot). s .place) (w .spot)
 
-  pub own-end : Own v at end d → endOf (d .value) ≡ d .after
-  unfolding spotAt
-  own-end w =
-      let h = header-long v at end (w .octet) (w .start) (w .n) (w .header) in
-      let e = w .ends in
-      let p : at ≡ spotOf (d .value) .place = ap (λ (s : Spot). s .place) (w .spot) in
-      let q : w .start + w .n - at ≡ spotOf (d .value) .size = ap (λ (s : Spot). s .size) (w .spot) in
-      omega arith
+    own-size : w .start + w .n - at ≡ spotOf x .size
+    unfolding spotAt
+    own-size = ap (λ (s : Spot). s .size) (w .spot)
 
-  pub own-encoding : Own v at end d → part v at (d .after - at) ≡ encoding v (d .value)
-  unfolding spotAt encoding
-  own-encoding w =
-      let e : d .after - at ≡ w .start + w .n - at = ap (λ (x : ℕ). x - at) (sym (w .ends)) in
-      ap₂ (part v) (ap (λ (s : Spot). s .place) (w .spot)) (e ∙ ap (λ (s : Spot). s .size) (w .spot))
+    -- contents start behind the header's two octets at least
+    own-start : spotOf x .place + 2 ≤ w .start
+    own-start = let h = header-long v at end (w .octet) (w .start) (w .n) (w .header) in let p = own-place in omega arith
+
+    own-end : endOf x ≡ after
+    own-end = let h = own-start in let e = w .ends in let p = own-place in let q = own-size in omega arith
+
+    own-spot : InSpot at after (spotOf x)
+    own-spot = let h = own-start in let e = w .ends in let p = own-place in let q = own-end in record { from = omega arith; long = omega arith; to = omega arith }
+
+    pub own-encoding : part v at (after - at) ≡ encoding v x
+    unfolding encoding
+    own-encoding = let e : after - at ≡ w .start + w .n - at = ap (λ (y : ℕ). y - at) (sym (w .ends)) in ap₂ (part v) own-place (e ∙ own-size)
 
 -- ---- where its parts lie
-spot-end : (v : List ℕ) (at start n : ℕ) → at + 1 < start → spotAt v at start n .place + spotAt v at start n .size ≡ start + n
-unfolding spotAt
-spot-end v at start n h = omega arith
-
-in-header : (v : List ℕ) (at end o start n after : ℕ) → headerAt v at end ≡ Header.Found o start n → start + n ≡ after → InSpot at after (spotAt v at start n)
-unfolding spotAt
-in-header v at end o start n after e q = let h = header-long v at end o start n e in record { from = omega arith; long = omega arith; to = omega arith }
-
-in-spot : (g : ℕ) (v : List ℕ) (at end start n : ℕ) → insideAt g v at end ≡ Inside.Of start n → InSpot at (start + n) (spotAt v at start n)
-in-spot g v at end start n e = in-header v at end g start n (start + n) (inside-view g v at end start n e) refl
-
 pub lies-wider : (a b lo hi : ℕ) (x : Value) → a ≤ lo → hi ≤ b → Lies lo hi x → Lies a b x
 unfolding Lies
 lies-wider a b lo hi x p q w = go x w
@@ -148,160 +138,70 @@ turn-wider a lo hi endValues p w = let h : lo ≤ hi = w in omega arith
 turn-wider a lo hi (next x xs) p w = let h : hi ≤ hi = omega arith in (lies-wider a hi lo hi x p h (w .0), w .1)
 
 -- what is decoded at a place, before an end
-pub record Placed (at end : ℕ) (d : Decoded) : Type 0 where
-  pub long : at + 2 ≤ d .after
-  pub within : d .after ≤ end
-  pub last : endOf (d .value) ≡ d .after
-  pub lies : Lies at (d .after) (d .value)
+pub record Placed (at end : ℕ) (x : Value) (after : ℕ) : Type 0 where
+  pub long : at + 2 ≤ after
+  pub within : after ≤ end
+  pub last : endOf x ≡ after
+  pub lies : Lies at after x
 
-placed-own : (v : List ℕ) (at end : ℕ) (d : Decoded) → Own v at end d → Lies at (d .after) (d .value) → Placed at end d
-placed-own v at end d o w = record { long = framed-long v at end d (framed v at end d o); within = framed-within v at end d (framed v at end d o); last = own-end v at end d o; lies = w }
+module _ (v : List ℕ) where
+  placed-own : (at end : ℕ) (x : Value) (after : ℕ) → Own v at end x after → Lies at after x → Placed at end x after
+  placed-own at end x after o w =
+      let f = framed v at end x after o in
+      record { long = framed-long v at end after f; within = framed-within v at end after f; last = own-end v at end x after o; lies = w }
 
--- the same under a tag mode
-pub placed-by : (g : Tagging) (f : ℕ → ℕ → Option Decoded) (v : List ℕ) (at end : ℕ) (d : Decoded) → ((a e : ℕ) → f a e ≡ some d → Placed a e d) → inWrapper afterOf g f v at end ≡ some d → Placed at end d
-unfolding inWrapper
-placed-by untagged f v at end d each e = each at end e
-placed-by (implicit n) f v at end d each e = each at end e
-placed-by (explicit n) f v at end d each e =
-    let w = wrapper-view v at end d n f e in
-    let p = each (w .0) (w .0 + w .1) (w .3) in
-    let fr = wrapped v at end d n f e in
-    let l = framed-long v at end d fr in
-    let h = header-long v at end _ (w .0) (w .1) (inside-view _ v at end (w .0) (w .1) (w .2)) in
-    record { long = l; within = framed-within v at end d fr; last = p .last; lies = lies-wider at (d .after) (w .0) (d .after) (d .value) (omega arith) (omega arith) (p .lies) }
+  mutual
+    unfolding Lies own-behind
 
--- ---- elements in turn
-module _ (f : ℕ → ℕ → Option Decoded) (stop i : ℕ) where
-  pub many-end : (k : ℕ) → stop ≤ i → many f k stop i ≡ some endValues
-  unfolding many
-  many-end zero h = rw (le-ltb i stop h)
-  many-end (suc k) h = rw (le-ltb i stop h)
+    pub lies : {ty : Ty} {g : Tagging} {at end : ℕ} {x : Value} {after : ℕ} → Decodes v ty g at end x after → Lies at after x
+    lies (is-basic {k = k} {g = g} {at = at} {end = end} {start = start} {n = n} {after = after} {s = s} b l) = own-spot v at end (leaf k s) after (own-behind v (tagOctet g k) at end start n (leaf k s) after b)
+    lies (is-sequence {g = g} {at = at} {end = end} {start = start} {n = n} {after = after} {s = s} {fs = fs} b w) =
+        let o = own-behind v (tagOctet g kind.sequence) at end start n (fields s fs) after b in
+        let parts = fields-wider (s .place + 2) start after fs (own-start v at end (fields s fs) after o) (lies-fields w) in
+        (own-spot v at end (fields s fs) after o, subst (λ (z : ℕ). LieInFields (s .place + 2) z fs) (sym (own-end v at end (fields s fs) after o)) parts)
+    lies (is-choice c) = lies-choice c
+    lies (is-list {k = k} {g = g} {at = at} {end = end} {start = start} {n = n} {after = after} {s = s} {xs = xs} b w r) =
+        let o = own-behind v (tagOctet g k) at end start n (elements s xs) after b in
+        let z = b .ends in
+        let parts = turn-wider (s .place + 2) start after xs (own-start v at end (elements s xs) after o) (lies-elements w (omega arith)) in
+        (own-spot v at end (elements s xs) after o, subst (λ (z : ℕ). LieInTurn (s .place + 2) z xs) (sym (own-end v at end (elements s xs) after o)) parts)
 
-  pub many-zero : i < stop → many f 0 stop i ≡ none
-  unfolding many
-  many-zero h = rw (lt-ltb i stop h)
+    -- under any tag mode
+    pub placed : {ty : Ty} {g : Tagging} {at end : ℕ} {x : Value} {after : ℕ} → Tagged v ty g at end x after → Placed at end x after
+    placed (bare {at = at} {end = end} {after = after} {x = x} q d) = placed-own at end x after (own v d) (lies d)
+    placed (filling {k = k} {at = at} {end = end} {start = start} {n = n} {after = after} {x = x} e d q) =
+        let f = framed-by v (filling e d q) in
+        let h = inside-long (wrapperOctet k) v at end start n e in
+        record {
+          long = framed-long v at end after f;
+          within = framed-within v at end after f;
+          last = own-end v start (start + n) x after (own v d);
+          lies = lies-wider at after start after x (omega arith) (omega arith) (lies d);
+        }
 
-  pub many-more : (k : ℕ) → i < stop → many f (suc k) stop i ≡ nextThen (λ j. many f k stop j) (f i stop)
-  unfolding many
-  many-more k h = rw (lt-ltb i stop h)
+    lies-choice : {end at : ℕ} {ms : Members} {x : Value} {after : ℕ} → Chosen v end at ms x after → Lies at after x
+    lies-choice (this {end = end} {at = at} {m = m} {ms = ms} {after = after} {s = s} {x = x} q t e r) =
+        let o = own-choice v (this {ms = ms} q t e r) in
+        let p = own-place v at end (chosen s m x) after o in
+        let l = own-end v at end (chosen s m x) after o in
+        (own-spot v at end (chosen s m x) after o, lies-wider (s .place) (s .place + s .size) at after x (omega arith) (omega arith) (placed t .lies))
+    lies-choice (other q c) = lies-choice c
 
--- the first of some elements, and those after it
-pub next-view : (rest : ℕ → Option Values) (element : Option Decoded) (xs : Values) → nextThen rest element ≡ some xs
-    → (d : Decoded) × (ys : Values) × (element ≡ some d) × (rest (d .after) ≡ some ys) × (next (d .value) ys ≡ xs)
-next-view rest element xs e =
-    let b = bind-view element (λ d. bind (rest (d .after)) (λ ys. some (next (d .value) ys))) xs e in
-    let c = bind-view (rest (b .0 .after)) (λ ys. some (next (b .0 .value) ys)) xs (b .2) in
-    (b .0, c .0, b .1, c .1, some-same _ xs (c .2))
+    lies-fields : {stop : ℕ} {ms : Members} {i : ℕ} {fs : Fields} → Fielded v stop ms i fs → LieInFields i stop fs
+    lies-fields (none-left q) = omega arith
+    lies-fields (there {stop = stop} {i = i} {after = after} {x = x} {fs = fs} q t d w) =
+        let p = placed t in
+        let l = p .last in
+        (lies-wider i stop i after x (omega arith) (p .within) (p .lies), fields-wider (endOf x) after stop fs (omega arith) (lies-fields w))
+    lies-fields (lacks q m w) = lies-fields w
 
--- the elements from i on lie in turn, where those after the first do
-abbrev InTurn : (ℕ → ℕ → Option Decoded) → ℕ → Type 0
-InTurn f k = (stop i : ℕ) (xs : Values) → i ≤ stop → many f k stop i ≡ some xs → LieInTurn i stop xs
+    lies-elements : {ty : Ty} {stop k i : ℕ} {xs : Values} → Elements v ty stop k i xs → i ≤ stop → LieInTurn i stop xs
+    lies-elements (ends q) h = h
+    lies-elements (goes {stop = stop} {i = i} {after = after} {x = x} {xs = xs} q d w) h =
+        let p = placed-own i stop x after (own v d) (lies d) in
+        let l = p .last in
+        (lies-wider i stop i after x (omega arith) (p .within) (p .lies), turn-wider (endOf x) after stop xs (omega arith) (lies-elements w (p .within)))
 
-turn-end : (f : ℕ → ℕ → Option Decoded) (k stop i : ℕ) (xs : Values) → i ≤ stop → stop ≤ i → many f k stop i ≡ some xs → LieInTurn i stop xs
-unfolding Lies
-turn-end f k stop i xs h g e = subst (LieInTurn i stop) (some-same endValues xs (sym (many-end f stop i k g) ∙ e)) h
-
-turn-next : (f : ℕ → ℕ → Option Decoded) → ((i stop : ℕ) (d : Decoded) → f i stop ≡ some d → Placed i stop d) → (k : ℕ) → InTurn f k → InTurn f (suc k)
-unfolding Lies
-turn-next f each k later stop i xs h e = go (ltb i stop) refl
-  where
-    go : (x : Bool) → ltb i stop ≡ x → LieInTurn i stop xs
-    go false q = turn-end f (suc k) stop i xs h (ltb-false i stop q) e
-    go true q =
-        let w = next-view (λ j. many f k stop j) (f i stop) xs (sym (many-more f stop i k (ltb-true i stop q)) ∙ e) in
-        let p = each i stop (w .0) (w .2) in
-        let rest : LieInTurn (w .0 .after) stop (w .1) = later stop (w .0 .after) (w .1) (p .within) (w .3) in
-        let a : endOf (w .0 .value) ≤ w .0 .after = (let l = p .last in omega arith) in
-        let x : Lies i stop (w .0 .value) = lies-wider i stop i (w .0 .after) (w .0 .value) (omega arith) (p .within) (p .lies) in
-        subst (LieInTurn i stop) (w .4) (x, turn-wider (endOf (w .0 .value)) (w .0 .after) stop (w .1) a rest)
-
-turn-zero : (f : ℕ → ℕ → Option Decoded) → InTurn f 0
-turn-zero f stop i xs h e = go (ltb i stop) refl
-  where
-    go : (x : Bool) → ltb i stop ≡ x → LieInTurn i stop xs
-    go false q = turn-end f 0 stop i xs h (ltb-false i stop q) e
-    go true q = none-some xs (sym (many-zero f stop i (ltb-true i stop q)) ∙ e)
-
-turn-lies : (f : ℕ → ℕ → Option Decoded) → ((i stop : ℕ) (d : Decoded) → f i stop ≡ some d → Placed i stop d) → (k : ℕ) → InTurn f k
-turn-lies f each zero = turn-zero f
-turn-lies f each (suc k) = turn-next f each k (turn-lies f each k)
-
--- ---- members in turn: one that is there, and those after it; one that isn't
-pub present-view : (m : Member) (rest : ℕ → Option Fields) (member : Option Decoded) (fs : Fields) → presentThen m rest member ≡ some fs
-    → (d : Decoded) × (gs : Fields) × (member ≡ some d) × (isDefault (m .presence) (spotOf (d .value) .contents) ≡ false) × (rest (d .after) ≡ some gs) × (present m (d .value) gs ≡ fs)
-present-view m rest member fs e =
-    let b = bind-view member (λ any. bind (unlessDefault m any) (λ d. bind (rest (d .after)) (λ gs. some (present m (d .value) gs)))) fs e in
-    let c = bind-view (unlessDefault m (b .0)) (λ d. bind (rest (d .after)) (λ gs. some (present m (d .value) gs))) fs (b .2) in
-    let u = unless-view (isDefault (m .presence) (spotOf (b .0 .value) .contents)) (b .0) (c .0) (c .1) in
-    let r = bind-view (rest (c .0 .after)) (λ gs. some (present m (c .0 .value) gs)) fs (c .2) in
-    let same : b .0 ≡ c .0 = u .1 in
-    (c .0, r .0, b .1 ∙ ap some same, sym (ap (λ (d : Decoded). isDefault (m .presence) (spotOf (d .value) .contents)) same) ∙ u .0, r .1, some-same _ fs (r .2))
-  where
-    unless-view : (t : Bool) (a b : Decoded) → pick t none (some a) ≡ some b → (t ≡ false) × (a ≡ b)
-    unless-view true a b e = none-some b e
-    unless-view false a b e = (refl, some-same a b e)
-
-pub absent-view : (m : Member) (rest : Option Fields) (fs : Fields) → absentThen m rest ≡ some fs → (gs : Fields) × (isMandatory (m .presence) ≡ false) × (rest ≡ some gs) × (absent m gs ≡ fs)
-absent-view m rest fs e = go (isMandatory (m .presence)) refl e
-  where
-    go : (t : Bool) → isMandatory (m .presence) ≡ t → pick t none (bind rest (λ gs. some (absent m gs))) ≡ some fs → (gs : Fields) × (isMandatory (m .presence) ≡ false) × (rest ≡ some gs) × (absent m gs ≡ fs)
-    go true q e = none-some fs e
-    go false q e = let b = bind-view rest (λ gs. some (absent m gs)) fs e in (b .0, q, b .1, some-same _ fs (b .2))
-
-mutual
-  unfolding unwrapped Lies spotAt
-
-  lies : (ty : Ty) (g : Tagging) (v : List ℕ) (at end : ℕ) (d : Decoded) → unwrapped ty g v at end ≡ some d → Lies at (d .after) (d .value)
-  lies (basic k) g v at end d e =
-      let w = leaf-view v at end d k g e in subst (λ (y : Decoded). Lies at (y .after) (y .value)) (w .4) (in-spot (tagOctet g k) v at end (w .0) (w .1) (w .2))
-  lies (sequence ms) g v at end d e =
-      let w = fields-view v at end d ms g e in
-      let l = inside-long (tagOctet g kind.sequence) v at end (w .0) (w .1) (w .3) in
-      let fs = fields-wider (at + 2) (w .0) (w .0 + w .1) (w .2) (omega arith) (fields-lie ms v (w .0 + w .1) (w .0) (w .2) (w .4)) in
-      subst (λ (y : Decoded). Lies at (y .after) (y .value)) (w .5)
-      (in-spot (tagOctet g kind.sequence) v at end (w .0) (w .1) (w .3), subst (λ (x : ℕ). LieInFields (at + 2) x (w .2)) (sym (spot-end v at (w .0) (w .1) l)) fs)
-  lies (choice ms) g v at end d e = choice-lies ms v at end d e
-  lies (listOf k ty) g v at end d e =
-      let w = elements-view v at end d k ty g e in
-      let l = inside-long (tagOctet g k) v at end (w .0) (w .1) (w .3) in
-      let xs = turn-wider (at + 2) (w .0) (w .0 + w .1) (w .2) (omega arith)
-      (turn-lies (λ i stop. unwrapped ty untagged v i stop) (λ i stop x q. placed-own v i stop x (own ty untagged v i stop x q) (lies ty untagged v i stop x q)) (w .1) (w .0 + w .1) (w .0) (w .2) (omega arith) (w .4)) in
-      subst (λ (y : Decoded). Lies at (y .after) (y .value)) (w .6)
-      (in-spot (tagOctet g k) v at end (w .0) (w .1) (w .3), subst (λ (x : ℕ). LieInTurn (at + 2) x (w .2)) (sym (spot-end v at (w .0) (w .1) l)) xs)
-
-  choice-lies : (ms : Members) (v : List ℕ) (at end : ℕ) (d : Decoded) → alternativeFrom ms v at end ≡ some d → Lies at (d .after) (d .value)
-  choice-lies noMore v at end d e = none-some d e
-  choice-lies (more m ty ms) v at end d e =
-      pick-cases (λ (o : Option Decoded). o ≡ some d → Lies at (d .after) (d .value)) (startsHere m ty v end at) (choiceOf m v at end (inWrapper afterOf (m .tagging) (λ a e. unwrapped ty (m .tagging) v a e) v at end)) (alternativeFrom ms v at end)
-      (λ t f.
-      let w = choice-view v at end d m (inWrapper afterOf (m .tagging) (λ a e. unwrapped ty (m .tagging) v a e) v at end) f in
-      let p = placed-by (m .tagging) (λ a e. unwrapped ty (m .tagging) v a e) v at end (w .0) (λ a e q. placed-own v a e (w .0) (own ty (m .tagging) v a e (w .0) q) (lies ty (m .tagging) v a e (w .0) q)) (w .3) in
-      let h = any-view v at end (w .1) (w .2) (w .4) in
-      let r = framed-by (m .tagging) (λ a e. unwrapped ty (m .tagging) v a e) v at end (w .0) (λ q. own ty (m .tagging) v at end (w .0) q) (w .3) in
-      let q = found-same (octet v at) (w .1) (w .2) (r .octet) (r .start) (r .n) (sym h ∙ r .header) in
-      let l = header-long v at end (octet v at) (w .1) (w .2) h in
-      let last : w .1 + w .2 ≡ w .0 .after = q ∙ r .ends in
-      subst (λ (y : Decoded). Lies at (y .after) (y .value)) (w .5)
-      (in-header v at end (octet v at) (w .1) (w .2) (w .0 .after) h last, subst (λ (x : ℕ). Lies at x (w .0 .value)) (sym (spot-end v at (w .1) (w .2) l ∙ last)) (p .lies)))
-      (λ t f. choice-lies ms v at end d f) e
-
-  fields-lie : (ms : Members) (v : List ℕ) (stop i : ℕ) (fs : Fields) → fieldsFrom ms v stop i ≡ some fs → LieInFields i stop fs
-  fields-lie noMore v stop i fs e =
-      let w = pick-view (eqb i stop) endFields fs e in
-      let q = eqb-true i stop (w .0) in
-      subst (LieInFields i stop) (w .1) (omega arith)
-  fields-lie (more m ty ms) v stop i fs e =
-      pick-cases (λ (o : Option Fields). o ≡ some fs → LieInFields i stop fs) (startsHere m ty v stop i)
-      (presentThen m (λ i. fieldsFrom ms v stop i) (inWrapper afterOf (m .tagging) (λ a e. unwrapped ty (m .tagging) v a e) v i stop)) (absentThen m (fieldsFrom ms v stop i))
-      (λ t f.
-      let w = present-view m (λ i. fieldsFrom ms v stop i) (inWrapper afterOf (m .tagging) (λ a e. unwrapped ty (m .tagging) v a e) v i stop) fs f in
-      let p = placed-by (m .tagging) (λ a e. unwrapped ty (m .tagging) v a e) v i stop (w .0) (λ a e q. placed-own v a e (w .0) (own ty (m .tagging) v a e (w .0) q) (lies ty (m .tagging) v a e (w .0) q)) (w .2) in
-      let x = lies-wider i stop i (w .0 .after) (w .0 .value) (omega arith) (p .within) (p .lies) in
-      let a : endOf (w .0 .value) ≤ w .0 .after = (let l = p .last in omega arith) in
-      subst (LieInFields i stop) (w .5) (x, fields-wider (endOf (w .0 .value)) (w .0 .after) stop (w .1) a (fields-lie ms v stop (w .0 .after) (w .1) (w .4))))
-      (λ t f. let w = absent-view m (fieldsFrom ms v stop i) fs f in subst (LieInFields i stop) (w .3) (fields-lie ms v stop i (w .0) (w .2))) e
-
--- a value of a type under any tag mode
-pub placed : (ty : Ty) (g : Tagging) (v : List ℕ) (at end : ℕ) (d : Decoded) → decode ty g v at end ≡ some d → Placed at end d
-unfolding decode
-placed ty g v at end d e = placed-by g (unwrapped ty g v) v at end d (λ a z q. placed-own v a z d (own ty g v a z d q) (lies ty g v a z d q)) e
+-- a stored value lies from the first octet on, up to the last
+pub stored-lies : (ty : Ty) (v : List ℕ) (x : Value) → storedValue ty v ≡ some x → Lies 0 (length v) x
+stored-lies ty v x e = lies v (decodes-stored ty v x e)

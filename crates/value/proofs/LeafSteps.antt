@@ -1,17 +1,16 @@
 -- The functions outside the cycle: one lemma for each return and each turn of a loop; its premises are the facts as the code has them.
 use mathlib.Core.Path.{_≡_, refl, sym, ap, ap₂, _∙_}
-use mathlib.Core.Bool.{Bool, true, false, not}
+use mathlib.Core.Bool.{Bool, true, false}
 use mathlib.Core.List.{List}
-use Prim.Native.Nat.{ℕ, zero, suc, _≤_, _<_, _+_, _-_}
+use Prim.Native.Nat.{ℕ, suc, _≤_, _<_, _+_, _-_}
 use native.Mathlib.Omega.{arith}
 use borrow.Author.Tests.{eq-eqb, ne-eqb, lt-ltb, le-ltb}
-use lib.Dec.{ltb, eqb}
+use lib.Dec.{eqb}
 use Rattle.octets.specs.Pick.{pick}
 use Rattle.octets.specs.Octets.{octet, part, same}
 use Rattle.rows.specs.Row.{rowAt, kindAt, typeRowAt, modeAt, numberAt, presenceAt, defaultAt}
 use Rattle.der.specs.Tag.{tagOf, ownOctet, implicitOctet, wrapperOctet}
 use Rattle.der.specs.Header.{insideAt}
-use Rattle.der.specs.Contents.{legal}
 use Rattle.der.specs.Order.{notAbove}
 use Rattle.der.specs.declared.Inside.{Inside}
 use Rattle.der.proofs.Laws.{inside-within}

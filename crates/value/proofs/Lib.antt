@@ -1,4 +1,5 @@
 pub mod Views
+pub mod Decodes
 pub mod Laws
 pub mod Before
 pub mod LeafSteps

@@ -1,37 +1,32 @@
 -- Members and alternatives: one lemma for each return and each turn of a loop; its premises are the facts as the code has them.
 use mathlib.Core.Path.{_≡_, refl, sym, ap, ap₂, _∙_}
-use mathlib.Core.Bool.{Bool, true, false, not, true≢false, false≢true}
+use mathlib.Core.Bool.{Bool, true, false, not}
 use mathlib.Core.Option.{Option, none, some}
 use mathlib.Core.List.{List}
-use Prim.Native.Nat.{ℕ, zero, suc, _≤_, _<_, _+_, _-_, _*_}
+use Prim.Native.Nat.{ℕ, suc, _≤_, _<_, _+_, _-_, _*_}
 use native.Mathlib.Omega.{arith}
-use borrow.Author.Tests.{not-true, not-false, eq-eqb, ne-eqb, eqb-true, eqb-false, leb-true, ltb-true, ltb-false, lt-ltb, le-ltb}
+use borrow.Author.Tests.{not-true, not-false, eq-eqb, ne-eqb, eqb-true, eqb-false, leb-true}
 use lib.ListN.{length}
 use lib.Dec.{ltb, leb, eqb}
-use Rattle.octets.specs.Pick.{pick, both, either, no, bind, isSome}
+use Rattle.octets.specs.Pick.{pick, both, bind, isSome}
 use Rattle.octets.specs.Octets.{octet, part, same}
 use Rattle.octets.proofs.Laws.{both-true}
-use Rattle.der.specs.Kind as kind
 use Rattle.der.specs.Tag.{tagOf}
-use Rattle.der.specs.Header.{headerAt, insideAt, anyTag, opened}
-use Rattle.der.specs.declared.Header.{Header}
+use Rattle.der.specs.Header.{insideAt}
 use Rattle.der.specs.declared.Inside.{Inside}
 use Rattle.der.proofs.Laws.{tag-small}
-use Rattle.rows.specs.Row.{rowAt, kindAt, elementAt, typeRowAt, membersAt, isList, modeAt, numberAt, presenceAt, defaultLengthAt, defaultAt}
-use Rattle.groups.specs.Clauses.{memberPlace, typeKind, defaultAllowed, defaultLegal}
-use Rattle.groups.specs.Work.{memberType}
-use Rattle.table.specs.Types.{Tagging, untagged, explicit, implicit, Presence, mandatory, optional, default, taggingOf, presenceOf, Member, memberOf, Ty, basic, Members, noMore, more, membersFrom, typed, typeFrom}
-use Rattle.table.specs.Begins.{memberBegins, isMandatory}
-use Rattle.table.specs.Work.{bitOf, memberMask, Sound}
+use Rattle.rows.specs.Row.{rowAt, kindAt, typeRowAt, membersAt, modeAt, numberAt, presenceAt, defaultAt}
+use Rattle.groups.specs.Clauses.{defaultAllowed, defaultLegal}
+use Rattle.table.specs.Types.{Tagging, untagged, explicit, implicit, mandatory, optional, default, taggingOf, presenceOf, Member, memberOf, Ty, basic, Members, more, membersFrom, typed, typeFrom}
+use Rattle.table.specs.Begins.{isMandatory}
+use Rattle.table.specs.Work.{Sound}
 use Rattle.table.proofs.TagLaws.{mandatory-as}
 use Rattle.table.proofs.SoundLaws.{member-tags}
-use Rattle.value.specs.Value.{spotAt, spotOf, Value, leaf, Fields, endFields, present, absent}
-use Rattle.value.specs.Decode.{Decoded, decoded, afterOf, tagOctet, inWrapper, startsHere, choiceOf, chosenOf, isDefault, unlessDefault, presentThen, absentThen, unwrapped, fieldsFrom, alternativeFrom, decode}
-use Rattle.value.specs.Work.{told, upTo, first, marked, markedOf, within, contentsAt, holds, storedDefault, isPlain, plainTold, absentTold, memberTold, fieldsTold}
+use Rattle.value.specs.Value.{spotAt, spotOf, Fields, endFields, present, absent}
+use Rattle.value.specs.Decode.{Decoded, afterOf, tagOctet, inWrapper, startsHere, isDefault, unlessDefault, presentThen, absentThen, unwrapped, fieldsFrom, decode}
+use Rattle.value.specs.Work.{told, upTo, marked, within, contentsAt, holds, storedDefault, isPlain, plainTold, absentTold, memberTold, fieldsTold}
 use Rattle.value.specs.declared.Checked.{Checked}
-use Rattle.value.proofs.Views.{none-some, some-same, leaf-view, wrapper-view}
-use Rattle.value.proofs.Laws.{Framed, Own, own, framed-by}
-use Rattle.value.proofs.LeafSteps.{first-none}
+use Rattle.value.proofs.Views.{leaf-view, wrapper-view}
 use Rattle.value.proofs.CheckSteps.{typed-small}
 use Rattle.value.proofs.PlainSteps.{plain-basic, plain-decoded}
 
@@ -41,7 +36,7 @@ unfolding decode inWrapper contentsAt spotAt
 contents-are untagged k v at end d e = let w = leaf-view v at end d k untagged e in (w .0, w .1, w .2, ap (λ (y : Decoded). spotOf (y .value) .contents) (sym (w .4)))
 contents-are (implicit n) k v at end d e = let w = leaf-view v at end d k (implicit n) e in (w .0, w .1, w .2, ap (λ (y : Decoded). spotOf (y .value) .contents) (sym (w .4)))
 contents-are (explicit n) k v at end d e =
-    let u = wrapper-view v at end d n (unwrapped (basic k) (explicit n) v) e in
+    let u = wrapper-view afterOf v at end d n (unwrapped (basic k) (explicit n) v) e in
     let w = leaf-view v (u .0) (u .0 + u .1) d k (explicit n) (u .3) in
     (w .0, w .1, ap (within (insideAt (tagOctet (explicit n) k) v)) (u .2) ∙ w .2, ap (λ (y : Decoded). spotOf (y .value) .contents) (sym (w .4)))
 

@@ -12,7 +12,7 @@ use Rattle.der.specs.Header.{insideAt, opened}
 use Rattle.der.specs.Contents.{legal}
 use Rattle.der.specs.declared.Inside.{Inside}
 use Rattle.rows.specs.Row.{modeAt, numberAt, presenceAt, defaultAt}
-use Rattle.table.specs.Types.{Tagging, taggingOf, Ty, basic, Members, typed}
+use Rattle.table.specs.Types.{taggingOf, Ty, basic, Members, typed}
 use Rattle.value.specs.Decode.{tagOctet, leafOf, unwrapped, decode}
 use Rattle.value.specs.Work.{told, upTo, contentsAt, holds, isPlain, isDefaultAt, plainOf, plainTold}
 use Rattle.value.specs.declared.Checked.{Checked}

@@ -1,0 +1,156 @@
+-- How a decoded value is made: a family for each part of the decoder, with a constructor for each way to a value. Laws of decoded values go by these.
+use mathlib.Core.Path.{_≡_, refl, sym, _∙_, subst}
+use mathlib.Core.Bool.{Bool, true, false}
+use mathlib.Core.Option.{Option, none, some}
+use mathlib.Core.List.{List}
+use Prim.Native.Nat.{ℕ, zero, suc, _≤_, _<_, _+_}
+use borrow.Author.Tests.{eqb-true, ltb-true, ltb-false}
+use lib.ListN.{length}
+use lib.Dec.{ltb, eqb}
+use Rattle.octets.specs.Pick.{pick, either}
+use Rattle.octets.specs.Octets.{part}
+use Rattle.der.specs.Kind as kind
+use Rattle.der.specs.Tag.{wrapperOctet}
+use Rattle.der.specs.Header.{headerAt, insideAt, anyTag}
+use Rattle.der.specs.Contents.{legal}
+use Rattle.der.specs.declared.Inside.{Inside}
+use Rattle.table.specs.Types.{Tagging, untagged, explicit, implicit, Member, Ty, basic, sequence, choice, listOf, Members, noMore, more}
+use Rattle.table.specs.Begins.{isMandatory}
+use Rattle.value.specs.Value.{Spot, spotAt, spotOf, Value, leaf, fields, chosen, elements, Fields, endFields, present, absent, Values, endValues, next}
+use Rattle.value.specs.Order.{rising}
+use Rattle.value.specs.Decode.{Decoded, afterOf, tagOctet, inWrapper, startsHere, choiceOf, isDefault, presentThen, absentThen, many, unwrapped, fieldsFrom, alternativeFrom, decode, storedValue}
+use Rattle.value.proofs.Views.{none-some, some-same, bind-view, pick-view, leaf-view, fields-view, elements-view, choice-view, wrapper-view, isBare, many-end, many-zero, many-more, next-view, present-view, absent-view}
+
+-- the header with a tag octet at a place: the spot of the value behind it, and the place after it
+pub record Behind (v : List ℕ) (octet at end start n : ℕ) (s : Spot) (after : ℕ) : Type 0 where
+  pub header : insideAt octet v at end ≡ Inside.Of start n
+  pub spot : spotAt v at start n ≡ s
+  pub ends : start + n ≡ after
+
+mutual
+  -- x is a value of a type, inside its wrapper, at a place, before an end; and the place after it
+  pub data Decodes (v : List ℕ) : Ty → Tagging → ℕ → ℕ → Value → ℕ → Type 0 where
+    is-basic : {k : ℕ} {g : Tagging} {at end start n after : ℕ} {s : Spot} → Behind v (tagOctet g k) at end start n s after → legal k (part v start n) ≡ true → Decodes v (basic k) g at end (leaf k s) after
+    is-sequence : {ms : Members} {g : Tagging} {at end start n after : ℕ} {s : Spot} {fs : Fields} → Behind v (tagOctet g kind.sequence) at end start n s after → Fielded v after ms start fs
+        → Decodes v (sequence ms) g at end (fields s fs) after
+    is-choice : {ms : Members} {g : Tagging} {at end after : ℕ} {x : Value} → Chosen v end at ms x after → Decodes v (choice ms) g at end x after
+    is-list : {k : ℕ} {ty : Ty} {g : Tagging} {at end start n after : ℕ} {s : Spot} {xs : Values} → Behind v (tagOctet g k) at end start n s after → Elements v ty after n start xs
+        → either (eqb k kind.sequenceOf) (rising v xs) ≡ true → Decodes v (listOf k ty) g at end (elements s xs) after
+
+  -- the same under a tag mode: an explicit one has a wrapper, which the value fills
+  pub data Tagged (v : List ℕ) : Ty → Tagging → ℕ → ℕ → Value → ℕ → Type 0 where
+    bare : {ty : Ty} {g : Tagging} {at end after : ℕ} {x : Value} → isBare g ≡ true → Decodes v ty g at end x after → Tagged v ty g at end x after
+    filling : {ty : Ty} {k at end start n after : ℕ} {x : Value} → insideAt (wrapperOctet k) v at end ≡ Inside.Of start n → Decodes v ty (explicit k) start (start + n) x after → after ≡ start + n
+        → Tagged v ty (explicit k) at end x after
+
+  -- members in turn from a place up to a stop
+  pub data Fielded (v : List ℕ) : ℕ → Members → ℕ → Fields → Type 0 where
+    none-left : {stop i : ℕ} → i ≡ stop → Fielded v stop noMore i endFields
+    there : {stop : ℕ} {m : Member} {ty : Ty} {ms : Members} {i after : ℕ} {x : Value} {fs : Fields} → startsHere m ty v stop i ≡ true → Tagged v ty (m .tagging) i stop x after
+        → isDefault (m .presence) (spotOf x .contents) ≡ false → Fielded v stop ms after fs → Fielded v stop (more m ty ms) i (present m x fs)
+    lacks : {stop : ℕ} {m : Member} {ty : Ty} {ms : Members} {i : ℕ} {fs : Fields} → startsHere m ty v stop i ≡ false → isMandatory (m .presence) ≡ false → Fielded v stop ms i fs
+        → Fielded v stop (more m ty ms) i (absent m fs)
+
+  -- the alternative that can begin with the tag at a place
+  pub data Chosen (v : List ℕ) : ℕ → ℕ → Members → Value → ℕ → Type 0 where
+    this : {end at : ℕ} {m : Member} {ty : Ty} {ms : Members} {start n after : ℕ} {s : Spot} {x : Value} → startsHere m ty v end at ≡ true → Tagged v ty (m .tagging) at end x after
+        → anyTag (headerAt v at end) ≡ Inside.Of start n → spotAt v at start n ≡ s → Chosen v end at (more m ty ms) (chosen s m x) after
+    other : {end at : ℕ} {m : Member} {ty : Ty} {ms : Members} {after : ℕ} {x : Value} → startsHere m ty v end at ≡ false → Chosen v end at ms x after → Chosen v end at (more m ty ms) x after
+
+  -- elements in turn from a place up to a stop, at most k of them
+  pub data Elements (v : List ℕ) : Ty → ℕ → ℕ → ℕ → Values → Type 0 where
+    ends : {ty : Ty} {stop k i : ℕ} → stop ≤ i → Elements v ty stop k i endValues
+    goes : {ty : Ty} {stop k i after : ℕ} {x : Value} {xs : Values} → i < stop → Decodes v ty untagged i stop x after → Elements v ty stop k after xs → Elements v ty stop (suc k) i (next x xs)
+
+-- ---- made from the decoder's equations
+behind : {v : List ℕ} {octet at end start n : ℕ} → insideAt octet v at end ≡ Inside.Of start n → Behind v octet at end start n (spotAt v at start n) (start + n)
+behind e = record { header = e; spot = refl; ends = refl }
+
+-- under a tag mode, where the value inside is made
+tagged-by : (ty : Ty) (g : Tagging) (v : List ℕ) (at end : ℕ) (d : Decoded) → ((a e : ℕ) → unwrapped ty g v a e ≡ some d → Decodes v ty g a e (d .value) (d .after))
+    → inWrapper afterOf g (λ a e. unwrapped ty g v a e) v at end ≡ some d → Tagged v ty g at end (d .value) (d .after)
+unfolding inWrapper
+tagged-by ty untagged v at end d own e = bare refl (own at end e)
+tagged-by ty (implicit n) v at end d own e = bare refl (own at end e)
+tagged-by ty (explicit n) v at end d own e = let w = wrapper-view afterOf v at end d n (λ a e. unwrapped ty (explicit n) v a e) e in filling (w .2) (own (w .0) (w .0 + w .1) (w .3)) (w .4)
+
+-- elements, where one is made wherever it is decoded
+elements-by : (v : List ℕ) (ty : Ty) → ((i stop : ℕ) (d : Decoded) → unwrapped ty untagged v i stop ≡ some d → Decodes v ty untagged i stop (d .value) (d .after))
+    → (k stop i : ℕ) (xs : Values) → many (λ i stop. unwrapped ty untagged v i stop) k stop i ≡ some xs → Elements v ty stop k i xs
+elements-by v ty one k stop i xs e = go k i xs e
+  where
+    f : ℕ → ℕ → Option Decoded
+    f i stop = unwrapped ty untagged v i stop
+
+    over : (k i : ℕ) (xs : Values) → many f k stop i ≡ some xs → stop ≤ i → Elements v ty stop k i xs
+    over k i xs e q = subst (Elements v ty stop k i) (some-same endValues xs (sym (many-end f stop i k q) ∙ e)) (ends q)
+
+    go : (k i : ℕ) (xs : Values) → many f k stop i ≡ some xs → Elements v ty stop k i xs
+    go zero i xs e = by (ltb i stop) refl
+      where
+        by : (x : Bool) → ltb i stop ≡ x → Elements v ty stop zero i xs
+        by true q = none-some xs (sym (many-zero f stop i (ltb-true i stop q)) ∙ e)
+        by false q = over zero i xs e (ltb-false i stop q)
+    go (suc k) i xs e = by (ltb i stop) refl (λ j ys. go k j ys)
+      where
+        by : (x : Bool) → ltb i stop ≡ x → ((j : ℕ) (ys : Values) → many f k stop j ≡ some ys → Elements v ty stop k j ys) → Elements v ty stop (suc k) i xs
+        by false q rest = over (suc k) i xs e (ltb-false i stop q)
+        by true q rest =
+            let w = next-view (λ j. many f k stop j) (f i stop) xs (sym (many-more f stop i k (ltb-true i stop q)) ∙ e) in
+            subst (Elements v ty stop (suc k) i) (w .4) (goes (ltb-true i stop q) (one i stop (w .0) (w .2)) (rest (w .0 .after) (w .1) (w .3)))
+
+mutual
+  unfolding unwrapped
+
+  pub decodes : (ty : Ty) (g : Tagging) (v : List ℕ) (at end : ℕ) (d : Decoded) → unwrapped ty g v at end ≡ some d → Decodes v ty g at end (d .value) (d .after)
+  decodes (basic k) g v at end d e = let w = leaf-view v at end d k g e in subst (λ (y : Decoded). Decodes v (basic k) g at end (y .value) (y .after)) (w .4) (is-basic (behind (w .2)) (w .3))
+  decodes (sequence ms) g v at end d e =
+      let w = fields-view v at end d ms g e in
+      subst (λ (y : Decoded). Decodes v (sequence ms) g at end (y .value) (y .after)) (w .5) (is-sequence (behind (w .3)) (decodes-fields ms v (w .0 + w .1) (w .0) (w .2) (w .4)))
+  decodes (choice ms) g v at end d e = is-choice (decodes-choice ms v at end d e)
+  decodes (listOf k ty) g v at end d e =
+      let w = elements-view v at end d k ty g e in
+      subst (λ (y : Decoded). Decodes v (listOf k ty) g at end (y .value) (y .after)) (w .6)
+      (is-list (behind (w .3)) (elements-by v ty (λ i stop x q. decodes ty untagged v i stop x q) (w .1) (w .0 + w .1) (w .0) (w .2) (w .4)) (w .5))
+
+  decodes-fields : (ms : Members) (v : List ℕ) (stop i : ℕ) (fs : Fields) → fieldsFrom ms v stop i ≡ some fs → Fielded v stop ms i fs
+  decodes-fields noMore v stop i fs e = let w = pick-view (eqb i stop) endFields fs e in subst (Fielded v stop noMore i) (w .1) (none-left (eqb-true i stop (w .0)))
+  decodes-fields (more m ty ms) v stop i fs e = go (startsHere m ty v stop i) refl (λ d q. tagged-by ty (m .tagging) v i stop d (λ a z r. decodes ty (m .tagging) v a z d r) q) (λ j gs r. decodes-fields ms v stop j gs r) e
+    where
+      member : Option Decoded
+      member = inWrapper afterOf (m .tagging) (λ a e. unwrapped ty (m .tagging) v a e) v i stop
+
+      go : (x : Bool) → startsHere m ty v stop i ≡ x → ((d : Decoded) → member ≡ some d → Tagged v ty (m .tagging) i stop (d .value) (d .after)) → ((j : ℕ) (gs : Fields) → fieldsFrom ms v stop j ≡ some gs → Fielded v stop ms j gs)
+          → pick x (presentThen m (λ i. fieldsFrom ms v stop i) member) (absentThen m (fieldsFrom ms v stop i)) ≡ some fs → Fielded v stop (more m ty ms) i fs
+      go true q own rest f =
+          let w = present-view m (λ i. fieldsFrom ms v stop i) member fs f in
+          subst (Fielded v stop (more m ty ms) i) (w .5) (there q (own (w .0) (w .2)) (w .3) (rest (w .0 .after) (w .1) (w .4)))
+      go false q own rest f = let w = absent-view m (fieldsFrom ms v stop i) fs f in subst (Fielded v stop (more m ty ms) i) (w .3) (lacks q (w .1) (rest i (w .0) (w .2)))
+
+  decodes-choice : (ms : Members) (v : List ℕ) (at end : ℕ) (d : Decoded) → alternativeFrom ms v at end ≡ some d → Chosen v end at ms (d .value) (d .after)
+  decodes-choice noMore v at end d e = none-some d e
+  decodes-choice (more m ty ms) v at end d e = go (startsHere m ty v end at) refl (λ x q. tagged-by ty (m .tagging) v at end x (λ a z r. decodes ty (m .tagging) v a z x r) q) (λ q. decodes-choice ms v at end d q) e
+    where
+      alternative : Option Decoded
+      alternative = inWrapper afterOf (m .tagging) (λ a e. unwrapped ty (m .tagging) v a e) v at end
+
+      go : (b : Bool) → startsHere m ty v end at ≡ b → ((x : Decoded) → alternative ≡ some x → Tagged v ty (m .tagging) at end (x .value) (x .after)) → (alternativeFrom ms v at end ≡ some d → Chosen v end at ms (d .value) (d .after))
+          → pick b (choiceOf m v at end alternative) (alternativeFrom ms v at end) ≡ some d → Chosen v end at (more m ty ms) (d .value) (d .after)
+      go true q own others f =
+          let w = choice-view v at end d m alternative f in
+          subst (λ (y : Decoded). Chosen v end at (more m ty ms) (y .value) (y .after)) (w .5) (this q (own (w .0) (w .3)) (w .4) refl)
+      go false q own others f = other q (others f)
+
+-- under a tag mode
+pub decodes-tagged : (ty : Ty) (g : Tagging) (v : List ℕ) (at end : ℕ) (d : Decoded) → decode ty g v at end ≡ some d → Tagged v ty g at end (d .value) (d .after)
+unfolding decode
+decodes-tagged ty g v at end d e = tagged-by ty g v at end d (λ a z. decodes ty g v a z d) e
+
+-- a stored value, from the first octet to the last
+pub decodes-stored : (ty : Ty) (v : List ℕ) (x : Value) → storedValue ty v ≡ some x → Decodes v ty untagged 0 (length v) x (length v)
+unfolding storedValue decode inWrapper
+decodes-stored ty v x e =
+    let w = bind-view (unwrapped ty untagged v 0 (length v)) (λ d. pick (eqb (d .after) (length v)) (some (d .value)) none) x e in
+    let p = pick-view (eqb (w .0 .after) (length v)) (w .0 .value) x (w .2) in
+    subst (λ (y : Value). Decodes v ty untagged 0 (length v) y (length v)) (p .1)
+    (subst (Decodes v ty untagged 0 (length v) (w .0 .value)) (eqb-true (w .0 .after) (length v) (p .0)) (decodes ty untagged v 0 (length v) (w .0) (w .1)))
