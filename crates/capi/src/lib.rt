@@ -100,7 +100,8 @@ pub extern "C" fn tezqulom_list(
     room: &mut [u64],
 ) -> CAnswer
     ensures { λ r. ⌜ listSeen r (now (room .exit))
-        ≡ ofListing (listing.listReport limits (now (table .entry)) (now (value .entry)) (isSet given) (now (reference .entry)) (isSet defaults) (now (room .entry))) ⌝ }
+        ≡ ofListing (listing.listReport limits (now (table .entry)) (now (value .entry)) (isSet given) (now (reference .entry)) (isSet defaults)
+        (now (room .entry))) ⌝ }
 {
     of_listed(engine::list(table, value, given != 0, reference, defaults != 0, room))
 }

@@ -28,6 +28,7 @@ ghost use Rattle.engine.specs.Answer as answer;
 ghost use Rattle.engine.specs.Listing.{report, lists, walked, referenceFits, listingFits, givenIds, withIds, listingOf, listReport, listing};
 ghost use Rattle.engine.specs.Paper.{limits};
 ghost use Rattle.rows.specs.Paper.{tableLimits};
+ghost use Rattle.table.specs.Rows.{rowType};
 
 // The answer of the listing: the number of named values, or a refusal.
 pub enum Listed {
@@ -73,7 +74,7 @@ fn listing_fits(table: &[u8], value: &[u8], given: bool, reference: &[u8]) -> bo
 fn is_allowed(t: &[u8], s: &[usize], m: &[u64], given: bool, r: &[u8]) -> bool
     requires sound { ⌜ Sound (tableLimits .chain) (now t) (now s) (now m) ⌝ }
     requires rows { ⌜ 0 < length (now s) ⌝ }
-    ensures { λ b. ⌜ b ≡ isSome (leadsTo given (now (r .entry)) (typeFrom (tableLimits .chain) (now (t .entry)) (now (s .entry)) 0)) ⌝ }
+    ensures { λ b. ⌜ b ≡ isSome (leadsTo given (now (r .entry)) (rowType (now (t .entry)) (now (s .entry)) 0)) ⌝ }
 {
     match reference::target_of(t, s, m, given, r) {
         Target::Row(_) => true,
@@ -105,7 +106,9 @@ fn list_walked(
     requires rows { ⌜ 0 < length (now s) ⌝ }
     requires small { ⌜ length (now v) < 18446744073709551615 ⌝ }
     requires read { ⌜ isSome (pick given (readReference (now r)) (some [])) ≡ true ⌝ }
-    ensures { λ a. ⌜ listing a (now (room .exit)) ≡ walked (trail defaults (idsOr (pick given (readReference (now (r .entry))) (some []))) (typeFrom (tableLimits .chain) (now (t .entry)) (now (s .entry)) 0) (now (v .entry))) (now (room .entry)) ⌝ }
+    ensures { λ a. ⌜ listing a (now (room .exit))
+        ≡ walked (trail defaults (idsOr (pick given (readReference (now (r .entry))) (some []))) (rowType (now (t .entry)) (now (s .entry)) 0)
+        (now (v .entry))) (now (room .entry)) ⌝ }
 {
     let limit = too_many(room.len());
     let State::Going(n) = walk::walk_value(
@@ -144,7 +147,8 @@ fn list_typed(
     requires sound { ⌜ Sound (tableLimits .chain) (now t) (now s) (now m) ⌝ }
     requires rows { ⌜ 0 < length (now s) ⌝ }
     requires small { ⌜ length (now v) < 18446744073709551615 ⌝ }
-    ensures { λ a. ⌜ listing a (now (room .exit)) ≡ withIds (typeFrom (tableLimits .chain) (now (t .entry)) (now (s .entry)) 0) (now (v .entry)) defaults (now (room .entry)) (givenIds given (now (r .entry))) ⌝ }
+    ensures { λ a. ⌜ listing a (now (room .exit))
+        ≡ withIds (rowType (now (t .entry)) (now (s .entry)) 0) (now (v .entry)) defaults (now (room .entry)) (givenIds given (now (r .entry))) ⌝ }
 {
     if !is_allowed(t, s, m, given, r) {
         return Listed::Refused(3);
@@ -165,7 +169,8 @@ fn list_admitted(
     room: &mut [u64],
 ) -> Listed
     requires small { ⌜ length (now value) < 18446744073709551615 ⌝ }
-    ensures { λ a. ⌜ listing a (now (room .exit)) ≡ listingOf limits (now (table .entry)) (now (value .entry)) given (now (reference .entry)) defaults (now (room .entry)) ⌝ }
+    ensures { λ a. ⌜ listing a (now (room .exit))
+        ≡ listingOf limits (now (table .entry)) (now (value .entry)) given (now (reference .entry)) defaults (now (room .entry)) ⌝ }
 {
     let mut starts = [0usize; Table::MAX_ROWS];
     let mut masks = [0u64; Table::MAX_ROWS];
@@ -246,7 +251,9 @@ fn question_fits(table: &[u8], value: &[u8], filter: &[u8], budget: u64) -> bool
 fn ask_judged(t: &[u8], s: &[usize], m: &[u64], v: &[u8], filter: &[u8], budget: usize) -> Answer
     requires ready { ⌜ Ready (tableLimits .chain) (now t) (now s) (now m) (now v) ⌝ }
     requires read { ⌜ isSome (filterAt (now filter) 0) ≡ true ⌝ }
-    ensures { λ a. ⌜ answer.report a ≡ answer.judgedReport (judgedText (outcome (typeFrom (tableLimits .chain) (now (t .entry)) (now (s .entry)) 0) (now (v .entry))) budget (filterAt (now (filter .entry)) 0)) ⌝ }
+    ensures { λ a. ⌜ answer.report a
+        ≡ answer.judgedReport (judgedText (outcome (rowType (now (t .entry)) (now (s .entry)) 0) (now (v .entry))) budget
+        (filterAt (now (filter .entry)) 0)) ⌝ }
 {
     match judge::judge(t, s, m, v, filter, budget) {
         Judged::Of(u, n) => Answer::of(u, n),
@@ -261,7 +268,8 @@ fn ask_typed(t: &[u8], s: &[usize], m: &[u64], v: &[u8], filter: &[u8], budget: 
     requires names { ⌜ NamesDiffer (now t) (now s) ⌝ }
     requires rows { ⌜ 0 < length (now s) ⌝ }
     requires short { ⌜ length (now v) ≤ 65536 ⌝ }
-    ensures { λ a. ⌜ answer.report a ≡ answer.withFilter (typeFrom (tableLimits .chain) (now (t .entry)) (now (s .entry)) 0) (now (v .entry)) budget (parse filterLimits (now (filter .entry))) ⌝ }
+    ensures { λ a. ⌜ answer.report a
+        ≡ answer.withFilter (rowType (now (t .entry)) (now (s .entry)) 0) (now (v .entry)) budget (parse filterLimits (now (filter .entry))) ⌝ }
 {
     let Reading::Good(_) = filter::read(filter) else {
         return Answer::Refused(3);

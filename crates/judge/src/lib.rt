@@ -33,6 +33,7 @@ ghost use Rattle.walk.specs.Run as run;
 ghost use Rattle.judge.specs.Assertion.{testing, outcome};
 ghost use Rattle.judge.specs.Work as work;
 ghost use Rattle.rows.specs.Paper.{tableLimits};
+ghost use Rattle.table.specs.Rows.{rowType};
 
 pub enum Verdict {
     True,
@@ -94,7 +95,9 @@ fn is_asked(
 ) -> bool
     requires sound { ⌜ Sound (tableLimits .chain) (now t) (now s) (now m) ⌝ }
     requires rows { ⌜ 0 < length (now s) ⌝ }
-    ensures { λ b. ⌜ b ≡ both (work.suitsAny (meant rule) (reference.leadsTo given (now (r .entry)) (typeFrom (tableLimits .chain) (now (t .entry)) (now (s .entry)) 0))) (conforms (meant rule) (now (text .entry))) ⌝ }
+    ensures { λ b. ⌜ b
+        ≡ both (work.suitsAny (meant rule) (reference.leadsTo given (now (r .entry)) (rowType (now (t .entry)) (now (s .entry)) 0)))
+        (conforms (meant rule) (now (text .entry))) ⌝ }
 {
     let target = reference::target_of(t, s, m, given, r);
     if !suits_target(rule, t, s, m, target) {
@@ -115,7 +118,8 @@ fn asked_rule(
 ) -> Named
     requires sound { ⌜ Sound (tableLimits .chain) (now t) (now s) (now m) ⌝ }
     requires rows { ⌜ 0 < length (now s) ⌝ }
-    ensures { λ w. ⌜ toldRule w ≡ work.askedRule (reference.leadsTo given (now (r .entry)) (typeFrom (tableLimits .chain) (now (t .entry)) (now (s .entry)) 0)) (now (name .entry)) (now (text .entry)) ⌝ }
+    ensures { λ w. ⌜ toldRule w
+        ≡ work.askedRule (reference.leadsTo given (now (r .entry)) (rowType (now (t .entry)) (now (s .entry)) 0)) (now (name .entry)) (now (text .entry)) ⌝ }
 {
     let Named::Known(rule) = rules::rule_of(name) else {
         return Named::Unknown;
@@ -143,7 +147,10 @@ fn judge_asked(
     requires ready { ⌜ work.Ready (tableLimits .chain) (now t) (now s) (now m) (now v) ⌝ }
     requires read { ⌜ isSome (pick given (readReference (now r)) (some [])) ≡ true ⌝ }
     requires within { ⌜ n ≤ budget ⌝ }
-    ensures { λ w. ⌜ w ≡ work.charged budget n (testing (run.acceptsRead (meant rule) (now (text .entry))) 0 (trail defaults (run.idsOr (pick given (readReference (now (r .entry))) (some []))) (typeFrom (tableLimits .chain) (now (t .entry)) (now (s .entry)) 0) (now (v .entry)))) ⌝ }
+    ensures { λ w. ⌜ w
+        ≡ work.charged budget n (testing (run.acceptsRead (meant rule) (now (text .entry))) 0
+        (trail defaults (run.idsOr (pick given (readReference (now (r .entry))) (some []))) (rowType (now (t .entry)) (now (s .entry)) 0)
+        (now (v .entry)))) ⌝ }
 {
     let mut out = [0u64; 1];
     let task = Task::Test(rule, budget);
@@ -171,7 +178,9 @@ fn judge_item(
 ) -> Judged
     requires ready { ⌜ work.Ready (tableLimits .chain) (now t) (now s) (now m) (now v) ⌝ }
     requires within { ⌜ n ≤ budget ⌝ }
-    ensures { λ w. ⌜ w ≡ work.charged budget n (outcome (typeFrom (tableLimits .chain) (now (t .entry)) (now (s .entry)) 0) (now (v .entry)) (work.itemGiven given (now (r .entry)) defaults (now (name .entry)) (now (text .entry)))) ⌝ }
+    ensures { λ w. ⌜ w
+        ≡ work.charged budget n (outcome (rowType (now (t .entry)) (now (s .entry)) 0) (now (v .entry))
+        (work.itemGiven given (now (r .entry)) defaults (now (name .entry)) (now (text .entry)))) ⌝ }
 {
     match asked_rule(t, s, m, given, r, name, text) {
         Named::Known(rule) => judge_asked(t, s, m, v, given, r, defaults, rule, text, budget, n),
@@ -195,7 +204,9 @@ fn judge_component(
 ) -> Judged
     requires ready { ⌜ work.Ready (tableLimits .chain) (now t) (now s) (now m) (now v) ⌝ }
     requires within { ⌜ n ≤ budget ⌝ }
-    ensures { λ w. ⌜ w ≡ work.charged budget n (outcome (typeFrom (tableLimits .chain) (now (t .entry)) (now (s .entry)) 0) (now (v .entry)) (work.itemAt (now (f .entry)) component defaults (now (name .entry)) (now (text .entry)))) ⌝ }
+    ensures { λ w. ⌜ w
+        ≡ work.charged budget n (outcome (rowType (now (t .entry)) (now (s .entry)) 0) (now (v .entry))
+        (work.itemAt (now (f .entry)) component defaults (now (name .entry)) (now (text .entry)))) ⌝ }
 {
     match component {
         Component::Missing => judge_item(t, s, m, v, false, f, defaults, name, text, budget, n),
@@ -228,7 +239,7 @@ fn judge_parts(
 ) -> Judged
     requires ready { ⌜ work.Ready (tableLimits .chain) (now t) (now s) (now m) (now v) ⌝ }
     requires within { ⌜ n ≤ budget ⌝ }
-    ensures { λ w. ⌜ w ≡ work.charged budget n (outcome (typeFrom (tableLimits .chain) (now (t .entry)) (now (s .entry)) 0) (now (v .entry)) (itemOf (now (f .entry)) p)) ⌝ }
+    ensures { λ w. ⌜ w ≡ work.charged budget n (outcome (rowType (now (t .entry)) (now (s .entry)) 0) (now (v .entry)) (itemOf (now (f .entry)) p)) ⌝ }
 {
     let name = assertion::between(f, p.rule, p.rule_end);
     let text = assertion::between(f, p.value, p.value_end);
@@ -380,7 +391,9 @@ fn judge_assertion(
 ) -> Judging
     requires ready { ⌜ work.Ready (tableLimits .chain) (now t) (now s) (now m) (now v) ⌝ }
     requires within { ⌜ n ≤ budget ⌝ }
-    ensures { λ w. ⌜ w ≡ work.judgedFilter (outcome (typeFrom (tableLimits .chain) (now (t .entry)) (now (s .entry)) 0) (now (v .entry))) live budget n (parsing.made item (assertionAt (now (f .entry)) at)) ⌝ }
+    ensures { λ w. ⌜ w
+        ≡ work.judgedFilter (outcome (rowType (now (t .entry)) (now (s .entry)) 0) (now (v .entry))) live budget n
+        (parsing.made item (assertionAt (now (f .entry)) at)) ⌝ }
 {
     let Assertion::Good(parts) = assertion::read_assertion(f, at) else {
         return Judging::Fault;
@@ -436,7 +449,8 @@ fn judge_filter(
     requires ready { ⌜ work.Ready (tableLimits .chain) (now t) (now s) (now m) (now v) ⌝ }
     requires read { ⌜ isSome (parsing.filterAt (now f) at) ≡ true ⌝ }
     requires within { ⌜ n ≤ budget ⌝ }
-    ensures { λ w. ⌜ w ≡ work.judgedFilter (outcome (typeFrom (tableLimits .chain) (now (t .entry)) (now (s .entry)) 0) (now (v .entry))) live budget n (parsing.filterAt (now (f .entry)) at) ⌝ }
+    ensures { λ w. ⌜ w
+        ≡ work.judgedFilter (outcome (rowType (now (t .entry)) (now (s .entry)) 0) (now (v .entry))) live budget n (parsing.filterAt (now (f .entry)) at) ⌝ }
 {
     match filter::read_head(f, at) {
         Head::Assertion(p) => judge_assertion(t, s, m, v, f, p, live, budget, n),
@@ -463,7 +477,9 @@ fn judge_list(
     requires ready { ⌜ work.Ready (tableLimits .chain) (now t) (now s) (now m) (now v) ⌝ }
     requires read { ⌜ isSome (parsing.filtersAt (now f) at) ≡ true ⌝ }
     requires within { ⌜ n ≤ budget ⌝ }
-    ensures { λ w. ⌜ w ≡ work.judgedFilters (outcome (typeFrom (tableLimits .chain) (now (t .entry)) (now (s .entry)) 0) (now (v .entry))) (joinOf join) (work.begun live) budget n (parsing.filtersAt (now (f .entry)) at) ⌝ }
+    ensures { λ w. ⌜ w
+        ≡ work.judgedFilters (outcome (rowType (now (t .entry)) (now (s .entry)) 0) (now (v .entry))) (joinOf join) (work.begun live) budget n
+        (parsing.filtersAt (now (f .entry)) at) ⌝ }
 {
     let mut i = at;
     let mut k = n;
@@ -485,7 +501,8 @@ fn judge_list(
 pub fn judge(t: &[u8], s: &[usize], m: &[u64], v: &[u8], f: &[u8], budget: usize) -> Judged
     requires ready { ⌜ work.Ready (tableLimits .chain) (now t) (now s) (now m) (now v) ⌝ }
     requires read { ⌜ isSome (parsing.filterAt (now f) 0) ≡ true ⌝ }
-    ensures { λ w. ⌜ w ≡ work.judgedText (outcome (typeFrom (tableLimits .chain) (now (t .entry)) (now (s .entry)) 0) (now (v .entry))) budget (parsing.filterAt (now (f .entry)) 0) ⌝ }
+    ensures { λ w. ⌜ w
+        ≡ work.judgedText (outcome (rowType (now (t .entry)) (now (s .entry)) 0) (now (v .entry))) budget (parsing.filterAt (now (f .entry)) 0) ⌝ }
 {
     match judge_filter(t, s, m, v, f, 0, true, budget, 0) {
         Judging::At(u, k, _) => Judged::Of(u, k),

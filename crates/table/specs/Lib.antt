@@ -1,4 +1,5 @@
 pub mod Types
+pub mod Rows
 pub mod Begins
 pub mod Admitted
 pub mod Work

@@ -179,7 +179,9 @@ fn tags_differ(t: &[u8], s: &[usize], m: &mut [u64]) -> bool
 // ---- admission
 // Whether all clauses hold but those on chains and tags.
 fn rows_fit(t: &[u8], s: &[usize]) -> bool
-    ensures { λ r. ⌜ r ≡ both (admitted.rowsFormed (tableLimits .rows) (tableLimits .members) (tableLimits .name) (now (t .entry)) (now (s .entry))) (both (admitted.rowsNamed (now (t .entry)) (now (s .entry))) (admitted.membersAgree (now (t .entry)) (now (s .entry)))) ⌝ }
+    ensures { λ r. ⌜ r
+        ≡ both (admitted.rowsFormed (tableLimits .rows) (tableLimits .members) (tableLimits .name) (now (t .entry)) (now (s .entry)))
+        (both (admitted.rowsNamed (now (t .entry)) (now (s .entry))) (admitted.membersAgree (now (t .entry)) (now (s .entry)))) ⌝ }
 {
     if s.len() < 1 {
         return false;

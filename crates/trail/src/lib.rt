@@ -18,6 +18,7 @@ ghost use Rattle.trail.specs.Trail as trail;
 ghost use Rattle.trail.specs.Trail.{countFrom};
 ghost use Rattle.trail.specs.Work as work;
 ghost use Rattle.rows.specs.Paper.{tableLimits};
+ghost use Rattle.table.specs.Rows.{rowType, rowMembers, rowMember, rowTagging, rowMemberType};
 
 // A value whose header has been read: its place, where its contents start and how long they are.
 pub enum Opening {
@@ -80,7 +81,7 @@ fn own_header(
 ) -> Inside
     requires sound { ⌜ Sound (tableLimits .chain) (now t) (now s) (now m) ⌝ }
     requires here { ⌜ row < length (now s) ⌝ }
-    ensures { λ r. ⌜ r ≡ ownHeader (typeFrom (tableLimits .chain) (now (t .entry)) (now (s .entry)) row) (taggingOf mode number) (now (v .entry)) at end ⌝ }
+    ensures { λ r. ⌜ r ≡ ownHeader (rowType (now (t .entry)) (now (s .entry)) row) (taggingOf mode number) (now (v .entry)) at end ⌝ }
 {
     let kind = rows::kind_at(t, rows::row_at(s, row));
     if kind == 13 {
@@ -122,7 +123,7 @@ fn open_wrapped(
 ) -> Opening
     requires sound { ⌜ Sound (tableLimits .chain) (now t) (now s) (now m) ⌝ }
     requires here { ⌜ row < length (now s) ⌝ }
-    ensures { λ r. ⌜ work.openingTold r ≡ openAt (typeFrom (tableLimits .chain) (now (t .entry)) (now (s .entry)) row) (taggingOf 1 number) (now (v .entry)) at end ⌝ }
+    ensures { λ r. ⌜ work.openingTold r ≡ openAt (rowType (now (t .entry)) (now (s .entry)) row) (taggingOf 1 number) (now (v .entry)) at end ⌝ }
 {
     let Inside::Of(from, k) = der::open(der::wrapper_octet(number), v, at, end) else {
         return Opening::Misfit;
@@ -151,7 +152,7 @@ pub fn open_at(
 ) -> Opening
     requires sound { ⌜ Sound (tableLimits .chain) (now t) (now s) (now m) ⌝ }
     requires here { ⌜ row < length (now s) ⌝ }
-    ensures { λ r. ⌜ work.openingTold r ≡ openAt (typeFrom (tableLimits .chain) (now (t .entry)) (now (s .entry)) row) (taggingOf mode number) (now (v .entry)) at end ⌝ }
+    ensures { λ r. ⌜ work.openingTold r ≡ openAt (rowType (now (t .entry)) (now (s .entry)) row) (taggingOf mode number) (now (v .entry)) at end ⌝ }
 {
     if mode == 1 {
         return open_wrapped(t, s, m, v, row, number, at, end);
@@ -175,7 +176,8 @@ pub fn open_member(
 ) -> Opening
     requires sound { ⌜ Sound (tableLimits .chain) (now t) (now s) (now m) ⌝ }
     requires target { ⌜ typeRowAt (now t) (rowAt (now s) row) < length (now s) ⌝ }
-    ensures { λ r. ⌜ work.openingTold r ≡ openAt (typeFrom (tableLimits .chain) (now (t .entry)) (now (s .entry)) (typeRowAt (now (t .entry)) (rowAt (now (s .entry)) row))) (taggingOf (modeAt (now (t .entry)) (rowAt (now (s .entry)) row)) (numberAt (now (t .entry)) (rowAt (now (s .entry)) row))) (now (v .entry)) at end ⌝ }
+    ensures { λ r. ⌜ work.openingTold r
+        ≡ openAt (rowMemberType (now (t .entry)) (now (s .entry)) row) (rowTagging (now (t .entry)) (now (s .entry)) row) (now (v .entry)) at end ⌝ }
 {
     let p = rows::row_at(s, row);
     let mode = rows::mode_at(t, p);
@@ -210,7 +212,7 @@ pub fn open_element(
     requires sound { ⌜ Sound (tableLimits .chain) (now t) (now s) (now m) ⌝ }
     requires here { ⌜ row < length (now s) ⌝ }
     requires tagged { ⌜ tag ≡ work.elementTag (kindAt (now t) (rowAt (now s) row)) ⌝ }
-    ensures { λ r. ⌜ work.openingTold r ≡ openAt (typeFrom (tableLimits .chain) (now (t .entry)) (now (s .entry)) row) (taggingOf 0 0) (now (v .entry)) at end ⌝ }
+    ensures { λ r. ⌜ work.openingTold r ≡ openAt (rowType (now (t .entry)) (now (s .entry)) row) (taggingOf 0 0) (now (v .entry)) at end ⌝ }
 {
     if tag == 0 {
         return open_at(t, s, m, v, row, 0, 0, at, end);
@@ -231,7 +233,8 @@ pub fn count_elements(
     requires sound { ⌜ Sound (tableLimits .chain) (now t) (now s) (now m) ⌝ }
     requires here { ⌜ row < length (now s) ⌝ }
     requires ordered { ⌜ start ≤ stop ⌝ }
-    ensures { λ r. ⌜ work.countedTold r ≡ countFrom (openAt (typeFrom (tableLimits .chain) (now (t .entry)) (now (s .entry)) row) untagged (now (v .entry))) (stop - start) stop 0 start ⌝ }
+    ensures { λ r. ⌜ work.countedTold r
+        ≡ countFrom (openAt (rowType (now (t .entry)) (now (s .entry)) row) untagged (now (v .entry))) (stop - start) stop 0 start ⌝ }
 {
     let tag = element_tag(t, s, row);
     let mut i = start;
@@ -269,7 +272,8 @@ pub fn nth_element(
     requires sound { ⌜ Sound (tableLimits .chain) (now t) (now s) (now m) ⌝ }
     requires here { ⌜ row < length (now s) ⌝ }
     requires ordered { ⌜ start ≤ stop ⌝ }
-    ensures { λ r. ⌜ work.nthTold r ≡ work.nthFrom (openAt (typeFrom (tableLimits .chain) (now (t .entry)) (now (s .entry)) row) untagged (now (v .entry))) (stop - start) stop n start ⌝ }
+    ensures { λ r. ⌜ work.nthTold r
+        ≡ work.nthFrom (openAt (rowType (now (t .entry)) (now (s .entry)) row) untagged (now (v .entry))) (stop - start) stop n start ⌝ }
 {
     let tag = element_tag(t, s, row);
     let mut i = start;
@@ -313,7 +317,10 @@ fn look_there(
 ) -> Look
     requires sound { ⌜ Sound (tableLimits .chain) (now t) (now s) (now m) ⌝ }
     requires target { ⌜ typeRowAt (now t) (rowAt (now s) row) < length (now s) ⌝ }
-    ensures looks { λ l. ⌜ work.lookTold (tableLimits .chain) (now (t .entry)) (now (s .entry)) l ≡ work.orBroken (work.thereOr (same (unfilled (nameAt (now (t .entry)) (rowAt (now (s .entry)) row))) (part (now (r .entry)) a (b - a))) (typeFrom (tableLimits .chain) (now (t .entry)) (now (s .entry)) (typeRowAt (now (t .entry)) (rowAt (now (s .entry)) row)))) (openAt (typeFrom (tableLimits .chain) (now (t .entry)) (now (s .entry)) (typeRowAt (now (t .entry)) (rowAt (now (s .entry)) row))) (taggingOf (modeAt (now (t .entry)) (rowAt (now (s .entry)) row)) (numberAt (now (t .entry)) (rowAt (now (s .entry)) row))) (now (v .entry)) i stop) ⌝ }
+    ensures looks { λ l. ⌜ work.lookTold (tableLimits .chain) (now (t .entry)) (now (s .entry)) l
+        ≡ work.orBroken (work.thereOr (same (unfilled (nameAt (now (t .entry)) (rowAt (now (s .entry)) row))) (part (now (r .entry)) a (b - a)))
+        (rowMemberType (now (t .entry)) (now (s .entry)) row))
+        (openAt (rowMemberType (now (t .entry)) (now (s .entry)) row) (rowTagging (now (t .entry)) (now (s .entry)) row) (now (v .entry)) i stop) ⌝ }
     ensures lands { λ l. ⌜ work.looksIn (now (s .entry)) stop l ≡ true ⌝ }
 {
     let p = rows::row_at(s, row);
@@ -328,7 +335,9 @@ fn look_there(
 
 // A member that is not there.
 fn look_absent(t: &[u8], s: &[usize], row: usize, r: &[u8], a: usize, b: usize, i: usize) -> Look
-    ensures { λ l. ⌜ work.lookTold (tableLimits .chain) (now (t .entry)) (now (s .entry)) l ≡ pick (same (unfilled (nameAt (now (t .entry)) (rowAt (now (s .entry)) row))) (part (now (r .entry)) a (b - a))) (work.landed (trail.lacking (memberOf (now (t .entry)) row (rowAt (now (s .entry)) row)))) (work.onward i) ⌝ }
+    ensures { λ l. ⌜ work.lookTold (tableLimits .chain) (now (t .entry)) (now (s .entry)) l
+        ≡ pick (same (unfilled (nameAt (now (t .entry)) (rowAt (now (s .entry)) row))) (part (now (r .entry)) a (b - a)))
+        (work.landed (trail.lacking (rowMember (now (t .entry)) (now (s .entry)) row))) (work.onward i) ⌝ }
 {
     if reference::is_named(t, rows::row_at(s, row), r, a, b) {
         return Look::Lacking(row);
@@ -353,7 +362,9 @@ fn look_member(
     requires here { ⌜ row < length (now s) ⌝ }
     requires member { ⌜ kindAt (now t) (rowAt (now s) row) ≡ 16 ⌝ }
     requires target { ⌜ typeRowAt (now t) (rowAt (now s) row) < length (now s) ⌝ }
-    ensures looks { λ l. ⌜ work.lookTold (tableLimits .chain) (now (t .entry)) (now (s .entry)) l ≡ work.memberLook (part (now (r .entry)) a (b - a)) (memberOf (now (t .entry)) row (rowAt (now (s .entry)) row)) (typeFrom (tableLimits .chain) (now (t .entry)) (now (s .entry)) (typeRowAt (now (t .entry)) (rowAt (now (s .entry)) row))) (now (v .entry)) stop i ⌝ }
+    ensures looks { λ l. ⌜ work.lookTold (tableLimits .chain) (now (t .entry)) (now (s .entry)) l
+        ≡ work.memberLook (part (now (r .entry)) a (b - a)) (rowMember (now (t .entry)) (now (s .entry)) row)
+        (rowMemberType (now (t .entry)) (now (s .entry)) row) (now (v .entry)) stop i ⌝ }
     ensures lands { λ l. ⌜ work.looksIn (now (s .entry)) stop l ≡ true ⌝ }
 {
     if is_there(t, m, rows::row_at(s, row), v, stop, i) {
@@ -377,7 +388,8 @@ pub fn find_member(
 ) -> Found
     requires sound { ⌜ Sound (tableLimits .chain) (now t) (now s) (now m) ⌝ }
     requires here { ⌜ row < length (now s) ⌝ }
-    ensures found { λ f. ⌜ work.foundTold (tableLimits .chain) (now (t .entry)) (now (s .entry)) f ≡ trail.findMember (part (now (r .entry)) a (b - a)) (membersFrom (typeFrom (tableLimits .chain) (now (t .entry)) (now (s .entry))) (now (t .entry)) (now (s .entry)) (row + 1) (membersAt (now (t .entry)) (rowAt (now (s .entry)) row))) (now (v .entry)) stop start ⌝ }
+    ensures found { λ f. ⌜ work.foundTold (tableLimits .chain) (now (t .entry)) (now (s .entry)) f
+        ≡ trail.findMember (part (now (r .entry)) a (b - a)) (rowMembers (now (t .entry)) (now (s .entry)) row) (now (v .entry)) stop start ⌝ }
     ensures lands { λ f. ⌜ work.landsIn (now (s .entry)) stop f ≡ true ⌝ }
 {
     let n = rows::members_at(t, rows::row_at(s, row));
@@ -413,7 +425,10 @@ fn look_chosen(
 ) -> Found
     requires sound { ⌜ Sound (tableLimits .chain) (now t) (now s) (now m) ⌝ }
     requires target { ⌜ typeRowAt (now t) (rowAt (now s) row) < length (now s) ⌝ }
-    ensures found { λ f. ⌜ work.foundTold (tableLimits .chain) (now (t .entry)) (now (s .entry)) f ≡ work.chosenAs (same (unfilled (nameAt (now (t .entry)) (rowAt (now (s .entry)) row))) (part (now (r .entry)) a (b - a))) (typeFrom (tableLimits .chain) (now (t .entry)) (now (s .entry)) (typeRowAt (now (t .entry)) (rowAt (now (s .entry)) row))) (openAt (typeFrom (tableLimits .chain) (now (t .entry)) (now (s .entry)) (typeRowAt (now (t .entry)) (rowAt (now (s .entry)) row))) (taggingOf (modeAt (now (t .entry)) (rowAt (now (s .entry)) row)) (numberAt (now (t .entry)) (rowAt (now (s .entry)) row))) (now (v .entry)) at stop) ⌝ }
+    ensures found { λ f. ⌜ work.foundTold (tableLimits .chain) (now (t .entry)) (now (s .entry)) f
+        ≡ work.chosenAs (same (unfilled (nameAt (now (t .entry)) (rowAt (now (s .entry)) row))) (part (now (r .entry)) a (b - a)))
+        (rowMemberType (now (t .entry)) (now (s .entry)) row)
+        (openAt (rowMemberType (now (t .entry)) (now (s .entry)) row) (rowTagging (now (t .entry)) (now (s .entry)) row) (now (v .entry)) at stop) ⌝ }
     ensures lands { λ f. ⌜ work.landsIn (now (s .entry)) stop f ≡ true ⌝ }
 {
     let p = rows::row_at(s, row);
@@ -441,7 +456,8 @@ pub fn find_chosen(
 ) -> Found
     requires sound { ⌜ Sound (tableLimits .chain) (now t) (now s) (now m) ⌝ }
     requires here { ⌜ row < length (now s) ⌝ }
-    ensures found { λ f. ⌜ work.foundTold (tableLimits .chain) (now (t .entry)) (now (s .entry)) f ≡ trail.findAlternative (part (now (r .entry)) a (b - a)) (membersFrom (typeFrom (tableLimits .chain) (now (t .entry)) (now (s .entry))) (now (t .entry)) (now (s .entry)) (row + 1) (membersAt (now (t .entry)) (rowAt (now (s .entry)) row))) (now (v .entry)) stop at ⌝ }
+    ensures found { λ f. ⌜ work.foundTold (tableLimits .chain) (now (t .entry)) (now (s .entry)) f
+        ≡ trail.findAlternative (part (now (r .entry)) a (b - a)) (rowMembers (now (t .entry)) (now (s .entry)) row) (now (v .entry)) stop at ⌝ }
     ensures lands { λ f. ⌜ work.landsIn (now (s .entry)) stop f ≡ true ⌝ }
 {
     let n = rows::members_at(t, rows::row_at(s, row));
@@ -467,7 +483,8 @@ fn nth_found(
     requires sound { ⌜ Sound (tableLimits .chain) (now t) (now s) (now m) ⌝ }
     requires here { ⌜ row < length (now s) ⌝ }
     requires ends { ⌜ start + span ≤ length (now v) ⌝ }
-    ensures found { λ f. ⌜ work.foundTold (tableLimits .chain) (now (t .entry)) (now (s .entry)) f ≡ work.nthFound (typeFrom (tableLimits .chain) (now (t .entry)) (now (s .entry)) row) (now (v .entry)) start span i ⌝ }
+    ensures found { λ f. ⌜ work.foundTold (tableLimits .chain) (now (t .entry)) (now (s .entry)) f
+        ≡ work.nthFound (rowType (now (t .entry)) (now (s .entry)) row) (now (v .entry)) start span i ⌝ }
     ensures lands { λ f. ⌜ work.landsIn (now (s .entry)) (length (now (v .entry))) f ≡ true ⌝ }
 {
     match nth_element(t, s, m, v, row, start, start + span, i) {
@@ -491,7 +508,8 @@ fn far_found(
     requires sound { ⌜ Sound (tableLimits .chain) (now t) (now s) (now m) ⌝ }
     requires here { ⌜ row < length (now s) ⌝ }
     requires ends { ⌜ start + span ≤ length (now v) ⌝ }
-    ensures found { λ f. ⌜ work.foundTold (tableLimits .chain) (now (t .entry)) (now (s .entry)) f ≡ work.lastFound (typeFrom (tableLimits .chain) (now (t .entry)) (now (s .entry)) row) (now (v .entry)) start span i ⌝ }
+    ensures found { λ f. ⌜ work.foundTold (tableLimits .chain) (now (t .entry)) (now (s .entry)) f
+        ≡ work.lastFound (rowType (now (t .entry)) (now (s .entry)) row) (now (v .entry)) start span i ⌝ }
     ensures lands { λ f. ⌜ work.landsIn (now (s .entry)) (length (now (v .entry))) f ≡ true ⌝ }
 {
     let Counted::Of(size) = count_elements(t, s, m, v, row, start, start + span) else {
@@ -573,7 +591,8 @@ fn last_from(
     requires some { ⌜ 0 < i ⌝ }
     requires low { ⌜ stop < 65536 ⌝ }
     requires ordered { ⌜ at ≤ stop ⌝ }
-    ensures { λ r. ⌜ work.tailTold r ≡ work.tailFrom (openAt (typeFrom (tableLimits .chain) (now (t .entry)) (now (s .entry)) row) untagged (now (v .entry))) (stop - at) stop i at ⌝ }
+    ensures { λ r. ⌜ work.tailTold r
+        ≡ work.tailFrom (openAt (rowType (now (t .entry)) (now (s .entry)) row) untagged (now (v .entry))) (stop - at) stop i at ⌝ }
 {
     let tag = element_tag(t, s, row);
     let mut kept = [0u16; KEPT * 3];
@@ -621,7 +640,8 @@ fn last_found(
     requires sound { ⌜ Sound (tableLimits .chain) (now t) (now s) (now m) ⌝ }
     requires here { ⌜ row < length (now s) ⌝ }
     requires ends { ⌜ start + span ≤ length (now v) ⌝ }
-    ensures found { λ f. ⌜ work.foundTold (tableLimits .chain) (now (t .entry)) (now (s .entry)) f ≡ work.lastFound (typeFrom (tableLimits .chain) (now (t .entry)) (now (s .entry)) row) (now (v .entry)) start span i ⌝ }
+    ensures found { λ f. ⌜ work.foundTold (tableLimits .chain) (now (t .entry)) (now (s .entry)) f
+        ≡ work.lastFound (rowType (now (t .entry)) (now (s .entry)) row) (now (v .entry)) start span i ⌝ }
     ensures lands { λ f. ⌜ work.landsIn (now (s .entry)) (length (now (v .entry))) f ≡ true ⌝ }
 {
     if !is_near(start + span, i) {
@@ -651,7 +671,9 @@ pub fn locate_name(
     requires sound { ⌜ Sound (tableLimits .chain) (now t) (now s) (now m) ⌝ }
     requires here { ⌜ row < length (now s) ⌝ }
     requires ends { ⌜ start + span ≤ length (now v) ⌝ }
-    ensures found { λ f. ⌜ work.foundTold (tableLimits .chain) (now (t .entry)) (now (s .entry)) f ≡ work.located (name (part (now (r .entry)) a (b - a))) (typeFrom (tableLimits .chain) (now (t .entry)) (now (s .entry)) row) (now (v .entry)) (work.standing place start span) ⌝ }
+    ensures found { λ f. ⌜ work.foundTold (tableLimits .chain) (now (t .entry)) (now (s .entry)) f
+        ≡ work.located (name (part (now (r .entry)) a (b - a))) (rowType (now (t .entry)) (now (s .entry)) row) (now (v .entry))
+        (work.standing place start span) ⌝ }
     ensures lands { λ f. ⌜ work.landsIn (now (s .entry)) (length (now (v .entry))) f ≡ true ⌝ }
 {
     let kind = rows::kind_at(t, rows::row_at(s, row));
@@ -679,7 +701,8 @@ pub fn locate_position(
     requires sound { ⌜ Sound (tableLimits .chain) (now t) (now s) (now m) ⌝ }
     requires here { ⌜ row < length (now s) ⌝ }
     requires ends { ⌜ start + span ≤ length (now v) ⌝ }
-    ensures found { λ f. ⌜ work.foundTold (tableLimits .chain) (now (t .entry)) (now (s .entry)) f ≡ work.located (index (position i)) (typeFrom (tableLimits .chain) (now (t .entry)) (now (s .entry)) row) (now (v .entry)) (work.standing place start span) ⌝ }
+    ensures found { λ f. ⌜ work.foundTold (tableLimits .chain) (now (t .entry)) (now (s .entry)) f
+        ≡ work.located (index (position i)) (rowType (now (t .entry)) (now (s .entry)) row) (now (v .entry)) (work.standing place start span) ⌝ }
     ensures lands { λ f. ⌜ work.landsIn (now (s .entry)) (length (now (v .entry))) f ≡ true ⌝ }
 {
     let p = rows::row_at(s, row);
@@ -704,7 +727,8 @@ pub fn locate_from_end(
     requires sound { ⌜ Sound (tableLimits .chain) (now t) (now s) (now m) ⌝ }
     requires here { ⌜ row < length (now s) ⌝ }
     requires ends { ⌜ start + span ≤ length (now v) ⌝ }
-    ensures found { λ f. ⌜ work.foundTold (tableLimits .chain) (now (t .entry)) (now (s .entry)) f ≡ work.located (index (fromEnd i)) (typeFrom (tableLimits .chain) (now (t .entry)) (now (s .entry)) row) (now (v .entry)) (work.standing place start span) ⌝ }
+    ensures found { λ f. ⌜ work.foundTold (tableLimits .chain) (now (t .entry)) (now (s .entry)) f
+        ≡ work.located (index (fromEnd i)) (rowType (now (t .entry)) (now (s .entry)) row) (now (v .entry)) (work.standing place start span) ⌝ }
     ensures lands { λ f. ⌜ work.landsIn (now (s .entry)) (length (now (v .entry))) f ≡ true ⌝ }
 {
     let p = rows::row_at(s, row);

@@ -13,7 +13,7 @@ use Rattle.rows.specs.Row.{rowAt, typeRowAt, membersAt, modeAt, numberAt}
 use Rattle.table.specs.Types.{Tagging, taggingOf, Member, memberOf, Ty, membersFrom, typeFrom}
 use Rattle.table.specs.Work.{Sound}
 use Rattle.value.specs.Decode.{Decoded, startsHere, choiceOf, unwrapped, alternativeFrom, decode}
-use Rattle.value.specs.Work.{told, first, markedOf}
+use Rattle.value.specs.Work.{checked, first, markedOf}
 use Rattle.value.specs.declared.Checked.{Checked}
 use Rattle.value.proofs.Decodes.{decodes-tagged}
 use Rattle.value.proofs.Laws.{framed-by}
@@ -21,10 +21,10 @@ use Rattle.value.proofs.LeafSteps.{first-none, first-step}
 use Rattle.value.proofs.MemberSteps.{starts-as}
 
 -- a CHOICE is there where its alternative is
-told-choice : (mem : Member) (ty : Ty) (g : Tagging) (v : List ℕ) (at end : ℕ) → told (choiceOf mem v at end (decode ty g v at end)) ≡ told (decode ty g v at end)
+told-choice : (mem : Member) (ty : Ty) (g : Tagging) (v : List ℕ) (at end : ℕ) → checked (choiceOf mem v at end (decode ty g v at end)) ≡ checked (decode ty g v at end)
 told-choice mem ty g v at end = go (decode ty g v at end) refl
   where
-    go : (o : Option Decoded) → decode ty g v at end ≡ o → told (choiceOf mem v at end o) ≡ told o
+    go : (o : Option Decoded) → decode ty g v at end ≡ o → checked (choiceOf mem v at end o) ≡ checked o
     go none q = refl
     go (some d) q = let w = framed-by v (decodes-tagged ty g v at end d q) in rw (w .header)
 
@@ -86,8 +86,8 @@ module _ (chain : ℕ) (t s m : List ℕ) (row : ℕ) (ok : Sound chain t s m) (
         ∙ by-first n 0 b
         ∙ ap₂ (λ (x y : ℕ). pick (ltb x y) (taken x) none) (sym search) d
 
-    pub choice-none : n ≤ j → Checked.Bad ≡ told (alternativeFrom (membersFrom (typeFrom chain t s) t s (row + 1) (membersAt t (rowAt s row))) v at end)
-    choice-none h = sym (ap told (whole ∙ ap (λ (x : Bool). pick x (taken j) none) (le-ltb j n h)))
+    pub choice-none : n ≤ j → Checked.Bad ≡ checked (alternativeFrom (membersFrom (typeFrom chain t s) t s (row + 1) (membersAt t (rowAt s row))) v at end)
+    choice-none h = sym (ap checked (whole ∙ ap (λ (x : Bool). pick x (taken j) none) (le-ltb j n h)))
 
     module _ (l : j < n) where
       in-row : j < membersAt t (rowAt s row)
@@ -105,6 +105,6 @@ module _ (chain : ℕ) (t s m : List ℕ) (row : ℕ) (ok : Sound chain t s m) (
       pub choice-falls : (k : ℕ) → 5 * (length s - row) + 2 ≡ k → 5 * (length s - typeRowAt t (rowAt s (row + 1 + j))) + 5 < k
       choice-falls k e = let a = ok .later .of-member row here j in-row in let b = a .0 in let d = a .1 in omega arith
 
-      pub choice-is : (r : Checked) → r ≡ told (alternative j) → r ≡ told (alternativeFrom (membersFrom (typeFrom chain t s) t s (row + 1) (membersAt t (rowAt s row))) v at end)
-      choice-is r e = e ∙ sym (ap told (whole ∙ ap (λ (x : Bool). pick x (taken j) none) (lt-ltb j n l))
+      pub choice-is : (r : Checked) → r ≡ checked (alternative j) → r ≡ checked (alternativeFrom (membersFrom (typeFrom chain t s) t s (row + 1) (membersAt t (rowAt s row))) v at end)
+      choice-is r e = e ∙ sym (ap checked (whole ∙ ap (λ (x : Bool). pick x (taken j) none) (lt-ltb j n l))
           ∙ told-choice (memberOf t (row + 1 + j) (rowAt s (row + 1 + j))) (typeFrom chain t s (typeRowAt t (rowAt s (row + 1 + j)))) (taggingOf (modeAt t (rowAt s (row + 1 + j))) (numberAt t (rowAt s (row + 1 + j)))) v at end)

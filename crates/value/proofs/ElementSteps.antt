@@ -18,7 +18,7 @@ use Rattle.table.specs.Work.{Sound}
 use Rattle.value.specs.Value.{Value, Values, endValues, next, encoding}
 use Rattle.value.specs.Order.{rising}
 use Rattle.value.specs.Decode.{Decoded, nextThen, many, unwrapped}
-use Rattle.value.specs.Work.{told, upTo, inOrder, elementsTold, risingAfter, orderAfter, neighbours}
+use Rattle.value.specs.Work.{checked, upTo, inOrder, elementsChecked, risingAfter, orderAfter, neighbours}
 use Rattle.value.specs.declared.Checked.{Checked}
 use Rattle.value.proofs.Views.{many-end, many-more}
 use Rattle.value.proofs.Decodes.{decodes}
@@ -52,11 +52,11 @@ order-next k v p x (some xs) = go (eqb k kind.sequenceOf) (notAbove p (encoding 
     go true b c = refl
     go false b c = refl
 
-told-at : (o : Option Decoded) (x : ℕ) → Checked.At x ≡ told o → (d : Decoded) × (o ≡ some d) × (d .after ≡ x)
+told-at : (o : Option Decoded) (x : ℕ) → Checked.At x ≡ checked o → (d : Decoded) × (o ≡ some d) × (d .after ≡ x)
 told-at none x e = absurd (let z : _≡_ {A = ℕ} 0 1 = cc in omega arith)
 told-at (some d) x e = (d, refl, cc)
 
-told-bad : (o : Option Decoded) → Checked.Bad ≡ told o → o ≡ none
+told-bad : (o : Option Decoded) → Checked.Bad ≡ checked o → o ≡ none
 told-bad none e = refl
 told-bad (some d) e = absurd (let z : _≡_ {A = ℕ} 0 1 = cc in omega arith)
 
@@ -97,10 +97,10 @@ module _ (chain : ℕ) (t s m : List ℕ) (row : ℕ) (ok : Sound chain t s m) (
     pub element-falls : (z : ℕ) → 5 * (length s - row) + 2 ≡ z → 5 * (length s - e) + 3 < z
     element-falls z q = let a = ok .later .of-list row here list in let b = a .0 in let d = a .1 in let f = the-row in omega arith
 
-    module _ (before i : ℕ) (w : Listed chain t s row v start stop before i) (l : i < stop) (c : Checked) (asked : c ≡ told (unwrapped (typeFrom chain t s e) (taggingOf 0 0) v i stop)) where
-      asks : c ≡ told (one i stop)
+    module _ (before i : ℕ) (w : Listed chain t s row v start stop before i) (l : i < stop) (c : Checked) (asked : c ≡ checked (unwrapped (typeFrom chain t s e) (taggingOf 0 0) v i stop)) where
+      asks : c ≡ checked (one i stop)
       unfolding taggingOf
-      asks = asked ∙ ap (λ (x : ℕ). told (unwrapped (typeFrom chain t s x) untagged v i stop)) the-row
+      asks = asked ∙ ap (λ (x : ℕ). checked (unwrapped (typeFrom chain t s x) untagged v i stop)) the-row
 
       opens : (r : ℕ) × (w .n ≡ suc r) × (many one (w .n) stop i ≡ nextThen (λ j. many one r stop j) (one i stop))
       opens = go (w .n) (w .enough)
@@ -109,11 +109,11 @@ module _ (chain : ℕ) (t s m : List ℕ) (row : ℕ) (ok : Sound chain t s m) (
           go zero h = absurd (omega arith)
           go (suc r) h = (r, refl, many-more one stop i r l)
 
-      answer : elementsTold k element v stop start ≡ upTo stop (orderAfter k v (part v before (i - before)) (nextThen (λ j. many one (opens .0) stop j) (one i stop)))
-      unfolding elementsTold
+      answer : elementsChecked k element v stop start ≡ upTo stop (orderAfter k v (part v before (i - before)) (nextThen (λ j. many one (opens .0) stop j) (one i stop)))
+      unfolding elementsChecked
       answer = ap (upTo stop) (sym (w .same) ∙ ap (orderAfter k v (part v before (i - before))) (opens .2))
 
-      pub elements-bad : c ≡ Checked.Bad → Checked.Bad ≡ elementsTold k element v stop start
+      pub elements-bad : c ≡ Checked.Bad → Checked.Bad ≡ elementsChecked k element v stop start
       elements-bad b = sym (answer ∙ ap (λ (o : Option Decoded). upTo stop (orderAfter k v (part v before (i - before)) (nextThen (λ j. many one (opens .0) stop j) o))) (told-bad (one i stop) (sym b ∙ asks)))
 
       module _ (after : ℕ) (found : c ≡ Checked.At after) where
@@ -155,7 +155,7 @@ module _ (chain : ℕ) (t s m : List ℕ) (row : ℕ) (ok : Sound chain t s m) (
           in-order : neighbours k v before i after ≡ o
           in-order = sym (ordered ∙ ap (λ (x : ℕ). neighbours x v before i after) (kinded ∙ ap (kindAt t) placed))
 
-          pub elements-disorder : not o ≡ true → Checked.Bad ≡ elementsTold k element v stop start
+          pub elements-disorder : not o ≡ true → Checked.Bad ≡ elementsChecked k element v stop start
           elements-disorder h = sym (answer ∙ ap (upTo stop) (split ∙ ap (λ (x : Bool). both x (orderAfter k v (part v i (after - i)) (many one (opens .0) stop after))) (in-order ∙ not-true o h)))
 
           pub elements-again : not o ≡ false → Listed chain t s row v start stop i after
@@ -172,8 +172,8 @@ module _ (chain : ℕ) (t s m : List ℕ) (row : ℕ) (ok : Sound chain t s m) (
                 same = sym (split ∙ ap (λ (x : Bool). both x (orderAfter k v (part v i (after - i)) (many one (opens .0) stop after))) (in-order ∙ not-false o h)) ∙ ap (orderAfter k v (part v before (i - before))) (sym (opens .2)) ∙ w .same;
               }
 
-  pub elements-done : (before i : ℕ) → Listed chain t s row v start stop before i → stop ≤ i → Checked.At stop ≡ elementsTold k element v stop start
-  unfolding elementsTold risingAfter
+  pub elements-done : (before i : ℕ) → Listed chain t s row v start stop before i → stop ≤ i → Checked.At stop ≡ elementsChecked k element v stop start
+  unfolding elementsChecked risingAfter
   elements-done before i w h = ap (upTo stop) (sym (either-true (eqb k kind.sequenceOf)) ∙ ap (orderAfter k v (part v before (i - before))) (sym (many-end one stop i (w .n) h)) ∙ w .same)
     where
       either-true : (x : Bool) → either x true ≡ true

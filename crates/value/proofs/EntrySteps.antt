@@ -21,25 +21,25 @@ use Rattle.table.proofs.SoundLaws.{sound}
 use Rattle.value.specs.Paper.{valueLimits}
 use Rattle.value.specs.Decode.{Decoded, unwrapped, decode, inWrapper, storedValue}
 use Rattle.value.specs.Check.{good, refused, report, valueFits, isStored, storage, valueReport}
-use Rattle.value.specs.Work.{told}
+use Rattle.value.specs.Work.{checked}
 use Rattle.value.specs.declared.Checked.{Checked}
 use Rattle.value.specs.declared.ValueCheck.{ValueCheck}
 
 -- ---- the whole buffer
-module _ (ty : Ty) (v : List ℕ) (c : Checked) (asked : c ≡ told (unwrapped ty (taggingOf 0 0) v 0 (length v))) where
+module _ (ty : Ty) (v : List ℕ) (c : Checked) (asked : c ≡ checked (unwrapped ty (taggingOf 0 0) v 0 (length v))) where
   stored-by : isSome (storedValue ty v) ≡ isSome (bind (unwrapped ty untagged v 0 (length v)) (λ d. pick (eqb (d .after) (length v)) (some (d .value)) none))
   unfolding storedValue decode inWrapper
   stored-by = refl
 
-  asks : c ≡ told (unwrapped ty untagged v 0 (length v))
+  asks : c ≡ checked (unwrapped ty untagged v 0 (length v))
   unfolding taggingOf
   asks = asked
 
-  by-none : (o : Option Decoded) → Checked.Bad ≡ told o → false ≡ isSome (bind o (λ d. pick (eqb (d .after) (length v)) (some (d .value)) none))
+  by-none : (o : Option Decoded) → Checked.Bad ≡ checked o → false ≡ isSome (bind o (λ d. pick (eqb (d .after) (length v)) (some (d .value)) none))
   by-none none e = refl
   by-none (some d) e = absurd (let z : _≡_ {A = ℕ} 0 1 = cc in omega arith)
 
-  by-some : (o : Option Decoded) (x : ℕ) → Checked.At x ≡ told o → eqb x (length v) ≡ isSome (bind o (λ d. pick (eqb (d .after) (length v)) (some (d .value)) none))
+  by-some : (o : Option Decoded) (x : ℕ) → Checked.At x ≡ checked o → eqb x (length v) ≡ isSome (bind o (λ d. pick (eqb (d .after) (length v)) (some (d .value)) none))
   by-some none x e = absurd (let z : _≡_ {A = ℕ} 0 1 = cc in omega arith)
   by-some (some d) x e = let q : x ≡ d .after = cc in ap (λ (y : ℕ). eqb y (length v)) q ∙ go (eqb (d .after) (length v))
     where

@@ -18,7 +18,7 @@ use Rattle.groups.specs.Clauses.{memberPlace}
 use Rattle.table.specs.Types.{Tagging, untagged, explicit, implicit, taggingOf}
 use Rattle.table.specs.Work.{bitOf, memberMask}
 use Rattle.value.specs.Decode.{tagOctet}
-use Rattle.value.specs.Work.{upTo, first, marked, markedOf, contentsAt, holds, storedDefault, absentTold, neighbours}
+use Rattle.value.specs.Work.{upTo, first, marked, markedOf, contentsAt, holds, storedDefault, absentChecked, neighbours}
 use Rattle.value.specs.declared.Checked.{Checked}
 
 -- ---- tags
@@ -92,12 +92,12 @@ module _ (t s : List ℕ) (p : ℕ) (v : List ℕ) (at end pr : ℕ) (read : pr 
 
 -- a member that is not there
 module _ (t : List ℕ) (p i pr : ℕ) (read : pr ≡ presenceAt t p) where
-  pub absent-bad : pr ≡ 0 → Checked.Bad ≡ absentTold t p i
-  unfolding absentTold
+  pub absent-bad : pr ≡ 0 → Checked.Bad ≡ absentChecked t p i
+  unfolding absentChecked
   absent-bad h = rw (← read, eq-eqb pr 0 h)
 
-  pub absent-is : (pr ≡ 0 → ⊥) → Checked.At i ≡ absentTold t p i
-  unfolding absentTold
+  pub absent-is : (pr ≡ 0 → ⊥) → Checked.At i ≡ absentChecked t p i
+  unfolding absentChecked
   absent-is h = rw (← read, ne-eqb pr 0 h)
 
 -- ---- neighbours

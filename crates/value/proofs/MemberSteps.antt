@@ -24,7 +24,7 @@ use Rattle.table.proofs.TagLaws.{mandatory-as}
 use Rattle.table.proofs.SoundLaws.{member-tags}
 use Rattle.value.specs.Value.{spotAt, spotOf, Fields, endFields, present, absent}
 use Rattle.value.specs.Decode.{Decoded, afterOf, tagOctet, inWrapper, startsHere, isDefault, unlessDefault, presentThen, absentThen, unwrapped, fieldsFrom, decode}
-use Rattle.value.specs.Work.{told, upTo, marked, within, contentsAt, holds, storedDefault, isPlain, plainTold, absentTold, memberTold, fieldsTold}
+use Rattle.value.specs.Work.{checked, upTo, marked, within, contentsAt, holds, storedDefault, isPlain, plainChecked, absentChecked, memberChecked, fieldsChecked}
 use Rattle.value.specs.declared.Checked.{Checked}
 use Rattle.value.proofs.Views.{leaf-view, wrapper-view}
 use Rattle.value.proofs.CheckSteps.{typed-small}
@@ -102,58 +102,58 @@ module _ (chain : ℕ) (t s m : List ℕ) (row : ℕ) (ok : Sound chain t s m) (
       starting : x ≡ startsHere the-member target-type v stop i
       starting = begins ∙ ap (λ (y : ℕ). marked m t y v stop i) placed ∙ starts-as
 
-      pub member-absent : (r : Checked) → not x ≡ true → r ≡ absentTold t p i → r ≡ memberTold the-member target-type v stop i
-      unfolding memberTold absentTold memberOf
+      pub member-absent : (r : Checked) → not x ≡ true → r ≡ absentChecked t p i → r ≡ memberChecked the-member target-type v stop i
+      unfolding memberChecked absentChecked memberOf
       member-absent r h e =
           let off : startsHere the-member target-type v stop i ≡ false = sym starting ∙ not-true x h in
           rw off (e ∙ ap (λ (y : ℕ). pick (eqb (presenceAt t y) 0) Checked.Bad (Checked.At i)) placed
           ∙ ap (λ (y : Bool). pick y Checked.Bad (Checked.At i)) (sym (mandatory-as (presenceAt t place) (defaultAt t place))))
 
       module _ (on : not x ≡ false) (y : Bool) (stored : y ≡ storedDefault t s p v i stop) where
-        there : memberTold the-member target-type v stop i ≡ told (bind (decode target-type tagging v i stop) (λ d. pick (isDefault (presenceOf (presenceAt t place) (defaultAt t place)) (spotOf (d .value) .contents)) none (some d)))
-        unfolding memberTold memberOf
+        there : memberChecked the-member target-type v stop i ≡ checked (bind (decode target-type tagging v i stop) (λ d. pick (isDefault (presenceOf (presenceAt t place) (defaultAt t place)) (spotOf (d .value) .contents)) none (some d)))
+        unfolding memberChecked memberOf
         there = let h : startsHere the-member target-type v stop i ≡ true = sym starting ∙ not-false x on in rw h
 
         is-stored : y ≡ storedDefault t s place v i stop
         is-stored = stored ∙ ap (λ (z : ℕ). storedDefault t s z v i stop) placed
 
         by-default : (o : Option Decoded) → decode target-type tagging v i stop ≡ o
-            → told (bind o (λ d. pick (isDefault (presenceOf (presenceAt t place) (defaultAt t place)) (spotOf (d .value) .contents)) none (some d))) ≡ pick y Checked.Bad (told o)
+            → checked (bind o (λ d. pick (isDefault (presenceOf (presenceAt t place) (defaultAt t place)) (spotOf (d .value) .contents)) none (some d))) ≡ pick y Checked.Bad (checked o)
         by-default none q = go y
           where
             go : (z : Bool) → Checked.Bad ≡ pick z Checked.Bad Checked.Bad
             go true = refl
             go false = refl
-        by-default (some d) q = ap (λ (z : Bool). told (pick z none (some d))) (is-default d q ∙ sym is-stored) ∙ go y
+        by-default (some d) q = ap (λ (z : Bool). checked (pick z none (some d))) (is-default d q ∙ sym is-stored) ∙ go y
           where
-            go : (z : Bool) → told (pick z none (some d)) ≡ pick z Checked.Bad (Checked.At (d .after))
+            go : (z : Bool) → checked (pick z none (some d)) ≡ pick z Checked.Bad (Checked.At (d .after))
             go true = refl
             go false = refl
 
-        by-stored : memberTold the-member target-type v stop i ≡ pick y Checked.Bad (told (decode target-type tagging v i stop))
+        by-stored : memberChecked the-member target-type v stop i ≡ pick y Checked.Bad (checked (decode target-type tagging v i stop))
         by-stored = there ∙ by-default (decode target-type tagging v i stop) refl
 
-        pub member-default : y ≡ true → Checked.Bad ≡ memberTold the-member target-type v stop i
-        member-default h = sym (by-stored ∙ ap (λ (z : Bool). pick z Checked.Bad (told (decode target-type tagging v i stop))) h)
+        pub member-default : y ≡ true → Checked.Bad ≡ memberChecked the-member target-type v stop i
+        member-default h = sym (by-stored ∙ ap (λ (z : Bool). pick z Checked.Bad (checked (decode target-type tagging v i stop))) h)
 
-        pub member-is : (r : Checked) → y ≡ false → r ≡ told (decode target-type tagging v i stop) → r ≡ memberTold the-member target-type v stop i
-        member-is r h e = e ∙ sym (by-stored ∙ ap (λ (z : Bool). pick z Checked.Bad (told (decode target-type tagging v i stop))) h)
+        pub member-is : (r : Checked) → y ≡ false → r ≡ checked (decode target-type tagging v i stop) → r ≡ memberChecked the-member target-type v stop i
+        member-is r h e = e ∙ sym (by-stored ∙ ap (λ (z : Bool). pick z Checked.Bad (checked (decode target-type tagging v i stop))) h)
 
       -- a plain member
       module _ (on : not x ≡ false) (k : ℕ) (b : Bool) (read : k ≡ kindAt t (rowAt s (typeRowAt t p))) (tested : b ≡ isPlain k (modeAt t p)) where
         the-kind : k ≡ kindAt t (rowAt s target-row)
         the-kind = read ∙ ap (λ (y : ℕ). kindAt t (rowAt s (typeRowAt t y))) placed
 
-        by-plain : isPlain (kindAt t (rowAt s target-row)) (modeAt t place) ≡ true → plainTold t place (kindAt t (rowAt s target-row)) tagging v i stop ≡ memberTold the-member target-type v stop i
+        by-plain : isPlain (kindAt t (rowAt s target-row)) (modeAt t place) ≡ true → plainChecked t place (kindAt t (rowAt s target-row)) tagging v i stop ≡ memberChecked the-member target-type v stop i
         unfolding storedDefault
         by-plain h =
             plain-decoded (kindAt t (rowAt s target-row)) (modeAt t place) h t place (numberAt t place) v i stop
-            ∙ ap (λ (ty : Ty). pick (storedDefault t s place v i stop) Checked.Bad (told (decode ty tagging v i stop))) (sym (ok .step target-row target ∙ plain-basic (kindAt t (rowAt s target-row)) (modeAt t place) h _ _))
+            ∙ ap (λ (ty : Ty). pick (storedDefault t s place v i stop) Checked.Bad (checked (decode ty tagging v i stop))) (sym (ok .step target-row target ∙ plain-basic (kindAt t (rowAt s target-row)) (modeAt t place) h _ _))
             ∙ sym (by-stored on (storedDefault t s place v i stop) (ap (λ (y : ℕ). storedDefault t s y v i stop) (sym placed)))
 
-        pub member-plain : (r : Checked) → b ≡ true → r ≡ plainTold t p k (taggingOf (modeAt t p) (numberAt t p)) v i stop → r ≡ memberTold the-member target-type v stop i
+        pub member-plain : (r : Checked) → b ≡ true → r ≡ plainChecked t p k (taggingOf (modeAt t p) (numberAt t p)) v i stop → r ≡ memberChecked the-member target-type v stop i
         member-plain r h e =
-            e ∙ ap₂ (λ (y z : ℕ). plainTold t y z (taggingOf (modeAt t y) (numberAt t y)) v i stop) placed the-kind
+            e ∙ ap₂ (λ (y z : ℕ). plainChecked t y z (taggingOf (modeAt t y) (numberAt t y)) v i stop) placed the-kind
             ∙ by-plain (sym (ap₂ (λ (y z : ℕ). isPlain z (modeAt t y)) placed the-kind) ∙ sym tested ∙ h)
 
 -- ---- members in turn
@@ -161,11 +161,11 @@ abbrev thenFields : Members → List ℕ → ℕ → Checked → Bool
 thenFields ms v stop Checked.Bad = false
 thenFields ms v stop (Checked.At x) = isSome (fieldsFrom ms v stop x)
 
-fields-next : (mem : Member) (ty : Ty) (ms : Members) (v : List ℕ) (stop i : ℕ) → isSome (fieldsFrom (more mem ty ms) v stop i) ≡ thenFields ms v stop (memberTold mem ty v stop i)
-unfolding unwrapped memberTold decode
+fields-next : (mem : Member) (ty : Ty) (ms : Members) (v : List ℕ) (stop i : ℕ) → isSome (fieldsFrom (more mem ty ms) v stop i) ≡ thenFields ms v stop (memberChecked mem ty v stop i)
+unfolding unwrapped memberChecked decode
 fields-next mem ty ms v stop i = go (startsHere mem ty v stop i) (inWrapper afterOf (mem .tagging) (λ a e. unwrapped ty (mem .tagging) v a e) v i stop)
   where
-    found : (x : Bool) (d : Decoded) → isSome (bind (pick x none (some d)) (λ d. bind (fieldsFrom ms v stop (d .after)) (λ fs. some (present mem (d .value) fs)))) ≡ thenFields ms v stop (told (pick x none (some d)))
+    found : (x : Bool) (d : Decoded) → isSome (bind (pick x none (some d)) (λ d. bind (fieldsFrom ms v stop (d .after)) (λ fs. some (present mem (d .value) fs)))) ≡ thenFields ms v stop (checked (pick x none (some d)))
     found true d = refl
     found false d = rest (fieldsFrom ms v stop (d .after))
       where
@@ -182,7 +182,7 @@ fields-next mem ty ms v stop i = go (startsHere mem ty v stop i) (inWrapper afte
         rest (some fs) = refl
 
     go : (x : Bool) (o : Option Decoded) → isSome (pick x (presentThen mem (λ i. fieldsFrom ms v stop i) o) (absentThen mem (fieldsFrom ms v stop i)))
-        ≡ thenFields ms v stop (pick x (told (bind o (unlessDefault mem))) (pick (isMandatory (mem .presence)) Checked.Bad (Checked.At i)))
+        ≡ thenFields ms v stop (pick x (checked (bind o (unlessDefault mem))) (pick (isMandatory (mem .presence)) Checked.Bad (Checked.At i)))
     go true none = refl
     go true (some d) = found (isDefault (mem .presence) (spotOf (d .value) .contents)) d
     go false o = missing (isMandatory (mem .presence))
@@ -202,8 +202,8 @@ module _ (chain : ℕ) (t s m : List ℕ) (row : ℕ) (ok : Sound chain t s m) (
       record { count = q ∙ ap (membersAt t) e; few = omega arith; same = ap₂ (λ (x y : ℕ). isSome (fieldsFrom (membersFrom (typeFrom chain t s) t s x y) v stop start)) a b }
 
   module _ (n i j : ℕ) (w : Fielded chain t s row v start stop n i j) where
-    whole : upTo stop (isSome (fieldsFrom (membersFrom (typeFrom chain t s) t s (row + 1 + j) (n - j)) v stop i)) ≡ fieldsTold (membersFrom (typeFrom chain t s) t s (row + 1) (membersAt t (rowAt s row))) v stop start
-    unfolding fieldsTold
+    whole : upTo stop (isSome (fieldsFrom (membersFrom (typeFrom chain t s) t s (row + 1 + j) (n - j)) v stop i)) ≡ fieldsChecked (membersFrom (typeFrom chain t s) t s (row + 1) (membersAt t (rowAt s row))) v stop start
+    unfolding fieldsChecked
     whole = ap (upTo stop) (w .same ∙ ap (λ (x : ℕ). isSome (fieldsFrom (membersFrom (typeFrom chain t s) t s (row + 1) x) v stop start)) (w .count))
 
     module _ (l : j < n) where
@@ -229,15 +229,15 @@ module _ (chain : ℕ) (t s m : List ℕ) (row : ℕ) (ok : Sound chain t s m) (
       field-falls k e = let a = ok .later .of-member row here j in-row in let b = a .0 in let d = a .1 in omega arith
 
       opens : isSome (fieldsFrom (membersFrom (typeFrom chain t s) t s (row + 1 + j) (n - j)) v stop i)
-          ≡ thenFields (membersFrom (typeFrom chain t s) t s (row + 1 + j + 1) (n - (j + 1))) v stop (memberTold (memberOf t (row + 1 + j) (rowAt s (row + 1 + j))) (typeFrom chain t s (typeRowAt t (rowAt s (row + 1 + j)))) v stop i)
+          ≡ thenFields (membersFrom (typeFrom chain t s) t s (row + 1 + j + 1) (n - (j + 1))) v stop (memberChecked (memberOf t (row + 1 + j) (rowAt s (row + 1 + j))) (typeFrom chain t s (typeRowAt t (rowAt s (row + 1 + j)))) v stop i)
       unfolding membersFrom
       opens =
           let q : n - j ≡ suc (n - (j + 1)) = omega arith in
           ap (λ (x : ℕ). isSome (fieldsFrom (membersFrom (typeFrom chain t s) t s (row + 1 + j) x) v stop i)) q
           ∙ fields-next (memberOf t (row + 1 + j) (rowAt s (row + 1 + j))) (typeFrom chain t s (typeRowAt t (rowAt s (row + 1 + j)))) (membersFrom (typeFrom chain t s) t s (row + 1 + j + 1) (n - (j + 1))) v stop i
 
-      module _ (c : Checked) (told-member : c ≡ memberTold (memberOf t (row + 1 + j) (rowAt s (row + 1 + j))) (typeFrom chain t s (typeRowAt t (rowAt s (row + 1 + j)))) v stop i) where
-        pub fields-bad : c ≡ Checked.Bad → Checked.Bad ≡ fieldsTold (membersFrom (typeFrom chain t s) t s (row + 1) (membersAt t (rowAt s row))) v stop start
+      module _ (c : Checked) (told-member : c ≡ memberChecked (memberOf t (row + 1 + j) (rowAt s (row + 1 + j))) (typeFrom chain t s (typeRowAt t (rowAt s (row + 1 + j)))) v stop i) where
+        pub fields-bad : c ≡ Checked.Bad → Checked.Bad ≡ fieldsChecked (membersFrom (typeFrom chain t s) t s (row + 1) (membersAt t (rowAt s row))) v stop start
         fields-bad e = ap (upTo stop) (sym (opens ∙ ap (thenFields (membersFrom (typeFrom chain t s) t s (row + 1 + j + 1) (n - (j + 1))) v stop) (sym told-member ∙ e))) ∙ whole
 
         pub fields-again : (next : ℕ) → c ≡ Checked.At next → Fielded chain t s row v start stop n next (j + 1)
@@ -255,8 +255,8 @@ module _ (chain : ℕ) (t s m : List ℕ) (row : ℕ) (ok : Sound chain t s m) (
       unfolding membersFrom unwrapped
       ending = let q : n - j ≡ 0 = omega arith in ap (λ (x : ℕ). isSome (fieldsFrom (membersFrom (typeFrom chain t s) t s (row + 1 + j) x) v stop i)) q
 
-      pub fields-short : (i ≡ stop → ⊥) → Checked.Bad ≡ fieldsTold (membersFrom (typeFrom chain t s) t s (row + 1) (membersAt t (rowAt s row))) v stop start
+      pub fields-short : (i ≡ stop → ⊥) → Checked.Bad ≡ fieldsChecked (membersFrom (typeFrom chain t s) t s (row + 1) (membersAt t (rowAt s row))) v stop start
       fields-short h = ap (upTo stop) (sym (ending ∙ ap (λ (x : Bool). isSome (pick x (some endFields) none)) (ne-eqb i stop h))) ∙ whole
 
-      pub fields-done : i ≡ stop → Checked.At stop ≡ fieldsTold (membersFrom (typeFrom chain t s) t s (row + 1) (membersAt t (rowAt s row))) v stop start
+      pub fields-done : i ≡ stop → Checked.At stop ≡ fieldsChecked (membersFrom (typeFrom chain t s) t s (row + 1) (membersAt t (rowAt s row))) v stop start
       fields-done h = ap (upTo stop) (sym (ending ∙ ap (λ (x : Bool). isSome (pick x (some endFields) none)) (eq-eqb i stop h))) ∙ whole

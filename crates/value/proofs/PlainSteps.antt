@@ -14,7 +14,7 @@ use Rattle.der.specs.declared.Inside.{Inside}
 use Rattle.rows.specs.Row.{modeAt, numberAt, presenceAt, defaultAt}
 use Rattle.table.specs.Types.{taggingOf, Ty, basic, Members, typed}
 use Rattle.value.specs.Decode.{tagOctet, leafOf, unwrapped, decode}
-use Rattle.value.specs.Work.{told, upTo, contentsAt, holds, isPlain, isDefaultAt, plainOf, plainTold}
+use Rattle.value.specs.Work.{checked, upTo, contentsAt, holds, isPlain, isDefaultAt, plainOf, plainChecked}
 use Rattle.value.specs.declared.Checked.{Checked}
 use Rattle.value.proofs.LeafSteps.{contents-plain}
 use Rattle.value.proofs.CheckSteps.{typed-small, told-leaf, not-explicit}
@@ -44,19 +44,19 @@ module _ (t : List ℕ) (p k : ℕ) (v : List ℕ) (at end mode number o : ℕ) 
   is-open : (i : Inside) → h ≡ i → insideAt (tagOctet (taggingOf (modeAt t p) (numberAt t p)) k) v at end ≡ i
   is-open i e = ap₂ (λ (x y : ℕ). insideAt (tagOctet (taggingOf x y) k) v at end) (sym moded) (sym numbered) ∙ ap (λ (x : ℕ). insideAt x v at end) (sym tag) ∙ sym opening ∙ e
 
-  pub plain-misfit : h ≡ Inside.Misfit → Checked.Bad ≡ plainTold t p k (taggingOf (modeAt t p) (numberAt t p)) v at end
-  unfolding plainTold
+  pub plain-misfit : h ≡ Inside.Misfit → Checked.Bad ≡ plainChecked t p k (taggingOf (modeAt t p) (numberAt t p)) v at end
+  unfolding plainChecked
   plain-misfit e = rw (is-open Inside.Misfit e)
 
   module _ (start n : ℕ) (found : h ≡ Inside.Of start n) (x : Bool) (compared : x ≡ isDefaultAt t p v start n) where
-    by-contents : plainTold t p k (taggingOf (modeAt t p) (numberAt t p)) v at end ≡ pick x Checked.Bad (upTo (start + n) (legal k (part v start n)))
-    unfolding plainTold
+    by-contents : plainChecked t p k (taggingOf (modeAt t p) (numberAt t p)) v at end ≡ pick x Checked.Bad (upTo (start + n) (legal k (part v start n)))
+    unfolding plainChecked
     by-contents = rw (is-open (Inside.Of start n) found, ← compared)
 
-    pub plain-default : x ≡ true → Checked.Bad ≡ plainTold t p k (taggingOf (modeAt t p) (numberAt t p)) v at end
+    pub plain-default : x ≡ true → Checked.Bad ≡ plainChecked t p k (taggingOf (modeAt t p) (numberAt t p)) v at end
     plain-default e = rw (by-contents, e)
 
-    pub plain-is : (r : Checked) → x ≡ false → r ≡ upTo (start + n) (legal k (part v start (start + n - start))) → r ≡ plainTold t p k (taggingOf (modeAt t p) (numberAt t p)) v at end
+    pub plain-is : (r : Checked) → x ≡ false → r ≡ upTo (start + n) (legal k (part v start (start + n - start))) → r ≡ plainChecked t p k (taggingOf (modeAt t p) (numberAt t p)) v at end
     plain-is r e q =
         let l : start + n - start ≡ n = omega arith in
         q ∙ ap (λ (y : ℕ). upTo (start + n) (legal k (part v start y))) l
@@ -80,9 +80,9 @@ module _ (k mode : ℕ) (plain : isPlain k mode ≡ true) where
 
   -- so it is told by its decoding, unless it is its default
   pub plain-decoded : (t : List ℕ) (p n : ℕ) (v : List ℕ) (at end : ℕ)
-      → plainTold t p k (taggingOf mode n) v at end
-      ≡ pick (both (eqb (presenceAt t p) 2) (holds v (defaultAt t p) (contentsAt (taggingOf mode n) k v at end))) Checked.Bad (told (decode (basic k) (taggingOf mode n) v at end))
-  unfolding plainTold isDefaultAt unwrapped
+      → plainChecked t p k (taggingOf mode n) v at end
+      ≡ pick (both (eqb (presenceAt t p) 2) (holds v (defaultAt t p) (contentsAt (taggingOf mode n) k v at end))) Checked.Bad (checked (decode (basic k) (taggingOf mode n) v at end))
+  unfolding plainChecked isDefaultAt unwrapped
   plain-decoded t p n v at end =
       rw (not-explicit (basic k) v at end mode n plain-mode, ← contents-plain mode n k v at end (tagOctet (taggingOf mode n) k) (insideAt (tagOctet (taggingOf mode n) k) v at end) plain-mode refl refl)
       (go (insideAt (tagOctet (taggingOf mode n) k) v at end))
@@ -91,6 +91,6 @@ module _ (k mode : ℕ) (plain : isPlain k mode ≡ true) where
       same-bad true = refl
       same-bad false = refl
 
-      go : (i : Inside) → plainOf t p k v i ≡ pick (both (eqb (presenceAt t p) 2) (holds v (defaultAt t p) i)) Checked.Bad (told (opened i (leafOf k v at)))
+      go : (i : Inside) → plainOf t p k v i ≡ pick (both (eqb (presenceAt t p) 2) (holds v (defaultAt t p) i)) Checked.Bad (checked (opened i (leafOf k v at)))
       go Inside.Misfit = same-bad (eqb (presenceAt t p) 2)
       go (Inside.Of start c) = ap (pick (both (eqb (presenceAt t p) 2) (same (part v start c) (defaultAt t p))) Checked.Bad) (sym (told-leaf k v at start c))

@@ -23,9 +23,9 @@ use Rattle.value.specs.Decode.{Decoded, tagOctet, startsHere, unlessDefa
 use Rattle.value.specs.declared.Checked.{Checked}
 
 -- the place after a value, where there is one
-abbrev pub told : Option Decoded → Checked
-told none = Checked.Bad
-told (some d) = Checked.At (d .after)
+abbrev pub checked : Option Decoded → Checked
+checked none = Checked.Bad
+checked (some d) = Checked.At (d .after)
 
 -- up to a place, where a test holds
 abbrev pub upTo : ℕ → Bool → Checked
@@ -74,29 +74,29 @@ plainOf t p k v Inside.Misfit = Checked.Bad
 plainOf t p k v (Inside.Of start n) = pick (isDefaultAt t p v start n) Checked.Bad (upTo (start + n) (legal k (part v start n)))
 
 -- the plain member of the row at p, of kind k, where it is there
-unfoldable pub plainTold : List ℕ → ℕ → ℕ → Tagging → List ℕ → ℕ → ℕ → Checked
-plainTold t p k g v at end = plainOf t p k v (insideAt (tagOctet g k) v at end)
+unfoldable pub plainChecked : List ℕ → ℕ → ℕ → Tagging → List ℕ → ℕ → ℕ → Checked
+plainChecked t p k g v at end = plainOf t p k v (insideAt (tagOctet g k) v at end)
 
 -- ---- members and elements
 -- the member row at p, where it is not there
-unfoldable pub absentTold : List ℕ → ℕ → ℕ → Checked
-absentTold t p i = pick (eqb (presenceAt t p) 0) Checked.Bad (Checked.At i)
+unfoldable pub absentChecked : List ℕ → ℕ → ℕ → Checked
+absentChecked t p i = pick (eqb (presenceAt t p) 0) Checked.Bad (Checked.At i)
 
 -- one member: the place after it, or its own where it is not there and may be absent
-unfoldable pub memberTold : Member → Ty → List ℕ → ℕ → ℕ → Checked
-memberTold m ty v stop i =
-    let there = told (bind (decode ty (m .tagging) v i stop) (unlessDefault m)) in
+unfoldable pub memberChecked : Member → Ty → List ℕ → ℕ → ℕ → Checked
+memberChecked m ty v stop i =
+    let there = checked (bind (decode ty (m .tagging) v i stop) (unlessDefault m)) in
     pick (startsHere m ty v stop i) there (pick (isMandatory (m .presence)) Checked.Bad (Checked.At i))
 
-unfoldable pub fieldsTold : Members → List ℕ → ℕ → ℕ → Checked
-fieldsTold ms v stop i = upTo stop (isSome (fieldsFrom ms v stop i))
+unfoldable pub fieldsChecked : Members → List ℕ → ℕ → ℕ → Checked
+fieldsChecked ms v stop i = upTo stop (isSome (fieldsFrom ms v stop i))
 
 abbrev pub inOrder : ℕ → List ℕ → Option Values → Bool
 inOrder k v none = false
 inOrder k v (some xs) = either (eqb k kind.sequenceOf) (rising v xs)
 
-unfoldable pub elementsTold : ℕ → Ty → List ℕ → ℕ → ℕ → Checked
-elementsTold k ty v stop i = upTo stop (inOrder k v (many (λ i stop. unwrapped ty untagged v i stop) (stop - i) stop i))
+unfoldable pub elementsChecked : ℕ → Ty → List ℕ → ℕ → ℕ → Checked
+elementsChecked k ty v stop i = upTo stop (inOrder k v (many (λ i stop. unwrapped ty untagged v i stop) (stop - i) stop i))
 
 -- elements after one whose encoding is p
 unfoldable pub risingAfter : List ℕ → List ℕ → Values → Bool

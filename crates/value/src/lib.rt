@@ -17,6 +17,7 @@ ghost use Rattle.value.specs.Check.{report, valueFits, storage, valueRep
 ghost use Rattle.value.specs.Part as parts;
 ghost use Rattle.value.specs.Work as work;
 ghost use Rattle.rows.specs.Paper.{tableLimits};
+ghost use Rattle.table.specs.Rows.{rowType, rowMembers, rowMember, rowTagging, rowMemberType};
 
 // A stored value: the limits of every one.
 pub struct Value;
@@ -148,7 +149,7 @@ fn stored_default(t: &[u8], s: &[usize], p: usize, v: &[u8], at: usize, end: usi
 
 // The member row at p where it is not there: a mandatory one has to be.
 fn absent(t: &[u8], p: usize, i: usize) -> Checked
-    ensures { λ r. ⌜ r ≡ work.absentTold (now (t .entry)) p i ⌝ }
+    ensures { λ r. ⌜ r ≡ work.absentChecked (now (t .entry)) p i ⌝ }
 {
     if rows::presence_at(t, p) == 0 {
         return Checked::Bad;
@@ -204,7 +205,8 @@ fn is_default(t: &[u8], p: usize, v: &[u8], start: usize, n: usize) -> bool
 
 // The plain member of the row at p, of a kind, at a place where it is there: one header, contents of the kind, and not its default.
 fn check_plain(t: &[u8], p: usize, kind: u8, v: &[u8], at: usize, end: usize) -> Checked
-    ensures { λ r. ⌜ r ≡ work.plainTold (now (t .entry)) p kind (taggingOf (modeAt (now (t .entry)) p) (numberAt (now (t .entry)) p)) (now (v .entry)) at end ⌝ }
+    ensures { λ r. ⌜ r
+        ≡ work.plainChecked (now (t .entry)) p kind (taggingOf (modeAt (now (t .entry)) p) (numberAt (now (t .entry)) p)) (now (v .entry)) at end ⌝ }
 {
     let tag = tag_octet(rows::mode_at(t, p), rows::number_at(t, p), kind);
     let Inside::Of(start, n) = der::open(tag, v, at, end) else {
@@ -231,7 +233,9 @@ fn check_elements(
     requires here { ⌜ row < length (now s) ⌝ }
     requires list { ⌜ isList (kindAt (now t) (rowAt (now s) row)) ≡ true ⌝ }
     requires ordered { ⌜ start ≤ stop ⌝ }
-    ensures { λ r. ⌜ r ≡ work.elementsTold (kindAt (now (t .entry)) (rowAt (now (s .entry)) row)) (typeFrom (tableLimits .chain) (now (t .entry)) (now (s .entry)) (elementAt (now (t .entry)) (rowAt (now (s .entry)) row))) (now (v .entry)) stop start ⌝ }
+    ensures { λ r. ⌜ r
+        ≡ work.elementsChecked (kindAt (now (t .entry)) (rowAt (now (s .entry)) row))
+        (rowType (now (t .entry)) (now (s .entry)) (elementAt (now (t .entry)) (rowAt (now (s .entry)) row))) (now (v .entry)) stop start ⌝ }
 {
     let p = rows::row_at(s, row);
     let kind = rows::kind_at(t, p);
@@ -263,7 +267,7 @@ fn check_fields(
 ) -> Checked
     requires sound { ⌜ Sound (tableLimits .chain) (now t) (now s) (now m) ⌝ }
     requires here { ⌜ row < length (now s) ⌝ }
-    ensures { λ r. ⌜ r ≡ work.fieldsTold (membersFrom (typeFrom (tableLimits .chain) (now (t .entry)) (now (s .entry))) (now (t .entry)) (now (s .entry)) (row + 1) (membersAt (now (t .entry)) (rowAt (now (s .entry)) row))) (now (v .entry)) stop start ⌝ }
+    ensures { λ r. ⌜ r ≡ work.fieldsChecked (rowMembers (now (t .entry)) (now (s .entry)) row) (now (v .entry)) stop start ⌝ }
 {
     let n = rows::members_at(t, rows::row_at(s, row));
     let mut i = start;
@@ -295,7 +299,8 @@ fn check_member(
     requires here { ⌜ row < length (now s) ⌝ }
     requires member { ⌜ kindAt (now t) (rowAt (now s) row) ≡ 16 ⌝ }
     requires target { ⌜ typeRowAt (now t) (rowAt (now s) row) < length (now s) ⌝ }
-    ensures { λ r. ⌜ r ≡ work.memberTold (memberOf (now (t .entry)) row (rowAt (now (s .entry)) row)) (typeFrom (tableLimits .chain) (now (t .entry)) (now (s .entry)) (typeRowAt (now (t .entry)) (rowAt (now (s .entry)) row))) (now (v .entry)) stop i ⌝ }
+    ensures { λ r. ⌜ r
+        ≡ work.memberChecked (rowMember (now (t .entry)) (now (s .entry)) row) (rowMemberType (now (t .entry)) (now (s .entry)) row) (now (v .entry)) stop i ⌝ }
 {
     let p = rows::row_at(s, row);
     if !starts_here(t, m, p, v, stop, i) {
@@ -323,7 +328,9 @@ fn check_tagged(
 ) -> Checked
     requires sound { ⌜ Sound (tableLimits .chain) (now t) (now s) (now m) ⌝ }
     requires target { ⌜ typeRowAt (now t) (rowAt (now s) row) < length (now s) ⌝ }
-    ensures { λ r. ⌜ r ≡ work.told (decode (typeFrom (tableLimits .chain) (now (t .entry)) (now (s .entry)) (typeRowAt (now (t .entry)) (rowAt (now (s .entry)) row))) (taggingOf (modeAt (now (t .entry)) (rowAt (now (s .entry)) row)) (numberAt (now (t .entry)) (rowAt (now (s .entry)) row))) (now (v .entry)) at end) ⌝ }
+    ensures { λ r. ⌜ r
+        ≡ work.checked (decode (rowMemberType (now (t .entry)) (now (s .entry)) row) (rowTagging (now (t .entry)) (now (s .entry)) row)
+        (now (v .entry)) at end) ⌝ }
 {
     let p = rows::row_at(s, row);
     let mode = rows::mode_at(t, p);
@@ -348,7 +355,7 @@ fn check_wrapped(
 ) -> Checked
     requires sound { ⌜ Sound (tableLimits .chain) (now t) (now s) (now m) ⌝ }
     requires here { ⌜ row < length (now s) ⌝ }
-    ensures { λ r. ⌜ r ≡ work.told (decode (typeFrom (tableLimits .chain) (now (t .entry)) (now (s .entry)) row) (taggingOf 1 number) (now (v .entry)) at end) ⌝ }
+    ensures { λ r. ⌜ r ≡ work.checked (decode (rowType (now (t .entry)) (now (s .entry)) row) (taggingOf 1 number) (now (v .entry)) at end) ⌝ }
 {
     let Inside::Of(start, n) = der::open(der::wrapper_octet(number), v, at, end) else {
         return Checked::Bad;
@@ -375,7 +382,7 @@ fn check_choice(
 ) -> Checked
     requires sound { ⌜ Sound (tableLimits .chain) (now t) (now s) (now m) ⌝ }
     requires here { ⌜ row < length (now s) ⌝ }
-    ensures { λ r. ⌜ r ≡ work.told (alternativeFrom (membersFrom (typeFrom (tableLimits .chain) (now (t .entry)) (now (s .entry))) (now (t .entry)) (now (s .entry)) (row + 1) (membersAt (now (t .entry)) (rowAt (now (s .entry)) row))) (now (v .entry)) at end) ⌝ }
+    ensures { λ r. ⌜ r ≡ work.checked (alternativeFrom (rowMembers (now (t .entry)) (now (s .entry)) row) (now (v .entry)) at end) ⌝ }
 {
     let n = rows::members_at(t, rows::row_at(s, row));
     let j = find_alternative(t, s, m, v, row, n, at, end);
@@ -399,7 +406,7 @@ fn check(
 ) -> Checked
     requires sound { ⌜ Sound (tableLimits .chain) (now t) (now s) (now m) ⌝ }
     requires here { ⌜ row < length (now s) ⌝ }
-    ensures { λ r. ⌜ r ≡ work.told (unwrapped (typeFrom (tableLimits .chain) (now (t .entry)) (now (s .entry)) row) (taggingOf mode number) (now (v .entry)) at end) ⌝ }
+    ensures { λ r. ⌜ r ≡ work.checked (unwrapped (rowType (now (t .entry)) (now (s .entry)) row) (taggingOf mode number) (now (v .entry)) at end) ⌝ }
 {
     let kind = rows::kind_at(t, rows::row_at(s, row));
     if kind == 13 {
@@ -423,7 +430,7 @@ fn check(
 pub fn is_stored(t: &[u8], s: &[usize], m: &[u64], v: &[u8]) -> bool
     requires sound { ⌜ Sound (tableLimits .chain) (now t) (now s) (now m) ⌝ }
     requires here { ⌜ 0 < length (now s) ⌝ }
-    ensures { λ r. ⌜ r ≡ isSome (storedValue (typeFrom (tableLimits .chain) (now (t .entry)) (now (s .entry)) 0) (now (v .entry))) ⌝ }
+    ensures { λ r. ⌜ r ≡ isSome (storedValue (rowType (now (t .entry)) (now (s .entry)) 0) (now (v .entry))) ⌝ }
 {
     let Checked::At(next) = check(t, s, m, v, 0, 0, 0, 0, v.len()) else {
         return false;

@@ -24,6 +24,7 @@ ghost use Rattle.trail.specs.Work.{foundTold, landsIn, standing};
 ghost use Rattle.rules.specs.Answers.{meant};
 ghost use Rattle.walk.specs.Run as run;
 ghost use Rattle.rows.specs.Paper.{tableLimits};
+ghost use Rattle.table.specs.Rows.{rowType, rowMember};
 
 // Where a walk stands: going on after so many components; stopped at an accepted one, after so many tests; over, without room or budget; at a header
 // that doesn't fit.
@@ -98,7 +99,8 @@ fn test_one(
     c: Reached,
     n: usize,
 ) -> State
-    ensures { λ r. ⌜ r ≡ run.testOne budget (run.acceptsRead (meant rule) (now (text .entry)) (run.componentOf (now (t .entry)) (now (s .entry)) (now (v .entry)) c)) n ⌝ }
+    ensures { λ r. ⌜ r
+        ≡ run.testOne budget (run.acceptsRead (meant rule) (now (text .entry)) (run.componentOf (now (t .entry)) (now (s .entry)) (now (v .entry)) c)) n ⌝ }
 {
     if budget <= n {
         return State::Over;
@@ -179,7 +181,8 @@ fn visit(
     out: &mut [u64],
 ) -> State
     requires { ⌜ run.Fitting c ⌝ }
-    ensures { λ r. ⌜ run.seen r (now (out .exit)) ≡ run.visited task (now (text .entry)) (run.componentOf (now (t .entry)) (now (s .entry)) (now (v .entry)) c) n (now (out .entry)) ⌝ }
+    ensures { λ r. ⌜ run.seen r (now (out .exit))
+        ≡ run.visited task (now (text .entry)) (run.componentOf (now (t .entry)) (now (s .entry)) (now (v .entry)) c) n (now (out .entry)) ⌝ }
 {
     match task {
         Task::Count(limit) => count_one(limit, n),
@@ -202,7 +205,9 @@ fn visit_lacking(
     n: usize,
     out: &mut [u64],
 ) -> State
-    ensures { λ w. ⌜ run.seen w (now (out .exit)) ≡ run.run task (now (text .entry)) (run.seen (State.Going n) (now (out .entry))) (lackingTrail defaults [] place (memberOf (now (t .entry)) row (rowAt (now (s .entry)) row)) (memberOf (now (t .entry)) row (rowAt (now (s .entry)) row) .presence)) ⌝ }
+    ensures { λ w. ⌜ run.seen w (now (out .exit))
+        ≡ run.run task (now (text .entry)) (run.seen (State.Going n) (now (out .entry)))
+        (lackingTrail defaults [] place (rowMember (now (t .entry)) (now (s .entry)) row) (rowMember (now (t .entry)) (now (s .entry)) row .presence)) ⌝ }
 {
     if !defaults {
         return State::Going(n);
@@ -228,7 +233,10 @@ fn visit_found(
 ) -> State
     requires small { ⌜ length (now v) < 18446744073709551615 ⌝ }
     requires lands { ⌜ landsIn (now s) (length (now v)) found ≡ true ⌝ }
-    ensures { λ w. ⌜ run.seen w (now (out .exit)) ≡ run.run task (now (text .entry)) (run.seen (State.Going n) (now (out .entry))) (onFound defaults [] place (run.goingOn defaults [] (now (v .entry))) (foundTold (tableLimits .chain) (now (t .entry)) (now (s .entry)) found)) ⌝ }
+    ensures { λ w. ⌜ run.seen w (now (out .exit))
+        ≡ run.run task (now (text .entry)) (run.seen (State.Going n) (now (out .entry)))
+        (onFound defaults [] place (run.goingOn defaults [] (now (v .entry)))
+        (foundTold (tableLimits .chain) (now (t .entry)) (now (s .entry)) found)) ⌝ }
 {
     match found {
         Found::At(_, at, start, span) => visit(
@@ -263,7 +271,8 @@ fn walk_tally(
     out: &mut [u64],
 ) -> State
     requires read { ⌜ isSome (idsAt (now r) k) ≡ true ⌝ }
-    ensures { λ w. ⌜ run.seen w (now (out .exit)) ≡ run.run task (now (text .entry)) (run.seen (State.Going n) (now (out .entry))) (ending (run.idsFrom (now (r .entry)) k) (tallied place size)) ⌝ }
+    ensures { λ w. ⌜ run.seen w (now (out .exit))
+        ≡ run.run task (now (text .entry)) (run.seen (State.Going n) (now (out .entry))) (ending (run.idsFrom (now (r .entry)) k) (tallied place size)) ⌝ }
 {
     if k <= r.len() {
         return State::Going(n);
@@ -292,7 +301,10 @@ fn walk_size(
     requires here { ⌜ row < length (now s) ⌝ }
     requires ends { ⌜ start + span ≤ length (now v) ⌝ }
     requires read { ⌜ isSome (idsAt (now r) k) ≡ true ⌝ }
-    ensures { λ w. ⌜ run.seen w (now (out .exit)) ≡ run.run task (now (text .entry)) (run.seen (State.Going n) (now (out .entry))) (orFault (run.tally (run.idsFrom (now (r .entry)) k) place) (countFrom (openAt (typeFrom (tableLimits .chain) (now (t .entry)) (now (s .entry)) row) untagged (now (v .entry))) span (start + span) 0 start)) ⌝ }
+    ensures { λ w. ⌜ run.seen w (now (out .exit))
+        ≡ run.run task (now (text .entry)) (run.seen (State.Going n) (now (out .entry)))
+        (orFault (run.tally (run.idsFrom (now (r .entry)) k) place)
+        (countFrom (openAt (rowType (now (t .entry)) (now (s .entry)) row) untagged (now (v .entry))) span (start + span) 0 start)) ⌝ }
 {
     let Counted::Of(size) = trail::count_elements(t, s, m, v, row, start, start + span) else {
         return State::Fault;
@@ -321,7 +333,10 @@ fn walk_count(
     requires here { ⌜ row < length (now s) ⌝ }
     requires ends { ⌜ start + span ≤ length (now v) ⌝ }
     requires read { ⌜ isSome (idsAt (now r) k) ≡ true ⌝ }
-    ensures { λ w. ⌜ run.seen w (now (out .exit)) ≡ run.run task (now (text .entry)) (run.seen (State.Going n) (now (out .entry))) (along true (index count ∷ run.idsFrom (now (r .entry)) k) (typeFrom (tableLimits .chain) (now (t .entry)) (now (s .entry)) row) (now (v .entry)) (standing place start span)) ⌝ }
+    ensures { λ w. ⌜ run.seen w (now (out .exit))
+        ≡ run.run task (now (text .entry)) (run.seen (State.Going n) (now (out .entry)))
+        (along true (index count ∷ run.idsFrom (now (r .entry)) k) (rowType (now (t .entry)) (now (s .entry)) row) (now (v .entry))
+        (standing place start span)) ⌝ }
 {
     let p = rows::row_at(s, row);
     if !rows::is_list(rows::kind_at(t, p)) {
@@ -366,7 +381,10 @@ fn walk_found(
     requires small { ⌜ length (now v) < 18446744073709551615 ⌝ }
     requires lands { ⌜ landsIn (now s) (length (now v)) found ≡ true ⌝ }
     requires read { ⌜ isSome (idsAt (now r) k) ≡ true ⌝ }
-    ensures { λ w. ⌜ run.seen w (now (out .exit)) ≡ run.run task (now (text .entry)) (run.seen (State.Going n) (now (out .entry))) (onFound defaults (run.idsFrom (now (r .entry)) k) place (run.goingOn defaults (run.idsFrom (now (r .entry)) k) (now (v .entry))) (foundTold (tableLimits .chain) (now (t .entry)) (now (s .entry)) found)) ⌝ }
+    ensures { λ w. ⌜ run.seen w (now (out .exit))
+        ≡ run.run task (now (text .entry)) (run.seen (State.Going n) (now (out .entry)))
+        (onFound defaults (run.idsFrom (now (r .entry)) k) place (run.goingOn defaults (run.idsFrom (now (r .entry)) k) (now (v .entry)))
+        (foundTold (tableLimits .chain) (now (t .entry)) (now (s .entry)) found)) ⌝ }
 {
     if r.len() < k {
         return visit_found(t, s, v, text, defaults, task, found, place, n, out);
@@ -421,7 +439,11 @@ fn walk_each(
     requires ends { ⌜ start + span ≤ length (now v) ⌝ }
     requires small { ⌜ length (now v) < 18446744073709551615 ⌝ }
     requires read { ⌜ isSome (idsAt (now r) k) ≡ true ⌝ }
-    ensures { λ w. ⌜ run.seen w (now (out .exit)) ≡ run.run task (now (text .entry)) (run.seen (State.Going n) (now (out .entry))) (eachFrom (openAt (typeFrom (tableLimits .chain) (now (t .entry)) (now (s .entry)) row) untagged (now (v .entry))) (run.goingOn defaults (run.idsFrom (now (r .entry)) k) (now (v .entry)) (typeFrom (tableLimits .chain) (now (t .entry)) (now (s .entry)) row)) span (start + span) start) ⌝ }
+    ensures { λ w. ⌜ run.seen w (now (out .exit))
+        ≡ run.run task (now (text .entry)) (run.seen (State.Going n) (now (out .entry)))
+        (eachFrom (openAt (rowType (now (t .entry)) (now (s .entry)) row) untagged (now (v .entry)))
+        (run.goingOn defaults (run.idsFrom (now (r .entry)) k) (now (v .entry)) (rowType (now (t .entry)) (now (s .entry)) row)) span
+        (start + span) start) ⌝ }
 {
     let stop = start + span;
     let step = reference::next_id(r, k);
@@ -486,7 +508,10 @@ fn walk_all(
     requires ends { ⌜ start + span ≤ length (now v) ⌝ }
     requires small { ⌜ length (now v) < 18446744073709551615 ⌝ }
     requires read { ⌜ isSome (idsAt (now r) k) ≡ true ⌝ }
-    ensures { λ w. ⌜ run.seen w (now (out .exit)) ≡ run.run task (now (text .entry)) (run.seen (State.Going n) (now (out .entry))) (along defaults (index all ∷ run.idsFrom (now (r .entry)) k) (typeFrom (tableLimits .chain) (now (t .entry)) (now (s .entry)) row) (now (v .entry)) (standing place start span)) ⌝ }
+    ensures { λ w. ⌜ run.seen w (now (out .exit))
+        ≡ run.run task (now (text .entry)) (run.seen (State.Going n) (now (out .entry)))
+        (along defaults (index all ∷ run.idsFrom (now (r .entry)) k) (rowType (now (t .entry)) (now (s .entry)) row) (now (v .entry))
+        (standing place start span)) ⌝ }
 {
     let p = rows::row_at(s, row);
     if !rows::is_list(rows::kind_at(t, p)) {
@@ -537,7 +562,9 @@ fn walk(
     requires read { ⌜ isSome (idsAt (now r) k) ≡ true ⌝ }
     requires step { ⌜ stepTold (now r) step ≡ headCapped (idsAt (now r) k) ⌝ }
     requires rises { ⌜ advances (now r) k step ≡ true ⌝ }
-    ensures { λ w. ⌜ run.seen w (now (out .exit)) ≡ run.run task (now (text .entry)) (run.seen (State.Going n) (now (out .entry))) (along defaults (run.idsFrom (now (r .entry)) k) (typeFrom (tableLimits .chain) (now (t .entry)) (now (s .entry)) row) (now (v .entry)) (standing place start span)) ⌝ }
+    ensures { λ w. ⌜ run.seen w (now (out .exit))
+        ≡ run.run task (now (text .entry)) (run.seen (State.Going n) (now (out .entry)))
+        (along defaults (run.idsFrom (now (r .entry)) k) (rowType (now (t .entry)) (now (s .entry)) row) (now (v .entry)) (standing place start span)) ⌝ }
 {
     match step {
         Step::Name(a, b, next) => {
@@ -662,7 +689,10 @@ pub fn walk_value(
     requires rows { ⌜ 0 < length (now s) ⌝ }
     requires small { ⌜ length (now v) < 18446744073709551615 ⌝ }
     requires read { ⌜ isSome (pick given (readReference (now r)) (some [])) ≡ true ⌝ }
-    ensures { λ w. ⌜ run.seen w (now (out .exit)) ≡ run.run task (now (text .entry)) (run.seen (State.Going n) (now (out .entry))) (trail defaults (run.idsOr (pick given (readReference (now (r .entry))) (some []))) (typeFrom (tableLimits .chain) (now (t .entry)) (now (s .entry)) 0) (now (v .entry))) ⌝ }
+    ensures { λ w. ⌜ run.seen w (now (out .exit))
+        ≡ run.run task (now (text .entry)) (run.seen (State.Going n) (now (out .entry)))
+        (trail defaults (run.idsOr (pick given (readReference (now (r .entry))) (some []))) (rowType (now (t .entry)) (now (s .entry)) 0)
+        (now (v .entry))) ⌝ }
 {
     let Opening::Of(place, start, span) = trail::open_at(t, s, m, v, 0, 0, 0, 0, v.len()) else {
         return State::Fault;
