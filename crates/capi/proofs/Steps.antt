@@ -19,7 +19,7 @@ use Rattle.engine.specs.Answer as answer
 use Rattle.engine.specs.Listing as listing
 use Rattle.engine.specs.declared.Answer.{Answer}
 use Rattle.engine.specs.declared.Listed.{Listed}
-use Rattle.capi.specs.Numbers.{numbers, ofTable, ofValue, CPart, ofPart, partSeen, ofListed, CListing, ofListing, listSeen, ofReport}
+use Rattle.capi.specs.Numbers.{numbers, ofTable, ofValue, CPart, ofPart, partSeen, ofListed, ofListing, listSeen, ofReport}
 use Rattle.capi.specs.declared.CAnswer.{CAnswer}
 
 -- ---- each kind of answer as two numbers

@@ -1,5 +1,5 @@
 -- The order of a list's filters, as a relation: one list is another in some order.
-use mathlib.Core.List.{List, [], _∷_}
+use mathlib.Core.List.{[], _∷_}
 use Rattle.filter.specs.Filter.{Filter, Filters, endFilters, next}
 
 pub data Reordered : Filters → Filters → Type 0 where

@@ -14,7 +14,6 @@ use Rattle.table.specs.Admitted.{admitted}
 use Rattle.table.specs.Check.{TableReport}
 use Rattle.value.specs.Decode.{storedValue}
 use Rattle.value.specs.Check.{ValueReport, valueFits, isStored}
-use Rattle.reference.specs.Reference.{Id}
 use Rattle.reference.specs.Allowed.{allowed}
 use Rattle.reference.specs.Numbers.{Component}
 use Rattle.filter.specs.Filter.{Filter}

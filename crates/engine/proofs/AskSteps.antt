@@ -1,14 +1,14 @@
 -- The answer to a filter: one lemma for each return; its premises are the facts as the code has them.
-use mathlib.Core.Path.{_≡_, refl, sym, ap, ap₂, _∙_, subst}
-use mathlib.Core.Bool.{Bool, true, false, not, _&&_, true≢false, false≢true}
+use mathlib.Core.Path.{_≡_, refl, sym, ap, _∙_, subst}
+use mathlib.Core.Bool.{Bool, true, false, not, _&&_}
 use mathlib.Core.Option.{Option, none, some}
 use mathlib.Core.List.{List, []}
 use Prim.Native.Nat.{ℕ, _≤_, _<_, _+_}
 use native.Mathlib.Omega.{arith}
-use borrow.Author.Tests.{not-true, not-false, lt-leb, le-leb, leb-true}
+use borrow.Author.Tests.{not-true, not-false, leb-true}
 use lib.ListN.{length, take}
-use lib.Dec.{leb, eqb}
-use Rattle.octets.specs.Pick.{pick, both, no, isSome}
+use lib.Dec.{leb}
+use Rattle.octets.specs.Pick.{pick, both, isSome}
 use Rattle.octets.proofs.Laws.{both-true}
 use Rattle.rows.specs.Limits.{tableFits}
 use Rattle.rows.specs.Paper.{tableLimits}
@@ -28,14 +28,14 @@ use Rattle.filter.specs.Answers as filter
 use Rattle.filter.specs.declared.Filter as declared
 use Rattle.filter.specs.declared.Reading.{Reading}
 use Rattle.filter.proofs.Laws.{parse-read, counted-some, counted-none}
-use Rattle.judge.specs.Truth.{Truth, TRUE, FALSE, UNDEFINED}
+use Rattle.judge.specs.Truth.{TRUE, FALSE, UNDEFINED}
 use Rattle.judge.specs.Reading.{Outcome, settled, faulted, reading}
 use Rattle.judge.specs.Assertion.{outcome}
 use Rattle.judge.specs.Work.{NamesDiffer, Ready, charged, judgedText}
 use Rattle.judge.proofs.Names.{names-apart}
 use Rattle.judge.specs.declared.Verdict.{Verdict}
 use Rattle.judge.specs.declared.Judged.{Judged}
-use Rattle.engine.specs.Answer.{Report, refused, answers, budgeted, questionFits, evaluated, withFilter, questionOf, askReport, report, settledAs, judgedReport}
+use Rattle.engine.specs.Answer.{Report, refused, budgeted, questionFits, evaluated, withFilter, questionOf, askReport, report, settledAs, judgedReport}
 use Rattle.engine.specs.Paper.{limits}
 use Rattle.engine.specs.declared.Answer.{Answer}
 

@@ -6,17 +6,17 @@ use mathlib.Core.List.{List, [], _∷_}
 use mathlib.Core.Logic.{inl, inr}
 use Prim.Native.Nat.{ℕ, _≤_, _<_, _+_, _*_, _/_, min}
 use native.Mathlib.Omega.{arith}
-use borrow.Author.Tests.{not-true, not-false, lt-leb, le-leb, lt-ltb, le-ltb, leb-true}
+use borrow.Author.Tests.{not-true, not-false, lt-ltb, le-ltb, leb-true}
 use lib.ListN.{length, take}
-use lib.Dec.{ltb, leb}
+use lib.Dec.{leb}
 use denote.Enum.Declared.{tagOf}
 use types.Run.{OneOf}
-use Rattle.octets.specs.Pick.{pick, both, either, no, bind, isSome}
+use Rattle.octets.specs.Pick.{pick, both, bind, isSome}
 use Rattle.octets.proofs.Laws.{both-true}
 use Rattle.rows.specs.Limits.{tableFits}
 use Rattle.rows.specs.Paper.{tableLimits}
 use Rattle.table.specs.Types.{Ty, typeFrom, typeAt}
-use Rattle.table.specs.Admitted.{admitted, rowCount}
+use Rattle.table.specs.Admitted.{rowCount}
 use Rattle.table.specs.Work.{Admits}
 use Rattle.value.specs.Paper.{valueLimits}
 use Rattle.value.specs.Decode.{storedValue}

@@ -1,23 +1,19 @@
 -- Computed examples.
 use mathlib.Core.Path.{_≡_, refl}
 use mathlib.Core.Bool.{Bool, true, false}
-use mathlib.Core.Option.{none}
 use mathlib.Core.List.{List, [], _∷_, map}
 use Prim.Native.Nat.{ℕ}
 use Prim.Native.String.{String}
 use lib.ListN.{set, replicate}
-use lib.Dec.{eqb}
-use Rattle.octets.specs.Pick.{pick}
 use Rattle.octets.specs.Octets.{bytes, hex}
 use Rattle.table.specs.Types.{typeAt}
 use Rattle.rows.specs.Paper.{tableLimits}
 use Rattle.table.specs.Paper.{licence}
 use Rattle.value.specs.Paper.{licenceRecord}
-use Rattle.filter.specs.Filter.{Item, Join, and, or, Filter, item, list, inverse, endFilters, next}
 use Rattle.reference.specs.Reference.{position, all, Id, name, index}
 use Rattle.reference.specs.Numbers.{threes}
-use Rattle.judge.specs.Truth.{TRUE, FALSE, UNDEFINED, conjunction, disjunction}
-use Rattle.judge.specs.Reading.{Outcome, settled, faulted, reading}
+use Rattle.judge.specs.Truth.{TRUE, FALSE, UNDEFINED}
+use Rattle.judge.specs.Reading.{settled, faulted}
 use Rattle.trail.specs.Trail.{Trail, trail, faulty, reached}
 use Rattle.engine.specs.Answer as answer
 use Rattle.engine.specs.Answer.{budgeted, askReport}

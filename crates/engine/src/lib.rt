@@ -14,7 +14,6 @@ ghost use mathlib.Core.List.{[]};
 ghost use Prim.Native.Nat.{_≤_, _<_, _+_, _/_};
 ghost use lib.ListN.{length};
 ghost use Rattle.octets.specs.Pick.{pick, isSome};
-ghost use Rattle.table.specs.Types.{typeFrom};
 ghost use Rattle.table.specs.Work.{Sound};
 ghost use Rattle.reference.specs.Reference.{readReference};
 ghost use Rattle.reference.specs.Work.{leadsTo};

@@ -17,7 +17,6 @@ ghost use mathlib.Core.Option.{some};
 ghost use mathlib.Core.List.{[]};
 ghost use lib.ListN.{length};
 ghost use Rattle.octets.specs.Pick.{pick, both, isSome};
-ghost use Rattle.table.specs.Types.{typeFrom};
 ghost use Rattle.table.specs.Work.{Sound};
 ghost use Rattle.reference.specs.Reference.{readReference};
 ghost use Rattle.reference.specs.Work as reference;

@@ -1,22 +1,19 @@
 -- What the layers above use of an admitted table. s below is its list of rows.
-use mathlib.Core.Path.{_≡_, refl, ap, _∙_}
-use mathlib.Core.Bool.{Bool, true, false, false≢true}
+use mathlib.Core.Path.{_≡_, _∙_}
+use mathlib.Core.Bool.{true}
 use mathlib.Core.List.{List}
 use Prim.Native.Nat.{ℕ, _≤_, _<_, _+_}
-use borrow.Author.Tests.{leb-true, eqb-true}
+use borrow.Author.Tests.{leb-true}
 use lib.ListN.{length}
-use Rattle.octets.specs.Pick.{pick, no}
 use Rattle.octets.proofs.Laws.{both-true, all-at}
 use Rattle.rows.specs.Limits.{Limits}
 use Rattle.rows.specs.Row.{rows, rowAt, kindAt, elementAt, membersAt}
 use Rattle.rows.proofs.Laws.{MemberFacts, member-facts}
-use Rattle.groups.specs.Clauses.{everyRow, wholeRows, bodyFormed, isType, firstIsType, pointsLater, membersStand, memberPlace, namesDiffer, alternativesMandatory, noImplicitChoice, defaultLegal, chainFits}
+use Rattle.groups.specs.Clauses.{everyRow, wholeRows, bodyFormed, pointsLater, membersStand, memberPlace, namesDiffer, alternativesMandatory, noImplicitChoice, defaultLegal, chainFits}
 use Rattle.groups.specs.Work.{Later}
 use Rattle.groups.proofs.LaterSteps.{is-later, member-follows}
 use Rattle.table.specs.Types.{membersFrom, typed, typeAt}
-use Rattle.table.specs.Begins.{begins, tagsApart}
-use Rattle.table.specs.Admitted.{tagsDiffer, rowsFormed, rowsNamed, membersAgree, typesFit, admittedRows, admitted}
-use Rattle.table.specs.Work.{bitOf, Masked}
+use Rattle.table.specs.Admitted.{rowsFormed, rowsNamed, membersAgree, typesFit, admittedRows, admitted}
 use Rattle.table.proofs.TypeLaws.{step}
 use Rattle.table.proofs.AdmitSteps.{named-points, named-stand}
 
@@ -50,10 +47,6 @@ module _ (l : Limits) (t : List ℕ) (ok : admitted l t ≡ true) where
   unfolding rowsFormed wholeRows
   row-count = let w = both-true _ _ (both-true (wholeRows (l .rows) s) _ formed .0) in (leb-true _ _ (w .0), leb-true _ _ (w .1))
 
-  pub row-0-is-type : isType t s 0 ≡ true
-  unfolding rowsFormed firstIsType
-  row-0-is-type = both-true (everyRow (bodyFormed (l .members) (l .name) t s) s) _ (both-true (wholeRows (l .rows) s) _ formed .1) .1
-
   points : everyRow (pointsLater t s) s ≡ true
   points = named-points t s named
 
@@ -77,9 +70,6 @@ module _ (l : Limits) (t : List ℕ) (ok : admitted l t ≡ true) where
     unfolding bodyFormed
     member-formed k = member-facts (l .members) (l .name) t (rowAt s i) body-formed k
 
-    pub points-later : pointsLater t s i ≡ true
-    points-later = all-at (pointsLater t s) (length s) i points here
-
     -- the members of a row follow it directly
     pub member-stands : (j : ℕ) → j < membersAt t (rowAt s i) → (i + 1 + j < length s) × (kindAt t (memberPlace s i j) ≡ 16)
     member-stands j h = member-follows t s points stands i here j h
@@ -88,35 +78,13 @@ module _ (l : Limits) (t : List ℕ) (ok : admitted l t ≡ true) where
     unfolding membersAgree
     names-differ = all-at (namesDiffer t s) (length s) i (both-true (everyRow (namesDiffer t s) s) _ agree .0) here
 
-    pub alternatives-mandatory : alternativesMandatory t s i ≡ true
-    unfolding membersAgree
-    alternatives-mandatory = all-at (alternativesMandatory t s) (length s) i (both-true (everyRow (alternativesMandatory t s) s) _ (both-true (everyRow (namesDiffer t s) s) _ agree .1) .0) here
-
-    pub no-implicit-choice : noImplicitChoice t s i ≡ true
-    unfolding membersAgree
-    no-implicit-choice =
-        let rest = both-true (everyRow (alternativesMandatory t s) s) _ (both-true (everyRow (namesDiffer t s) s) _ agree .1) .1 in
-        all-at (noImplicitChoice t s) (length s) i (both-true (everyRow (noImplicitChoice t s) s) _ rest .0) here
-
     pub default-legal : defaultLegal t s i ≡ true
     unfolding membersAgree
     default-legal =
         let rest = both-true (everyRow (alternativesMandatory t s) s) _ (both-true (everyRow (namesDiffer t s) s) _ agree .1) .1 in
         all-at (defaultLegal t s) (length s) i (both-true (everyRow (noImplicitChoice t s) s) _ rest .1) here
 
-    pub chain-fits : chainFits (l .chain) t s i ≡ true
-    chain-fits = all-at (chainFits (l .chain) t s) (length s) i chains here
-
-    pub tags-apart : tagsApart (typeAt l t i) ≡ true
-    unfolding typesFit tagsDiffer typeAt
-    tags-apart = all-at (tagsDiffer (l .chain) t s) (length s) i (both-true (everyRow (chainFits (l .chain) t s) s) _ fit .1) here
-
     -- ---- the type of a row: by the types of the rows that it names, with no depth to speak of
     pub type-step : typeAt l t i ≡ typed (kindAt t (rowAt s i)) (typeAt l t (elementAt t (rowAt s i))) (membersFrom (typeAt l t) t s (i + 1) (membersAt t (rowAt s i)))
     unfolding typeAt
     type-step = step t s (l .chain) names-later chains i here
-
-    -- ---- the tags that it can begin with: bit g of the set that the check left
-    pub begins-with : (m : List ℕ) → Masked (l .chain) t s m → (g : ℕ) → g < 64 → bitOf (rowAt m i) g ≡ begins (typeAt l t i) g
-    unfolding typeAt
-    begins-with m masked g h = masked .says i here g h

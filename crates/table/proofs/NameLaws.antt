@@ -5,16 +5,15 @@ use mathlib.Core.Option.{Option, none, some}
 use mathlib.Core.List.{List, [], _∷_}
 use Prim.Native.Nat.{ℕ, zero, suc, _≤_, _<_, _+_, _-_}
 use native.Mathlib.Omega.{arith}
-use borrow.Author.Tests.{eqb-true, eqb-false, eq-eqb, ltb-true, ltb-false}
-use lib.ListN.{length, take, drop}
-use lib.Dec.{ltb, leb, eqb}
+use borrow.Author.Tests.{eqb-true, eq-eqb, ltb-true, ltb-false}
+use lib.ListN.{length, drop}
+use lib.Dec.{ltb, eqb}
 use lib.Seq.{length-take-le, getD-take, getD-drop}
 use Rattle.octets.specs.Pick.{pick, both, no, all, consed}
-use Rattle.octets.specs.Octets.{octet, part, same}
+use Rattle.octets.specs.Octets.{octet, same}
 use Rattle.octets.specs.Text.{isLower}
 use Rattle.octets.proofs.Laws.{both-true, all-at, rest-length}
 use Rattle.octets.proofs.TextLaws.{same-nil, same-shorter, same-longer, same-cons}
-use Rattle.der.specs.Kind as kind
 use Rattle.rows.specs.Limits.{Limits}
 use Rattle.rows.specs.Row.{kindAt, nameAt, nameOctetAt, isGroup, isList, rowSize, rowsFrom, orNone, rows, rowAt, membersAt}
 use Rattle.rows.specs.Body.{follows, followed, nameFormed}

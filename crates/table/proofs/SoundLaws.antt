@@ -1,5 +1,5 @@
 -- An admitted table with its sets of tags, for the layers above: `Sound`, and what its sets say of a member.
-use mathlib.Core.Path.{_≡_, refl, sym, ap, _∙_}
+use mathlib.Core.Path.{_≡_, sym, ap, _∙_}
 use mathlib.Core.Bool.{Bool, true, false}
 use mathlib.Core.List.{List}
 use Prim.Native.Nat.{ℕ, _<_, _+_, _/_, _^_}
@@ -10,8 +10,8 @@ use Rattle.octets.specs.Pick.{pick}
 use Rattle.der.specs.Tag.{context, tagOf}
 use Rattle.der.proofs.Laws.{tag-small}
 use Rattle.rows.specs.Limits.{Limits}
-use Rattle.rows.specs.Row.{rows, rowAt, kindAt, typeRowAt, modeAt, numberAt, membersAt}
-use Rattle.table.specs.Types.{Ty, memberOf, typeFrom, typeAt, membersFrom, typed}
+use Rattle.rows.specs.Row.{rows, rowAt, typeRowAt, modeAt, numberAt}
+use Rattle.table.specs.Types.{memberOf, typeFrom, typeAt}
 use Rattle.table.specs.Begins.{begins, memberBegins}
 use Rattle.table.specs.Admitted.{admitted}
 use Rattle.table.specs.Work.{bitOf, contextBit, memberMask, Masked, Sound}

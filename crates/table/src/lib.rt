@@ -3,13 +3,13 @@ use rows::Table;
 ghost use mathlib.Core.Path.{_≡_};
 ghost use mathlib.Core.Bool.{true, false};
 ghost use Prim.Native.Nat.{_≤_, _<_, _+_, _-_, _^_};
-ghost use lib.ListN.{length, take};
-ghost use Rattle.der.specs.Tag.{tagOf, universal};
+ghost use lib.ListN.{length};
+ghost use Rattle.der.specs.Tag.{tagOf};
 ghost use Rattle.rows.specs.Row as row;
 ghost use Rattle.groups.specs.Clauses as clause;
 ghost use Rattle.table.specs.Admitted as admitted;
 ghost use Rattle.table.specs.Work as work;
-ghost use Rattle.octets.specs.Pick.{both, no};
+ghost use Rattle.octets.specs.Pick.{both};
 ghost use Rattle.table.specs.Check.{report, tableReport};
 ghost use Rattle.rows.specs.Paper.{tableLimits};
 

@@ -177,10 +177,6 @@ own-long (listOf k ty) g v at end start n e = (let a = inside-long (tagOctet g k
 pub inside-fits : (o : ℕ) (v : List ℕ) (at end start n : ℕ) (h : Inside) → h ≡ insideAt o v at end → h ≡ Inside.Of start n → end < 18446744073709551616 → start + n < 18446744073709551616
 inside-fits o v at end start n h e q l = let w = inside-within o v at end start n (sym e ∙ q) in omega arith
 
--- what is opened inside an end that is one of the language's numbers
-pub own-fits : (ty : Ty) (g : Tagging) (v : List ℕ) (at end start n : ℕ) (h : Inside) → h ≡ ownHeader ty g v at end → h ≡ Inside.Of start n → end < 18446744073709551616 → start + n < 18446744073709551616
-own-fits ty g v at end start n h e q l = let w = own-long ty g v at end start n (sym e ∙ q) .1 in omega arith
-
 plain-long : (ty : Ty) (g : Tagging) (v : List ℕ) (at end : ℕ) (o : Opened) → openOwn ty g v at end ≡ some o → (at + 2 ≤ after o) × (after o ≤ end)
 plain-long ty g v at end o e =
     let w = opened-view (ownHeader ty g v at end) (openedAs at) o e in

@@ -1,15 +1,15 @@
 -- The value check: one lemma for each return; its premises are the facts as the code has them.
 use mathlib.Core.Path.{_≡_, refl, sym, ap, _∙_}
-use mathlib.Core.Bool.{Bool, true, false, not, true≢false}
+use mathlib.Core.Bool.{Bool, true, false, not}
 use mathlib.Core.Option.{Option, none, some}
 use mathlib.Core.List.{List}
 use Prim.Native.Nat.{ℕ, _≤_, _<_, _+_}
 use native.Mathlib.Omega.{arith}
-use borrow.Author.Tests.{not-true, not-false, lt-leb, le-leb}
+use borrow.Author.Tests.{not-true, not-false}
 use lib.ListN.{length, take}
-use lib.Dec.{leb, eqb}
+use lib.Dec.{eqb}
 use borrow.Table.Elements.{take-le}
-use Rattle.octets.specs.Pick.{pick, both, no, bind, isSome}
+use Rattle.octets.specs.Pick.{pick, bind, isSome}
 use Rattle.rows.specs.Limits.{Limits, tableFits}
 use Rattle.rows.specs.Paper.{tableLimits}
 use Rattle.rows.specs.Row.{rows}

@@ -7,7 +7,7 @@ use lib.Dec.{ltb, leb, eqb}
 use Rattle.octets.specs.Pick.{pick, both, either, bind, isSome}
 use Rattle.octets.specs.Octets.{octet, part, same}
 use Rattle.der.specs.Kind as kind
-use Rattle.der.specs.Tag.{tagOf, ownOctet, wrapperOctet}
+use Rattle.der.specs.Tag.{tagOf, wrapperOctet}
 use Rattle.der.specs.Header.{insideAt}
 use Rattle.der.specs.Contents.{legal}
 use Rattle.der.specs.Order.{notAbove}

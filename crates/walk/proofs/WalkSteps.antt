@@ -1,5 +1,5 @@
 -- The walk: one lemma for each return, each call and each turn of a loop; its premises are the facts as the code has them.
-use mathlib.Core.Path.{_≡_, refl, sym, ap, ap₂, _∙_, subst}
+use mathlib.Core.Path.{_≡_, refl, sym, ap, _∙_}
 use mathlib.Core.Bool.{Bool, true, false, not, false≢true}
 use mathlib.Core.Option.{Option, none, some}
 use mathlib.Core.List.{List, [], _∷_}
@@ -8,7 +8,7 @@ use native.Mathlib.Omega.{arith}
 use borrow.Author.Tests.{eqb-true, not-true, not-false, lt-ltb, le-ltb, ne-eqb, eqb-false, ltb-true, leb-true}
 use lib.ListN.{length}
 use lib.Dec.{ltb, leb, eqb}
-use Rattle.octets.specs.Pick.{pick, both, bind, isSome}
+use Rattle.octets.specs.Pick.{pick, isSome}
 use Rattle.octets.specs.Octets.{part}
 use Rattle.octets.proofs.Laws.{both-true}
 use Rattle.rows.specs.Row.{rowAt, kindAt, elementAt, membersAt, presenceAt, defaultAt, isList}
@@ -16,7 +16,7 @@ use Rattle.table.specs.Types.{untagged, taggingOf, Presence, mandatory, optiona
 use Rattle.table.specs.Work.{Sound}
 use Rattle.value.proofs.CheckSteps.{typed-list, typed-choice, typed-sequence, typed-basic}
 use Rattle.reference.specs.Reference.{Index, position, fromEnd, count, all, Id, name, index, readReference}
-use Rattle.reference.specs.Numbers.{Component, stored, defaulted, tallied}
+use Rattle.reference.specs.Numbers.{Component, defaulted, tallied}
 use Rattle.reference.specs.Work.{cap, idsAt, headCapped, stepTold, advances}
 use Rattle.reference.specs.declared.Step.{Step}
 use Rattle.reference.proofs.Laws.{ids-all, ids-over, ids-within, bad-step, end-step, name-step, position-step, from-end-step, count-step, all-step, name-rises, position-rises, from-end-rises, all-rises}

@@ -1,5 +1,5 @@
 use Prim.Native.Nat.{_-_, _≤_}
-use mathlib.Core.Path.{_≡_, refl}
+use mathlib.Core.Path.{_≡_}
 use native.Mathlib.Omega.{arith}
 use Rattle.value.specs.Work.{first, markedOf}
 use Rattle.value.proofs.LeafSteps.{first-start, first-found, first-again, first-done}
