@@ -18,6 +18,7 @@ use Rattle.rows.specs.Row.{kindAt, rowAt, isList, elementAt, membersAt}
 use Rattle.groups.specs.Clauses.{everyRow, pointsLater, membersStand, memberPlace, ofMember, chainFits}
 use Rattle.groups.specs.Work.{memberType, larger, memberDepth, tallest, deepest, Later}
 use Rattle.groups.proofs.LaterSteps.{is-later}
+use Rattle.rows.specs.Paper.{tableLimits}
 
 pick-cong : {A : Type 0} (b : Bool) (x y x' y' : A) → (b ≡ true → x ≡ x') → (b ≡ false → y ≡ y') → pick b x y ≡ pick b x' y'
 pick-cong true x y x' y' f g = f refl
@@ -120,11 +121,11 @@ module _ (t s d : List ℕ) (i m : ℕ) (points : everyRow (pointsLater t s) s �
   next k = let r : Right t s d (suc (i - 1)) = rw one-down (v .2) in let l : i - 1 < length s = omega arith in
       depth-next t s d (i - 1) (is-later t s points stands) r l k ∙ ap (λ (x : ℕ). leb (x + 1) k) (sym told)
 
-  pub chains-long : 16 ≤ m → false ≡ everyRow (chainFits 16 t s) s
+  pub chains-long : 16 ≤ m → false ≡ everyRow (chainFits (tableLimits .chain) t s) s
   chains-long h = let l : i - 1 < length s = omega arith in
-      sym (all-not (chainFits 16 t s) (length s) (i - 1) l (next 16 ∙ lt-leb (m + 1) 16 (omega arith)))
+      sym (all-not (chainFits (tableLimits .chain) t s) (length s) (i - 1) l (next 16 ∙ lt-leb (m + 1) 16 (omega arith)))
 
-  pub chains-again : m < 16 → length s ≤ 128 → Chains t s (set d (i - 1) (m + 1)) (i - 1)
+  pub chains-again : m < 16 → length s ≤ tableLimits .rows → Chains t s (set d (i - 1) (m + 1)) (i - 1)
   chains-again h short = (omega arith, length-set d (i - 1) (m + 1) ∙ v .1, λ j a b. ⊎-elim (here j) (there j b) (eq-or-lt-of-le a))
     where
       inside : i - 1 < length d
@@ -136,5 +137,5 @@ module _ (t s d : List ℕ) (i m : ℕ) (points : everyRow (pointsLater t s) s �
       there : (j : ℕ) → j < length s → i - 1 < j → (rowAt (set d (i - 1) (m + 1)) j ≤ 16) × ((k : ℕ) → chainFits k t s j ≡ leb (rowAt (set d (i - 1) (m + 1)) j) k)
       there j b l = rw (getD-set-other d (i - 1) j (m + 1) 0 (λ z. omega arith)) (v .2 j (omega arith) b)
 
-pub chains-done : (t s d : List ℕ) (i : ℕ) → Chains t s d i → i ≤ 0 → true ≡ everyRow (chainFits 16 t s) s
-chains-done t s d i v z = sym (all-is (chainFits 16 t s) (length s) (λ j l. let w = v .2 j (omega arith) l in w .1 16 ∙ le-leb (rowAt d j) 16 (w .0)))
+pub chains-done : (t s d : List ℕ) (i : ℕ) → Chains t s d i → i ≤ 0 → true ≡ everyRow (chainFits (tableLimits .chain) t s) s
+chains-done t s d i v z = sym (all-is (chainFits (tableLimits .chain) t s) (length s) (λ j l. let w = v .2 j (omega arith) l in w .1 16 ∙ le-leb (rowAt d j) 16 (w .0)))

@@ -11,6 +11,7 @@ use lib.Seq.{take-suc-set, length-take-le}
 use Rattle.octets.specs.Pick.{consed}
 use Rattle.octets.specs.Octets.{octet}
 use Rattle.rows.specs.Row.{rowSize, rowsFrom, rows}
+use Rattle.rows.specs.Paper.{tableLimits}
 
 abbrev pub joined : List ℕ → Option (List ℕ) → Option (List ℕ)
 joined xs none = none
@@ -18,23 +19,23 @@ joined xs (some ys) = some (xs ++ ys)
 
 -- what was found and what is left make the rows
 abbrev pub Found : List ℕ → List ℕ → ℕ → ℕ → Type 0
-Found t s at n = (n ≤ 128) × (at ≤ length t) × (length s ≡ 128) × (joined (take n s) (rowsFrom (128 - n) t at) ≡ rowsFrom 128 t 0)
+Found t s at n = (n ≤ 128) × (at ≤ length t) × (length s ≡ 128) × (joined (take n s) (rowsFrom (128 - n) t at) ≡ rowsFrom (tableLimits .rows) t 0)
 
 abbrev Told : List ℕ → List ℕ → ℕ → Type 0
-Told t s r = (r ≡ length (rows 128 t)) × (take r s ≡ rows 128 t)
+Told t s r = (r ≡ length (rows (tableLimits .rows) t)) × (take r s ≡ rows (tableLimits .rows) t)
 
 pub scan-start : (t s : List ℕ) → length s ≡ 128 → Found t s 0 0
-scan-start t s e = (omega arith, omega arith, e, from (rowsFrom 128 t 0))
+scan-start t s e = (omega arith, omega arith, e, from (rowsFrom (tableLimits .rows) t 0))
   where
     from : (o : Option (List ℕ)) → joined [] o ≡ o
     from none = refl
     from (some ys) = refl
 
-pub no-rows : (t : List ℕ) → none ≡ rowsFrom 128 t 0 → (0 ≡ length (rows 128 t)) × (([] ≡ rows 128 t) × (0 ≤ 128))
+pub no-rows : (t : List ℕ) → none ≡ rowsFrom (tableLimits .rows) t 0 → (0 ≡ length (rows (tableLimits .rows) t)) × (([] ≡ rows (tableLimits .rows) t) × (0 ≤ 128))
 unfolding rows
 no-rows t e = (rw (← e), (rw (← e), omega arith))
 
-told-all : (t s : List ℕ) (n : ℕ) → n ≤ length s → some (take n s ++ []) ≡ rowsFrom 128 t 0 → Told t s n
+told-all : (t s : List ℕ) (n : ℕ) → n ≤ length s → some (take n s ++ []) ≡ rowsFrom (tableLimits .rows) t 0 → Told t s n
 unfolding rows
 told-all t s n h e = (rw (← e, append-nil (take n s), length-take-le n s h), rw (← e, append-nil (take n s)))
 
@@ -47,17 +48,17 @@ module _ (t s : List ℕ) (at n : ℕ) (found : Found t s at n) where
       ended zero = rw (le-ltb at (length t) h)
       ended (suc k) = rw (le-ltb at (length t) h)
 
-  pub scan-count : length t ≤ at → n ≡ length (rows 128 t)
+  pub scan-count : length t ≤ at → n ≡ length (rows (tableLimits .rows) t)
   scan-count h = scan-done h .0
 
-  pub scan-list : length t ≤ at → take n s ≡ rows 128 t
+  pub scan-list : length t ≤ at → take n s ≡ rows (tableLimits .rows) t
   scan-list h = scan-done h .1
 
   pub scan-most : n ≤ 128
   scan-most = found .0
 
   module _ (inside : at < length t) where
-    pub scan-many : n ≡ 128 → none ≡ rowsFrom 128 t 0
+    pub scan-many : n ≡ 128 → none ≡ rowsFrom (tableLimits .rows) t 0
     unfolding rowsFrom
     scan-many q = sym (ap (joined (take n s)) none-left) ∙ found .3
       where
@@ -71,7 +72,7 @@ module _ (t s : List ℕ) (at n : ℕ) (found : Found t s at n) where
           below : (n : ℕ) → n ≤ 128 → (n ≡ 128 → ⊥) → n < 128
           below n h r = omega arith
 
-      pub scan-kind : size ≡ 0 → none ≡ rowsFrom 128 t 0
+      pub scan-kind : size ≡ 0 → none ≡ rowsFrom (tableLimits .rows) t 0
       unfolding rowsFrom
       scan-kind q = sym (ap (joined (take n s)) no-kind) ∙ found .3
         where
@@ -79,7 +80,7 @@ module _ (t s : List ℕ) (at n : ℕ) (found : Found t s at n) where
           no-kind = rw (one-more, lt-ltb at (length t) inside, ← sized, q)
 
       module _ (some-size : size ≡ 0 → ⊥) where
-        pub scan-short : length t - at < size → none ≡ rowsFrom 128 t 0
+        pub scan-short : length t - at < size → none ≡ rowsFrom (tableLimits .rows) t 0
         unfolding rowsFrom
         scan-short q = sym (ap (joined (take n s)) short) ∙ found .3
           where

@@ -25,6 +25,7 @@ use Rattle.table.specs.Begins.{asTagged, begins, someBegins, memberBegin
 use Rattle.table.specs.Work.{bitOf, contextBit, memberMask, groupFrom, rowMask, apartMask, endsRun, runFrom, newMask, differFrom, masksDiffer, Masked}
 use Rattle.table.proofs.TypeLaws.{member-fits}
 use Rattle.table.proofs.BitSets.{bit-none, bit-or, bit-one, sets-apart}
+use Rattle.rows.specs.Paper.{tableLimits}
 
 pick-bit : (x : Bool) (g a b : ℕ) (c d : Bool) → (x ≡ true → bitOf a g ≡ c) → (x ≡ false → bitOf b g ≡ d) → bitOf (pick x a b) g ≡ pick x c d
 pick-bit true g a b c d p q = p refl
@@ -271,12 +272,12 @@ module _ (t s m : List ℕ) (i : ℕ) (later : Later t s) (masks : Masks t s m (
 
 -- ---- the loop from the last row to the first
 abbrev pub Tags : List ℕ → List ℕ → List ℕ → ℕ → Type 0
-Tags t s m i = (i ≤ length s) × (length m ≡ 128) × Masks t s m i × ((j : ℕ) → i ≤ j → j < length s → tagsDiffer 16 t s j ≡ true)
+Tags t s m i = (i ≤ length s) × (length m ≡ tableLimits .rows) × Masks t s m i × ((j : ℕ) → i ≤ j → j < length s → tagsDiffer (tableLimits .chain) t s j ≡ true)
 
-pub tags-start : (t s m : List ℕ) → length m ≡ 128 → Tags t s m (length s)
+pub tags-start : (t s m : List ℕ) → length m ≡ tableLimits .rows → Tags t s m (length s)
 tags-start t s m e = (omega arith, e, λ j h l. absurd (omega arith), λ j h l. absurd (omega arith))
 
-module _ (t s m : List ℕ) (i : ℕ) (r : Bool) (points : everyRow (pointsLater t s) s ≡ true) (stands : membersStand t s ≡ true) (chained : everyRow (chainFits 16 t s) s ≡ true)
+module _ (t s m : List ℕ) (i : ℕ) (r : Bool) (points : everyRow (pointsLater t s) s ≡ true) (stands : membersStand t s ≡ true) (chained : everyRow (chainFits (tableLimits .chain) t s) s ≡ true)
     (v : Tags t s m i) (pos : 0 < i) (told : r ≡ masksDiffer m t s (i - 1)) where
   later : Later t s
   later = is-later t s points stands
@@ -287,14 +288,14 @@ module _ (t s m : List ℕ) (i : ℕ) (r : Bool) (points : everyRow (pointsLater
   masks-after : Masks t s m (suc (i - 1))
   masks-after = let q : suc (i - 1) ≡ i = omega arith in rw q (v .2)
 
-  row-told : r ≡ tagsDiffer 16 t s (i - 1)
+  row-told : r ≡ tagsDiffer (tableLimits .chain) t s (i - 1)
   unfolding tagsDiffer
-  row-told = told ∙ differ-same t s m (i - 1) later masks-after below 15 (all-at (chainFits 16 t s) (length s) (i - 1) chained below)
+  row-told = told ∙ differ-same t s m (i - 1) later masks-after below 15 (all-at (chainFits (tableLimits .chain) t s) (length s) (i - 1) chained below)
 
-  pub tags-bad : not r ≡ true → false ≡ everyRow (tagsDiffer 16 t s) s
-  tags-bad e = sym (all-not (tagsDiffer 16 t s) (length s) (i - 1) below (sym row-told ∙ not-true r e))
+  pub tags-bad : not r ≡ true → false ≡ everyRow (tagsDiffer (tableLimits .chain) t s) s
+  tags-bad e = sym (all-not (tagsDiffer (tableLimits .chain) t s) (length s) (i - 1) below (sym row-told ∙ not-true r e))
 
-  pub tags-again : (w : ℕ) → not r ≡ false → length s ≤ 128 → w ≡ rowMask m t s (i - 1) → Tags t s (set m (i - 1) w) (i - 1)
+  pub tags-again : (w : ℕ) → not r ≡ false → length s ≤ tableLimits .rows → w ≡ rowMask m t s (i - 1) → Tags t s (set m (i - 1) w) (i - 1)
   tags-again w e short told-mask = (omega arith, length-set m (i - 1) w ∙ v .1, λ j a b. ⊎-elim (here j) (there j b) (eq-or-lt-of-le a), λ j a b. ⊎-elim (λ q. rw (← q) (sym row-told ∙ not-false r e)) (λ l. v .3 j (omega arith) b) (eq-or-lt-of-le a))
     where
       inside : i - 1 < length m
@@ -306,11 +307,11 @@ module _ (t s m : List ℕ) (i : ℕ) (r : Bool) (points : everyRow (pointsLater
       there : (j : ℕ) → j < length s → i - 1 < j → (rowAt (set m (i - 1) w) j < 2 ^ 64) × ((k : ℕ) → chainFits k t s j ≡ true → (g : ℕ) → g < 64 → bitOf (rowAt (set m (i - 1) w) j) g ≡ begins (typeFrom k t s j) g)
       there j b l = rw (getD-set-other m (i - 1) j w 0 (λ z. omega arith)) (v .2 j (omega arith) b)
 
-pub tags-done : (t s m : List ℕ) (i : ℕ) → Tags t s m i → i ≤ 0 → true ≡ everyRow (tagsDiffer 16 t s) s
-tags-done t s m i v z = sym (all-is (tagsDiffer 16 t s) (length s) (λ j l. v .3 j (omega arith) l))
+pub tags-done : (t s m : List ℕ) (i : ℕ) → Tags t s m i → i ≤ 0 → true ≡ everyRow (tagsDiffer (tableLimits .chain) t s) s
+tags-done t s m i v z = sym (all-is (tagsDiffer (tableLimits .chain) t s) (length s) (λ j l. v .3 j (omega arith) l))
 
-pub tags-masked : (t s m : List ℕ) (i : ℕ) → everyRow (chainFits 16 t s) s ≡ true → Tags t s m i → i ≤ 0 → Masked 16 t s m
-tags-masked t s m i chained v z = record { says = λ j l g b. v .2 j (omega arith) l .1 16 (all-at (chainFits 16 t s) (length s) j chained l) g b }
+pub tags-masked : (t s m : List ℕ) (i : ℕ) → everyRow (chainFits (tableLimits .chain) t s) s ≡ true → Tags t s m i → i ≤ 0 → Masked (tableLimits .chain) t s m
+tags-masked t s m i chained v z = record { says = λ j l g b. v .2 j (omega arith) l .1 16 (all-at (chainFits (tableLimits .chain) t s) (length s) j chained l) g b }
 
-pub not-masked : (t s m : List ℕ) → false ≡ true → Masked 16 t s m
+pub not-masked : (t s m : List ℕ) → false ≡ true → Masked (tableLimits .chain) t s m
 not-masked t s m e = absurd (false≢true e)

@@ -35,6 +35,7 @@ use Rattle.walk.specs.declared.State.{State}
 use Rattle.walk.specs.declared.Task.{Task}
 use Rattle.walk.specs.declared.Reached.{Reached}
 use Rattle.walk.proofs.RunLaws.{run-accepted, run-over, run-fault, run-then, at-done, at-fault, at-one}
+use Rattle.rows.specs.Paper.{tableLimits}
 
 -- ---- identifiers
 pub is-some : {A : Type 0} (o : Option A) → isSome o ≡ true → (a : A) × (o ≡ some a)
@@ -129,24 +130,24 @@ count-any d is (sequence ms) v o = index-on-sequence d is count v o ms ∙ sym (
 count-any d is (choice ms) v o = index-on-choice d is count v o ms ∙ sym (index-on-choice true is count v o ms)
 count-any d is (listOf k ty) v o = along-count d is k ty v o ∙ sym (along-count true is k ty v o)
 
-module _ (t s m : List ℕ) (row : ℕ) (ok : Sound 16 t s m) (here : row < length s) (p k : ℕ) (l : Bool) (placed : p ≡ rowAt s row) (kinded : k ≡ kindAt t p) (listed : l ≡ isList k) where
+module _ (t s m : List ℕ) (row : ℕ) (ok : Sound (tableLimits .chain) t s m) (here : row < length s) (p k : ℕ) (l : Bool) (placed : p ≡ rowAt s row) (kinded : k ≡ kindAt t p) (listed : l ≡ isList k) where
   abbrev element : Ty
-  element = typeFrom 16 t s (elementAt t (rowAt s row))
+  element = typeFrom (tableLimits .chain) t s (elementAt t (rowAt s row))
 
   abbrev parts : Members
-  parts = membersFrom (typeFrom 16 t s) t s (row + 1) (membersAt t (rowAt s row))
+  parts = membersFrom (typeFrom (tableLimits .chain) t s) t s (row + 1) (membersAt t (rowAt s row))
 
-  the-type : typeFrom 16 t s row ≡ typed k element parts
+  the-type : typeFrom (tableLimits .chain) t s row ≡ typed k element parts
   the-type = ok .step row here ∙ ap (λ (y : ℕ). typed y element parts) (sym (kinded ∙ ap (kindAt t) placed))
 
-  no-list : not l ≡ true → (d : Bool) (i : Index) (is : List Id) (v : List ℕ) (o : Opened) → along d (index i ∷ is) (typeFrom 16 t s row) v o ≡ done
+  no-list : not l ≡ true → (d : Bool) (i : Index) (is : List Id) (v : List ℕ) (o : Opened) → along d (index i ∷ is) (typeFrom (tableLimits .chain) t s row) v o ≡ done
   no-list h d i is v o = ap (λ (ty : Ty). along d (index i ∷ is) ty v o) the-type ∙ unlisted k element parts d i is v o (sym listed ∙ not-true l h)
 
   module _ (task : Task) (x out v r : List ℕ) (n place start span next : ℕ) where
-    pub count-none : not l ≡ true → seen (State.Going n) out ≡ run task x (seen (State.Going n) out) (along true (index count ∷ idsFrom r next) (typeFrom 16 t s row) v (standing place start span))
+    pub count-none : not l ≡ true → seen (State.Going n) out ≡ run task x (seen (State.Going n) out) (along true (index count ∷ idsFrom r next) (typeFrom (tableLimits .chain) t s row) v (standing place start span))
     count-none h = stays task x out n _ (no-list h true count (idsFrom r next) v (standing place start span))
 
-    pub all-none : (d : Bool) → not l ≡ true → seen (State.Going n) out ≡ run task x (seen (State.Going n) out) (along d (index all ∷ idsFrom r next) (typeFrom 16 t s row) v (standing place start span))
+    pub all-none : (d : Bool) → not l ≡ true → seen (State.Going n) out ≡ run task x (seen (State.Going n) out) (along d (index all ∷ idsFrom r next) (typeFrom (tableLimits .chain) t s row) v (standing place start span))
     all-none d h = stays task x out n _ (no-list h d all (idsFrom r next) v (standing place start span))
 
   module _ (e : ℕ) (named : e ≡ elementAt t p) (is-list : not l ≡ false) where
@@ -159,17 +160,17 @@ module _ (t s m : List ℕ) (row : ℕ) (ok : Sound 16 t s m) (here : row < leng
     pub element-here : e < length s
     element-here = rw the-row (ok .later .of-list row here (ap (λ (y : ℕ). isList (kindAt t y)) (sym placed) ∙ ap isList (sym kinded) ∙ list-kind) .1)
 
-    the-list : typeFrom 16 t s row ≡ listOf k (typeFrom 16 t s e)
-    the-list = the-type ∙ typed-list k element parts list-kind ∙ ap (λ (y : ℕ). listOf k (typeFrom 16 t s y)) (sym the-row)
+    the-list : typeFrom (tableLimits .chain) t s row ≡ listOf k (typeFrom (tableLimits .chain) t s e)
+    the-list = the-type ∙ typed-list k element parts list-kind ∙ ap (λ (y : ℕ). listOf k (typeFrom (tableLimits .chain) t s y)) (sym the-row)
 
     module _ (task : Task) (x out v r : List ℕ) (n place start span next : ℕ) where
-      pub count-size : (w : Seen) → w ≡ run task x (seen (State.Going n) out) (orFault (tally (idsFrom r next) place) (countFrom (openAt (typeFrom 16 t s e) untagged v) span (start + span) 0 start))
-          → w ≡ run task x (seen (State.Going n) out) (along true (index count ∷ idsFrom r next) (typeFrom 16 t s row) v (standing place start span))
-      count-size w g = goes task x out n _ _ w (ap (λ (ty : Ty). along true (index count ∷ idsFrom r next) ty v (standing place start span)) the-list ∙ along-count true (idsFrom r next) k (typeFrom 16 t s e) v (standing place start span)) g
+      pub count-size : (w : Seen) → w ≡ run task x (seen (State.Going n) out) (orFault (tally (idsFrom r next) place) (countFrom (openAt (typeFrom (tableLimits .chain) t s e) untagged v) span (start + span) 0 start))
+          → w ≡ run task x (seen (State.Going n) out) (along true (index count ∷ idsFrom r next) (typeFrom (tableLimits .chain) t s row) v (standing place start span))
+      count-size w g = goes task x out n _ _ w (ap (λ (ty : Ty). along true (index count ∷ idsFrom r next) ty v (standing place start span)) the-list ∙ along-count true (idsFrom r next) k (typeFrom (tableLimits .chain) t s e) v (standing place start span)) g
 
-      pub all-each : (d : Bool) (w : Seen) → w ≡ run task x (seen (State.Going n) out) (eachFrom (openAt (typeFrom 16 t s e) untagged v) (goingOn d (idsFrom r next) v (typeFrom 16 t s e)) span (start + span) start)
-          → w ≡ run task x (seen (State.Going n) out) (along d (index all ∷ idsFrom r next) (typeFrom 16 t s row) v (standing place start span))
-      all-each d w g = goes task x out n _ _ w (ap (λ (ty : Ty). along d (index all ∷ idsFrom r next) ty v (standing place start span)) the-list ∙ along-all d (idsFrom r next) k (typeFrom 16 t s e) v (standing place start span)) g
+      pub all-each : (d : Bool) (w : Seen) → w ≡ run task x (seen (State.Going n) out) (eachFrom (openAt (typeFrom (tableLimits .chain) t s e) untagged v) (goingOn d (idsFrom r next) v (typeFrom (tableLimits .chain) t s e)) span (start + span) start)
+          → w ≡ run task x (seen (State.Going n) out) (along d (index all ∷ idsFrom r next) (typeFrom (tableLimits .chain) t s row) v (standing place start span))
+      all-each d w g = goes task x out n _ _ w (ap (λ (ty : Ty). along d (index all ∷ idsFrom r next) ty v (standing place start span)) the-list ∙ along-all d (idsFrom r next) k (typeFrom (tableLimits .chain) t s e) v (standing place start span)) g
 
 -- ---- the number of elements
 module _ (ty : Ty) (v r : List ℕ) (k place start span : ℕ) (task : Task) (x out : List ℕ) (n : ℕ) (c : Counted) (told : countedTold c ≡ countFrom (openAt ty untagged v) (start + span - start) (start + span) 0 start) where
@@ -281,37 +282,37 @@ lands-fits s v row at start span f h l e = let a = lands-end s (length v) row at
 
 module _ (t s v : List ℕ) (task : Task) (x out : List ℕ) (n place : ℕ) (d : Bool) (f : Found) where
   module _ (is : List Id) where
-    led : (y : Found) → f ≡ y → onFound d is place (goingOn d is v) (foundTold 16 t s f) ≡ onFound d is place (goingOn d is v) (foundTold 16 t s y)
-    led y e = ap (λ (z : Found). onFound d is place (goingOn d is v) (foundTold 16 t s z)) e
+    led : (y : Found) → f ≡ y → onFound d is place (goingOn d is v) (foundTold (tableLimits .chain) t s f) ≡ onFound d is place (goingOn d is v) (foundTold (tableLimits .chain) t s y)
+    led y e = ap (λ (z : Found). onFound d is place (goingOn d is v) (foundTold (tableLimits .chain) t s z)) e
 
-    pub found-at : (row at start span : ℕ) (w : Seen) → f ≡ Found.At row at start span → w ≡ run task x (seen (State.Going n) out) (along d is (typeFrom 16 t s row) v (standing at start span))
-        → w ≡ run task x (seen (State.Going n) out) (onFound d is place (goingOn d is v) (foundTold 16 t s f))
+    pub found-at : (row at start span : ℕ) (w : Seen) → f ≡ Found.At row at start span → w ≡ run task x (seen (State.Going n) out) (along d is (typeFrom (tableLimits .chain) t s row) v (standing at start span))
+        → w ≡ run task x (seen (State.Going n) out) (onFound d is place (goingOn d is v) (foundTold (tableLimits .chain) t s f))
     found-at row at start span w e g = goes task x out n _ _ w (led _ e) g
 
-    pub found-nothing : f ≡ Found.Nothing → seen (State.Going n) out ≡ run task x (seen (State.Going n) out) (onFound d is place (goingOn d is v) (foundTold 16 t s f))
+    pub found-nothing : f ≡ Found.Nothing → seen (State.Going n) out ≡ run task x (seen (State.Going n) out) (onFound d is place (goingOn d is v) (foundTold (tableLimits .chain) t s f))
     found-nothing e = stays task x out n _ (led _ e)
 
-    pub found-broken : f ≡ Found.Broken → seen State.Fault out ≡ run task x (seen (State.Going n) out) (onFound d is place (goingOn d is v) (foundTold 16 t s f))
+    pub found-broken : f ≡ Found.Broken → seen State.Fault out ≡ run task x (seen (State.Going n) out) (onFound d is place (goingOn d is v) (foundTold (tableLimits .chain) t s f))
     found-broken e = breaks task x out n _ (led _ e)
 
   -- where the reference ends
   pub last-at : (row at start span : ℕ) (w : Seen) → f ≡ Found.At row at start span → w ≡ visited task x (componentOf t s v (Reached.Stored at start span)) n out
-      → w ≡ run task x (seen (State.Going n) out) (onFound d [] place (goingOn d [] v) (foundTold 16 t s f))
+      → w ≡ run task x (seen (State.Going n) out) (onFound d [] place (goingOn d [] v) (foundTold (tableLimits .chain) t s f))
   unfolding componentOf
-  last-at row at start span w e g = visits task x out n _ _ w (led [] _ e ∙ along-end d (typeFrom 16 t s row) v (standing at start span)) g
+  last-at row at start span w e g = visits task x out n _ _ w (led [] _ e ∙ along-end d (typeFrom (tableLimits .chain) t s row) v (standing at start span)) g
 
   pub last-lacking : (row : ℕ) (w : Seen) → f ≡ Found.Lacking row → w ≡ run task x (seen (State.Going n) out) (lackingTrail d [] place (memberOf t row (rowAt s row)) (memberOf t row (rowAt s row) .presence))
-      → w ≡ run task x (seen (State.Going n) out) (onFound d [] place (goingOn d [] v) (foundTold 16 t s f))
+      → w ≡ run task x (seen (State.Going n) out) (onFound d [] place (goingOn d [] v) (foundTold (tableLimits .chain) t s f))
   last-lacking row w e g = goes task x out n _ _ w (led [] _ e) g
 
   module _ (r : List ℕ) (k : ℕ) where
-    pub found-last : (w : Seen) → length r < k → w ≡ run task x (seen (State.Going n) out) (onFound d [] place (goingOn d [] v) (foundTold 16 t s f))
-        → w ≡ run task x (seen (State.Going n) out) (onFound d (idsFrom r k) place (goingOn d (idsFrom r k) v) (foundTold 16 t s f))
-    found-last w h g = goes task x out n _ _ w (ap (λ (is : List Id). onFound d is place (goingOn d is v) (foundTold 16 t s f)) (ids-none r k h)) g
+    pub found-last : (w : Seen) → length r < k → w ≡ run task x (seen (State.Going n) out) (onFound d [] place (goingOn d [] v) (foundTold (tableLimits .chain) t s f))
+        → w ≡ run task x (seen (State.Going n) out) (onFound d (idsFrom r k) place (goingOn d (idsFrom r k) v) (foundTold (tableLimits .chain) t s f))
+    found-last w h g = goes task x out n _ _ w (ap (λ (is : List Id). onFound d is place (goingOn d is v) (foundTold (tableLimits .chain) t s f)) (ids-none r k h)) g
 
     -- an absent member has no components of its own
     pub found-lacking : (row : ℕ) → k ≤ length r → isSome (idsAt r k) ≡ true → f ≡ Found.Lacking row
-        → seen (State.Going n) out ≡ run task x (seen (State.Going n) out) (onFound d (idsFrom r k) place (goingOn d (idsFrom r k) v) (foundTold 16 t s f))
+        → seen (State.Going n) out ≡ run task x (seen (State.Going n) out) (onFound d (idsFrom r k) place (goingOn d (idsFrom r k) v) (foundTold (tableLimits .chain) t s f))
     found-lacking row h read e =
         let w = ids-some r k h read in
         let m : Member = memberOf t row (rowAt s row) in
@@ -372,53 +373,53 @@ module _ (r : List ℕ) (k : ℕ) (s : Step) (step : stepTold r s ≡ headCapped
   -- ---- the walk by its next identifier
   module _ (t ss v : List ℕ) (row place start span : ℕ) (task : Task) (x out : List ℕ) (n : ℕ) (d : Bool) where
     abbrev here-along : Trail
-    here-along = along d (idsFrom r k) (typeFrom 16 t ss row) v (standing place start span)
+    here-along = along d (idsFrom r k) (typeFrom (tableLimits .chain) t ss row) v (standing place start span)
 
-    pub walk-end : (w : Seen) → s ≡ Step.End → w ≡ visited task x (componentOf t ss v (Reached.Stored place start span)) n out → w ≡ run task x (seen (State.Going n) out) (along d (idsFrom r k) (typeFrom 16 t ss row) v (standing place start span))
+    pub walk-end : (w : Seen) → s ≡ Step.End → w ≡ visited task x (componentOf t ss v (Reached.Stored place start span)) n out → w ≡ run task x (seen (State.Going n) out) (along d (idsFrom r k) (typeFrom (tableLimits .chain) t ss row) v (standing place start span))
     unfolding componentOf
-    walk-end w e g = visits task x out n _ _ w (ap (λ (is : List Id). along d is (typeFrom 16 t ss row) v (standing place start span)) (end-ids e) ∙ along-end d (typeFrom 16 t ss row) v (standing place start span)) g
+    walk-end w e g = visits task x out n _ _ w (ap (λ (is : List Id). along d is (typeFrom (tableLimits .chain) t ss row) v (standing place start span)) (end-ids e) ∙ along-end d (typeFrom (tableLimits .chain) t ss row) v (standing place start span)) g
 
-    pub walk-bad : (w : Seen) → s ≡ Step.Bad → w ≡ run task x (seen (State.Going n) out) (along d (idsFrom r k) (typeFrom 16 t ss row) v (standing place start span))
+    pub walk-bad : (w : Seen) → s ≡ Step.Bad → w ≡ run task x (seen (State.Going n) out) (along d (idsFrom r k) (typeFrom (tableLimits .chain) t ss row) v (standing place start span))
     walk-bad w e = absurd (not-bad e)
 
-    pub walk-counts : (w : Seen) (next : ℕ) → s ≡ Step.Count next → w ≡ run task x (seen (State.Going n) out) (along true (index count ∷ idsFrom r next) (typeFrom 16 t ss row) v (standing place start span))
-        → w ≡ run task x (seen (State.Going n) out) (along d (idsFrom r k) (typeFrom 16 t ss row) v (standing place start span))
-    walk-counts w next e g = goes task x out n _ _ w (ap (λ (is : List Id). along d is (typeFrom 16 t ss row) v (standing place start span)) (count-ids next e) ∙ count-any d (idsFrom r next) (typeFrom 16 t ss row) v (standing place start span)) g
+    pub walk-counts : (w : Seen) (next : ℕ) → s ≡ Step.Count next → w ≡ run task x (seen (State.Going n) out) (along true (index count ∷ idsFrom r next) (typeFrom (tableLimits .chain) t ss row) v (standing place start span))
+        → w ≡ run task x (seen (State.Going n) out) (along d (idsFrom r k) (typeFrom (tableLimits .chain) t ss row) v (standing place start span))
+    walk-counts w next e g = goes task x out n _ _ w (ap (λ (is : List Id). along d is (typeFrom (tableLimits .chain) t ss row) v (standing place start span)) (count-ids next e) ∙ count-any d (idsFrom r next) (typeFrom (tableLimits .chain) t ss row) v (standing place start span)) g
 
-    pub walk-alls : (w : Seen) (next : ℕ) → s ≡ Step.All next → w ≡ run task x (seen (State.Going n) out) (along d (index all ∷ idsFrom r next) (typeFrom 16 t ss row) v (standing place start span))
-        → w ≡ run task x (seen (State.Going n) out) (along d (idsFrom r k) (typeFrom 16 t ss row) v (standing place start span))
-    walk-alls w next e g = goes task x out n _ _ w (ap (λ (is : List Id). along d is (typeFrom 16 t ss row) v (standing place start span)) (all-ids next e)) g
+    pub walk-alls : (w : Seen) (next : ℕ) → s ≡ Step.All next → w ≡ run task x (seen (State.Going n) out) (along d (index all ∷ idsFrom r next) (typeFrom (tableLimits .chain) t ss row) v (standing place start span))
+        → w ≡ run task x (seen (State.Going n) out) (along d (idsFrom r k) (typeFrom (tableLimits .chain) t ss row) v (standing place start span))
+    walk-alls w next e g = goes task x out n _ _ w (ap (λ (is : List Id). along d is (typeFrom (tableLimits .chain) t ss row) v (standing place start span)) (all-ids next e)) g
 
-    module _ (w : Seen) (f : Found) (next : ℕ) (g : w ≡ run task x (seen (State.Going n) out) (onFound d (idsFrom r next) place (goingOn d (idsFrom r next) v) (foundTold 16 t ss f))) where
-      by-found : (l : trail.Found) → here-along ≡ onFound d (idsFrom r next) place (goingOn d (idsFrom r next) v) l → foundTold 16 t ss f ≡ l → w ≡ run task x (seen (State.Going n) out) here-along
+    module _ (w : Seen) (f : Found) (next : ℕ) (g : w ≡ run task x (seen (State.Going n) out) (onFound d (idsFrom r next) place (goingOn d (idsFrom r next) v) (foundTold (tableLimits .chain) t ss f))) where
+      by-found : (l : trail.Found) → here-along ≡ onFound d (idsFrom r next) place (goingOn d (idsFrom r next) v) l → foundTold (tableLimits .chain) t ss f ≡ l → w ≡ run task x (seen (State.Going n) out) here-along
       by-found l e q = goes task x out n _ _ w (e ∙ ap (onFound d (idsFrom r next) place (goingOn d (idsFrom r next) v)) (sym q)) g
 
-      pub walk-name : (a b : ℕ) → s ≡ Step.Name a b next → foundTold 16 t ss f ≡ located (name (part r a (b - a))) (typeFrom 16 t ss row) v (standing place start span)
-          → w ≡ run task x (seen (State.Going n) out) (along d (idsFrom r k) (typeFrom 16 t ss row) v (standing place start span))
-      walk-name a b e q = by-found _ (ap (λ (is : List Id). along d is (typeFrom 16 t ss row) v (standing place start span)) (name-ids a b next e) ∙ along-name d (part r a (b - a)) (idsFrom r next) (typeFrom 16 t ss row) v (standing place start span)) q
+      pub walk-name : (a b : ℕ) → s ≡ Step.Name a b next → foundTold (tableLimits .chain) t ss f ≡ located (name (part r a (b - a))) (typeFrom (tableLimits .chain) t ss row) v (standing place start span)
+          → w ≡ run task x (seen (State.Going n) out) (along d (idsFrom r k) (typeFrom (tableLimits .chain) t ss row) v (standing place start span))
+      walk-name a b e q = by-found _ (ap (λ (is : List Id). along d is (typeFrom (tableLimits .chain) t ss row) v (standing place start span)) (name-ids a b next e) ∙ along-name d (part r a (b - a)) (idsFrom r next) (typeFrom (tableLimits .chain) t ss row) v (standing place start span)) q
 
       module _ (ends : start + span ≤ length v) (small : length v < 18446744073709551615) where
         fits : start + span < 18446744073709551615
         fits = omega arith
 
-        pub walk-position : (i : ℕ) → s ≡ Step.Position i next → foundTold 16 t ss f ≡ located (index (position i)) (typeFrom 16 t ss row) v (standing place start span)
-            → w ≡ run task x (seen (State.Going n) out) (along d (idsFrom r k) (typeFrom 16 t ss row) v (standing place start span))
+        pub walk-position : (i : ℕ) → s ≡ Step.Position i next → foundTold (tableLimits .chain) t ss f ≡ located (index (position i)) (typeFrom (tableLimits .chain) t ss row) v (standing place start span)
+            → w ≡ run task x (seen (State.Going n) out) (along d (idsFrom r k) (typeFrom (tableLimits .chain) t ss row) v (standing place start span))
         walk-position i e q =
             let u = position-ids i next e in
-            by-found _ (ap (λ (is : List Id). along d is (typeFrom 16 t ss row) v (standing place start span)) (u .1) ∙ along-position d (u .0) (idsFrom r next) (typeFrom 16 t ss row) v (standing place start span))
-            (q ∙ ap (λ (j : ℕ). located (index (position j)) (typeFrom 16 t ss row) v (standing place start span)) (u .2) ∙ located-position-capped (u .0) (typeFrom 16 t ss row) v (standing place start span) fits)
+            by-found _ (ap (λ (is : List Id). along d is (typeFrom (tableLimits .chain) t ss row) v (standing place start span)) (u .1) ∙ along-position d (u .0) (idsFrom r next) (typeFrom (tableLimits .chain) t ss row) v (standing place start span))
+            (q ∙ ap (λ (j : ℕ). located (index (position j)) (typeFrom (tableLimits .chain) t ss row) v (standing place start span)) (u .2) ∙ located-position-capped (u .0) (typeFrom (tableLimits .chain) t ss row) v (standing place start span) fits)
 
-        pub walk-from-end : (i : ℕ) → s ≡ Step.FromEnd i next → foundTold 16 t ss f ≡ located (index (fromEnd i)) (typeFrom 16 t ss row) v (standing place start span)
-            → w ≡ run task x (seen (State.Going n) out) (along d (idsFrom r k) (typeFrom 16 t ss row) v (standing place start span))
+        pub walk-from-end : (i : ℕ) → s ≡ Step.FromEnd i next → foundTold (tableLimits .chain) t ss f ≡ located (index (fromEnd i)) (typeFrom (tableLimits .chain) t ss row) v (standing place start span)
+            → w ≡ run task x (seen (State.Going n) out) (along d (idsFrom r k) (typeFrom (tableLimits .chain) t ss row) v (standing place start span))
         walk-from-end i e q =
             let u = from-end-ids i next e in
-            by-found _ (ap (λ (is : List Id). along d is (typeFrom 16 t ss row) v (standing place start span)) (u .1) ∙ along-from-end d (u .0) (idsFrom r next) (typeFrom 16 t ss row) v (standing place start span))
-            (q ∙ ap (λ (j : ℕ). located (index (fromEnd j)) (typeFrom 16 t ss row) v (standing place start span)) (u .2) ∙ located-from-end-capped (u .0) (typeFrom 16 t ss row) v (standing place start span) fits)
+            by-found _ (ap (λ (is : List Id). along d is (typeFrom (tableLimits .chain) t ss row) v (standing place start span)) (u .1) ∙ along-from-end d (u .0) (idsFrom r next) (typeFrom (tableLimits .chain) t ss row) v (standing place start span))
+            (q ∙ ap (λ (j : ℕ). located (index (fromEnd j)) (typeFrom (tableLimits .chain) t ss row) v (standing place start span)) (u .2) ∙ located-from-end-capped (u .0) (typeFrom (tableLimits .chain) t ss row) v (standing place start span) fits)
 
     -- the last identifier, a name
-    pub walk-last : (w : Seen) (f : Found) (next a b : ℕ) → length r < next → s ≡ Step.Name a b next → foundTold 16 t ss f ≡ located (name (part r a (b - a))) (typeFrom 16 t ss row) v (standing place start span)
-        → w ≡ run task x (seen (State.Going n) out) (onFound d [] place (goingOn d [] v) (foundTold 16 t ss f))
-        → w ≡ run task x (seen (State.Going n) out) (along d (idsFrom r k) (typeFrom 16 t ss row) v (standing place start span))
+    pub walk-last : (w : Seen) (f : Found) (next a b : ℕ) → length r < next → s ≡ Step.Name a b next → foundTold (tableLimits .chain) t ss f ≡ located (name (part r a (b - a))) (typeFrom (tableLimits .chain) t ss row) v (standing place start span)
+        → w ≡ run task x (seen (State.Going n) out) (onFound d [] place (goingOn d [] v) (foundTold (tableLimits .chain) t ss f))
+        → w ≡ run task x (seen (State.Going n) out) (along d (idsFrom r k) (typeFrom (tableLimits .chain) t ss row) v (standing place start span))
     walk-last w f next a b h e q g = walk-name w f next (found-last t ss v task x out n place d f r next w h g) a b e q
 
 -- ---- the place in the reference rises

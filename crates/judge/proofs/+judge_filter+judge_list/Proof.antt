@@ -22,6 +22,7 @@ use Rattle.judge.proofs.judge_assertion.Reads as judge-assertion-reads
 use Rattle.judge.proofs.next_turn.Reads as next-turn-reads
 use Rattle.judge.proofs.+judge_filter+judge_list.{statement}
 use Rattle.judge.proofs.+judge_filter+judge_list.Tie.{close}
+use Rattle.rows.specs.Paper.{tableLimits}
 
 -- the text that is left falls
 abbrev μ-judge-filter : Measures 5 judge-filter-kinds.ps ℕ
@@ -50,7 +51,7 @@ abbrev judge-list-claims : ℕ → judge-list-lts.Claims
 judge-list-claims t = (begin-reads.Asked, begin-reads.Learnt, goes-on-reads.Asked, goes-on-reads.Learnt, judge-filter-below t, judge-filter.Post, next-turn-reads.Asked, next-turn-reads.Learnt)
 
 abbrev judge-list-Inv-loop : judge-list-lts.InvT-loop
-judge-list-Inv-loop t s m v f at join live budget n i₀ k₀ p₀ i k p = Listing (typeFrom 16 t s 0) v f (joinOf join) (begun live) budget n at p k i
+judge-list-Inv-loop t s m v f at join live budget n i₀ k₀ p₀ i k p = Listing (typeFrom (tableLimits .chain) t s 0) v f (joinOf join) (begun live) budget n at p k i
 
 abbrev judge-list-μ-loop : judge-list-lts.MeasureT-loop
 judge-list-μ-loop t s m v f at join live budget n i₀ k₀ p₀ i k p = length f - i

@@ -13,6 +13,7 @@ use Rattle.trail.proofs.kept_tail.Reads as kept-tail-reads
 use Rattle.trail.proofs.open_element.Reads as open-element-reads
 use Rattle.trail.proofs.+last_from.{statement}
 use Rattle.trail.proofs.+last_from.Tie.{close}
+use Rattle.rows.specs.Paper.{tableLimits}
 
 abbrev μ-last-from : Measures 4 last-from-kinds.ps ℕ
 μ-last-from κs a = a .1 .1 .1 .1 .1 .1 .0 - a .1 .1 .1 .1 .1 .0
@@ -24,7 +25,7 @@ abbrev last-from-below : ℕ → In 4 last-from-kinds.ps
 last-from-below t = and 4 last-from-kinds.ps (falls 4 last-from-kinds.ps _<_ μ-last-from t) last-from.Pre
 
 abbrev Inv-loop : last-from-lts.InvT-loop
-Inv-loop t s m v row at stop i tag kept₀ p₀ n₀ kept p n = Keeping (typeFrom 16 t s row) v stop i at kept p n
+Inv-loop t s m v row at stop i tag kept₀ p₀ n₀ kept p n = Keeping (typeFrom (tableLimits .chain) t s row) v stop i at kept p n
 
 abbrev μ-loop : last-from-lts.MeasureT-loop
 μ-loop t s m v row at stop i tag kept₀ p₀ n₀ kept p n = 64 - n

@@ -4,9 +4,10 @@ use Rattle.trail.proofs.ListSteps.{Counting, count-start, count-bad, el
 use borrow.Author.Needs.{needs}
 use Rattle.trail.proofs.count_elements.Statement.{statement}
 use Rattle.trail.proofs.count_elements.Tie as tie
+use Rattle.rows.specs.Paper.{tableLimits}
 
 abbrev Inv-loop : tie.InvT-loop
-Inv-loop t s m v row start stop tag i₀ n₀ i n = Counting (typeFrom 16 t s row) v start stop i n
+Inv-loop t s m v row start stop tag i₀ n₀ i n = Counting (typeFrom (tableLimits .chain) t s row) v start stop i n
 
 abbrev μ-loop : tie.MeasureT-loop
 μ-loop t s m v row start stop tag i₀ n₀ i n = stop - i

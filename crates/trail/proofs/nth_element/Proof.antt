@@ -4,9 +4,10 @@ use Rattle.trail.proofs.ListSteps.{Seeking, nth-start, nth-bad, nth-fou
 use borrow.Author.Needs.{needs}
 use Rattle.trail.proofs.nth_element.Statement.{statement}
 use Rattle.trail.proofs.nth_element.Tie as tie
+use Rattle.rows.specs.Paper.{tableLimits}
 
 abbrev Inv-loop : tie.InvT-loop
-Inv-loop t s m v row start stop n tag i₀ left₀ i left = Seeking (typeFrom 16 t s row) v start stop n i left
+Inv-loop t s m v row start stop n tag i₀ left₀ i left = Seeking (typeFrom (tableLimits .chain) t s row) v start stop n i left
 
 abbrev μ-loop : tie.MeasureT-loop
 μ-loop t s m v row start stop n tag i₀ left₀ i left = stop - i

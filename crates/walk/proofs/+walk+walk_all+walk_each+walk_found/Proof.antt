@@ -34,6 +34,7 @@ use Rattle.walk.proofs.visit_found.Reads as visit-found-reads
 use Rattle.walk.proofs.walk_count.Reads as walk-count-reads
 use Rattle.walk.proofs.+walk+walk_all+walk_each+walk_found.{statement}
 use Rattle.walk.proofs.+walk+walk_all+walk_each+walk_found.Tie.{close}
+use Rattle.rows.specs.Paper.{tableLimits}
 
 abbrev μ-walk : Measures 7 walk-kinds.ps ℕ
 μ-walk κs a = 4 * (length (a .1 .1 .1 .1 .0 .now) + 2 - a .1 .1 .1 .1 .1 .0)
@@ -72,7 +73,7 @@ abbrev walk-found-below : ℕ → In 7 walk-found-kinds.ps
 walk-found-below t = and 7 walk-found-kinds.ps (falls 7 walk-found-kinds.ps _<_ μ-walk-found t) walk-found.Pre
 
 abbrev walk-each-Inv-loop : walk-each-lts.InvT-loop
-walk-each-Inv-loop t s m v r k text defaults task row start span n out₀ stop step tag i₀ reached₀ out i reached = Each task text defaults (idsFrom r k) (typeFrom 16 t s row) v start span n out₀ stop out i reached
+walk-each-Inv-loop t s m v r k text defaults task row start span n out₀ stop step tag i₀ reached₀ out i reached = Each task text defaults (idsFrom r k) (typeFrom (tableLimits .chain) t s row) v start span n out₀ stop out i reached
 
 abbrev walk-each-μ-loop : walk-each-lts.MeasureT-loop
 walk-each-μ-loop t s m v r k text defaults task row start span n out₀ stop step tag i₀ reached₀ out i reached = stop - i
