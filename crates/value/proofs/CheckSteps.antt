@@ -20,7 +20,8 @@ use Rattle.table.specs.Types.{untagged, implicit, taggingOf, Ty, basic, sequenc
 use Rattle.table.specs.Work.{Sound}
 use Rattle.value.specs.Value.{spotAt, Value, leaf, fields, Fields, Values}
 use Rattle.value.specs.Order.{rising}
-use Rattle.value.specs.Decode.{Decoded, decoded, afterOf, tagOctet, inside, inWrapper, leafOf, fieldsOf, elementsOf, many, unwrapped, fieldsFrom, alternativeFrom, decode}
+use Rattle.value.specs.Decode.{Decoded, decoded, afterOf, tagOctet, inside, inWrapper, leafOf, fieldsOf, elementsOf}
+use Rattle.value.specs.Decode.{many, unwrapped, fieldsFrom, alternativeFrom, decode}
 use Rattle.value.specs.Work.{told, upTo, fieldsTold, inOrder, elementsTold}
 use Rattle.value.specs.declared.Checked.{Checked}
 

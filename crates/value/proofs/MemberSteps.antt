@@ -17,13 +17,15 @@ use Rattle.der.specs.declared.Inside.{Inside}
 use Rattle.der.proofs.Laws.{tag-small}
 use Rattle.rows.specs.Row.{rowAt, kindAt, typeRowAt, membersAt, modeAt, numberAt, presenceAt, defaultAt}
 use Rattle.groups.specs.Clauses.{defaultAllowed, defaultLegal}
-use Rattle.table.specs.Types.{Tagging, untagged, explicit, implicit, mandatory, optional, default, taggingOf, presenceOf, Member, memberOf, Ty, basic, Members, more, membersFrom, typed, typeFrom}
+use Rattle.table.specs.Types.{Tagging, untagged, explicit, implicit, mandatory, optional, default, taggingOf, presenceOf, Member, memberOf}
+use Rattle.table.specs.Types.{Ty, basic, Members, more, membersFrom, typed, typeFrom}
 use Rattle.table.specs.Begins.{isMandatory}
 use Rattle.table.specs.Work.{Sound}
 use Rattle.table.proofs.TagLaws.{mandatory-as}
 use Rattle.table.proofs.SoundLaws.{member-tags}
 use Rattle.value.specs.Value.{spotAt, spotOf, Fields, endFields, present, absent}
-use Rattle.value.specs.Decode.{Decoded, afterOf, tagOctet, inWrapper, startsHere, isDefault, unlessDefault, presentThen, absentThen, unwrapped, fieldsFrom, decode}
+use Rattle.value.specs.Decode.{Decoded, afterOf, tagOctet, inWrapper, startsHere, isDefault, unlessDefault, presentThen}
+use Rattle.value.specs.Decode.{absentThen, unwrapped, fieldsFrom, decode}
 use Rattle.value.specs.Work.{told, upTo, marked, within, contentsAt, holds, storedDefault, isPlain, plainTold, absentTold, memberTold, fieldsTold}
 use Rattle.value.specs.declared.Checked.{Checked}
 use Rattle.value.proofs.Views.{leaf-view, wrapper-view}
