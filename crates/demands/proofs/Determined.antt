@@ -9,10 +9,12 @@ use Rattle.octets.specs.Pick.{pick, either}
 use Rattle.octets.specs.Octets.{same}
 use Rattle.rows.specs.Limits.{Limits}
 use Rattle.rows.specs.Row.{kindAt, elementAt, typeRowAt, isList, rows, rowAt, membersAt}
-use Rattle.table.specs.Types.{Tagging, Presence, mandatory, optional, default, Member, Ty, basic, sequence, choice, listOf, Members, noMore, more, memberOf, membersFrom, typeFrom, typeAt}
+use Rattle.table.specs.Types.{Tagging, Presence, mandatory, optional, default, Member, Ty, basic, sequence, choice, listOf}
+use Rattle.table.specs.Types.{Members, noMore, more, memberOf, membersFrom, typeFrom, typeAt}
 use Rattle.value.specs.Value.{Spot, spotOf, Value, leaf, fields, chosen, elements, Fields, endFields, present, absent, Values, endValues, next}
 use Rattle.value.specs.Decode.{storedValue}
-use Rattle.value.proofs.Decodes.{Decodes, is-basic, is-sequence, is-choice, is-list, Tagged, bare, filling, Fielded, none-left, there, lacks, Chosen, this, other, Elements, ends, goes, decodes-stored}
+use Rattle.value.proofs.Decodes.{Decodes, is-basic, is-sequence, is-choice, is-list, Tagged, bare, filling}
+use Rattle.value.proofs.Decodes.{Fielded, none-left, there, lacks, Chosen, this, other, Elements, ends, goes, decodes-stored}
 use Rattle.reader.specs.Sees.{Sees, SeesAll, SeesFields, SeesElements}
 use Rattle.reader.proofs.Laws.{stored-seen}
 use Rattle.reference.specs.Reference.{Index, position, fromEnd, count, all, Id, name, index}
@@ -89,7 +91,7 @@ module _ (t s v : List ℕ) where
     lacks-tagged (filling e d q) r = lacks-members d r
 
     lacks-choice : {end at : ℕ} {ms : Members} {x : Value} {after : ℕ} → Chosen v end at ms x after → RowedIn t s ms → Lacks t s x
-    lacks-choice (this q d e p) r = lacks-tagged d (r .1 .0)
+    lacks-choice (this q d b) r = lacks-tagged d (r .1 .0)
     lacks-choice (other q c) r = lacks-choice c (r .1 .1)
 
     lacks-fields : {stop : ℕ} {ms : Members} {i : ℕ} {fs : Fields} → Fielded v stop ms i fs → RowedIn t s ms → LackIn t s fs
@@ -245,6 +247,7 @@ pub named-determined : (l : Limits) (t v : List ℕ) (x : Value) → storedValue
 unfolding typeAt named
 named-determined l t v x e defaults is =
     let s = rows (l .rows) t in
-    let known : Known t s v x = (stored-seen (typeFrom (l .chain) t s 0) v x e, lacks-members t s v (decodes-stored (typeFrom (l .chain) t s 0) v x e) (type-rowed t s (l .chain) 0)) in
+    let ty = typeFrom (l .chain) t s 0 in
+    let known : Known t s v x = (stored-seen ty v x e, lacks-members t s v (decodes-stored ty v x e) (type-rowed t s (l .chain) 0)) in
     let back : Each (λ c. readBack l t v c ≡ c) (components defaults is x) = each-back l t v (held defaults is (value x ∷ [])) (held-known t s v defaults is (value x ∷ []) (one-held t s v x known)) in
     record { each = back; all = each-map (readBack l t v) (components defaults is x) back; listed = each-listed l t v (components defaults is x) back; acceptance = λ u text. each-accepted (accepts u text) (readBack l t v) (components defaults is x) back }

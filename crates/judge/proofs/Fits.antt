@@ -15,7 +15,8 @@ use Rattle.table.specs.Types.{Tagging, Presence, mandatory, optional, default, 
 use Rattle.value.specs.Value.{Spot, spotAt, spotOf, Value, fields, elements, Fields, Values}
 use Rattle.value.specs.Decode.{storedValue}
 use Rattle.value.proofs.Views.{none-some, some-same, bind-view}
-use Rattle.value.proofs.Decodes.{Decodes, is-basic, is-sequence, is-choice, is-list, Tagged, bare, filling, Fielded, none-left, there, lacks, Chosen, this, other, Elements, ends, goes, decodes-stored}
+use Rattle.value.proofs.Decodes.{Decodes, is-basic, is-sequence, is-choice, is-list, Tagged, bare, filling}
+use Rattle.value.proofs.Decodes.{Fielded, none-left, there, lacks, Chosen, this, other, Elements, ends, goes, decodes-stored}
 use Rattle.reference.specs.Reference.{position, fromEnd, count, all, Id, name, index}
 use Rattle.reference.specs.Allowed.{Target, ofType, ofCount, memberType, under, allowedFrom, allowed}
 use Rattle.reference.specs.Named.{Held, value, missing, counted, absentNames, memberNamed, size, each, elementAt, step, replaced, held, named}
@@ -88,18 +89,21 @@ absent-fit v g defaults place m h (default c) = go defaults
     go false = none-fit v g
 
 module _ (defaults : Bool) (place : ℕ) (x v : List ℕ) (g : Target) where
-  member-fits : {stop : ℕ} {ms : Members} {i : ℕ} {fs : Fields} → Fielded v stop ms i fs → FineIn ms → typeNamed x ms ≡ some g → AllFit v g (memberNamed defaults place x fs)
+  member-fits : {stop : ℕ} {ms : Members} {i : ℕ} {fs : Fields} → Fielded v stop ms i fs → FineIn ms → typeNamed x ms ≡ some g
+      → AllFit v g (memberNamed defaults place x fs)
   unfolding memberNamed memberType Fine
   member-fits (none-left q) w e = none-some g e
   member-fits (there {m = m} {ty = ty} {ms = ms} {x = y} {fs = fs} q t d rest) w e = go (same (m .name) x) (λ h. member-fits rest (w .1 .1 .1) h) e
     where
-      go : (b : Bool) → (typeNamed x ms ≡ some g → AllFit v g (memberNamed defaults place x fs)) → bind (pick b (some ty) (memberType x ms)) (λ ty. some (ofType ty)) ≡ some g
+      go : (b : Bool) → (typeNamed x ms ≡ some g → AllFit v g (memberNamed defaults place x fs))
+          → bind (pick b (some ty) (memberType x ms)) (λ ty. some (ofType ty)) ≡ some g
           → AllFit v g (pick b (value y ∷ []) (memberNamed defaults place x fs))
       go true f h = one-fits v g ty y h (tagged-is t) (w .1 .1 .0)
       go false f h = f h
   member-fits (lacks {m = m} {ty = ty} {ms = ms} {fs = fs} q d rest) w e = go (same (m .name) x) (λ h. member-fits rest (w .1 .1 .1) h) e
     where
-      go : (b : Bool) → (typeNamed x ms ≡ some g → AllFit v g (memberNamed defaults place x fs)) → bind (pick b (some ty) (memberType x ms)) (λ ty. some (ofType ty)) ≡ some g
+      go : (b : Bool) → (typeNamed x ms ≡ some g → AllFit v g (memberNamed defaults place x fs))
+          → bind (pick b (some ty) (memberType x ms)) (λ ty. some (ofType ty)) ≡ some g
           → AllFit v g (pick b (absentNames defaults place m (m .presence)) (memberNamed defaults place x fs))
       go true f h = absent-fit v g defaults place m (w .0) (m .presence)
       go false f h = f h
@@ -109,12 +113,13 @@ module _ (defaults : Bool) (x v : List ℕ) where
   -- one of another name is not named
   not-named : {end at : ℕ} {ms : Members} {y : Value} {after : ℕ} → Chosen v end at ms y after → Fresh x ms → step defaults (name x) (value y) ≡ []
   unfolding Fresh step
-  not-named (this {x = y} q t e r) w = ap (λ (b : Bool). pick b (value y ∷ []) []) (w .0)
+  not-named (this {x = y} q t b) w = ap (λ (b : Bool). pick b (value y ∷ []) []) (w .0)
   not-named (other q c) w = not-named c (w .1)
 
-  choice-fits : (g : Target) {end at : ℕ} {ms : Members} {y : Value} {after : ℕ} → Chosen v end at ms y after → FineIn ms → typeNamed x ms ≡ some g → AllFit v g (step defaults (name x) (value y))
+  choice-fits : (g : Target) {end at : ℕ} {ms : Members} {y : Value} {after : ℕ} → Chosen v end at ms y after → FineIn ms → typeNamed x ms ≡ some g
+      → AllFit v g (step defaults (name x) (value y))
   unfolding Fine memberType step
-  choice-fits g (this {m = m} {ty = ty} {ms = ms} {x = y} q t e r) w h = go (same (m .name) x) h
+  choice-fits g (this {m = m} {ty = ty} {ms = ms} {x = y} q t b) w h = go (same (m .name) x) h
     where
       go : (b : Bool) → bind (pick b (some ty) (memberType x ms)) (λ ty. some (ofType ty)) ≡ some g → AllFit v g (pick b (value y ∷ []) [])
       go true k = one-fits v g ty y k (tagged-is t) (w .1 .1 .0)
@@ -131,7 +136,8 @@ module _ (v : List ℕ) (g : Target) where
   each-fit : {ty : Ty} {stop k i : ℕ} {xs : Values} → Elements v ty stop k i xs → some (ofType ty) ≡ some g → Fine ty → AllFit v g (each xs)
   unfolding each
   each-fit (ends h) e fine = none-fit v g
-  each-fit (goes {ty = ty} {x = x} {xs = xs} h d rest) e fine = append-fit v g (value x ∷ []) (each xs) (one-fits v g ty x e (_, _, _, _, d) fine) (each-fit rest e fine)
+  each-fit (goes {ty = ty} {x = x} {xs = xs} h d rest) e fine =
+      append-fit v g (value x ∷ []) (each xs) (one-fits v g ty x e (_, _, _, _, d) fine) (each-fit rest e fine)
 
   element-fits : (n : ℕ) {ty : Ty} {stop k i : ℕ} {xs : Values} → Elements v ty stop k i xs → some (ofType ty) ≡ some g → Fine ty → AllFit v g (elementAt n xs)
   unfolding elementAt
@@ -142,7 +148,8 @@ module _ (v : List ℕ) (g : Target) where
       go true f = one-fits v g ty x e (_, _, _, _, d) fine
       go false f = f
 
-  from-end-fits : (n : ℕ) {ty : Ty} {stop k i : ℕ} {xs : Values} → Elements v ty stop k i xs → some (ofType ty) ≡ some g → Fine ty → AllFit v g (pick (leb n (size xs)) (elementAt (size xs + 1 - n) xs) [])
+  from-end-fits : (n : ℕ) {ty : Ty} {stop k i : ℕ} {xs : Values} → Elements v ty stop k i xs → some (ofType ty) ≡ some g → Fine ty
+      → AllFit v g (pick (leb n (size xs)) (elementAt (size xs + 1 - n) xs) [])
   from-end-fits n {xs = xs} es e fine = go (leb n (size xs))
     where
       go : (b : Bool) → AllFit v g (pick b (elementAt (size xs + 1 - n) xs) [])
@@ -151,17 +158,20 @@ module _ (v : List ℕ) (g : Target) where
 
 -- ---- what one identifier names in a value
 module _ (defaults : Bool) (v : List ℕ) (g : Target) where
-  fields-fit : (i : Id) (s : Spot) {stop : ℕ} {ms : Members} {from : ℕ} {fs : Fields} → Fielded v stop ms from fs → FineIn ms → under i (ofType (sequence ms)) ≡ some g → AllFit v g (step defaults i (value (fields s fs)))
+  fields-fit : (i : Id) (s : Spot) {stop : ℕ} {ms : Members} {from : ℕ} {fs : Fields} → Fielded v stop ms from fs → FineIn ms
+      → under i (ofType (sequence ms)) ≡ some g → AllFit v g (step defaults i (value (fields s fs)))
   unfolding step under
   fields-fit (name x) s w f e = member-fits defaults (s .place) x v g w f e
   fields-fit (index j) s w f e = none-some g e
 
-  alternative-fits : (i : Id) {end at : ℕ} {ms : Members} {x : Value} {after : ℕ} → Chosen v end at ms x after → FineIn ms → under i (ofType (choice ms)) ≡ some g → AllFit v g (step defaults i (value x))
+  alternative-fits : (i : Id) {end at : ℕ} {ms : Members} {x : Value} {after : ℕ} → Chosen v end at ms x after → FineIn ms
+      → under i (ofType (choice ms)) ≡ some g → AllFit v g (step defaults i (value x))
   unfolding under
   alternative-fits (name x) c f e = choice-fits defaults x v g c f e
   alternative-fits (index j) c f e = none-some g e
 
-  elements-fit : (i : Id) (k : ℕ) (s : Spot) {ty : Ty} {stop n from : ℕ} {xs : Values} → Elements v ty stop n from xs → Fine ty → under i (ofType (listOf k ty)) ≡ some g → AllFit v g (step defaults i (value (elements s xs)))
+  elements-fit : (i : Id) (k : ℕ) (s : Spot) {ty : Ty} {stop n from : ℕ} {xs : Values} → Elements v ty stop n from xs → Fine ty
+      → under i (ofType (listOf k ty)) ≡ some g → AllFit v g (step defaults i (value (elements s xs)))
   unfolding step under
   elements-fit (name x) k s w f e = none-some g e
   elements-fit (index (position p)) k s w f e = element-fits v g p w e f
@@ -169,7 +179,8 @@ module _ (defaults : Bool) (v : List ℕ) (g : Target) where
   elements-fit (index count) k s {xs = xs} w f e = count-fits v g (s .place) (size xs)
   elements-fit (index all) k s w f e = each-fit v g w e f
 
-  step-fits : (i : Id) {ty : Ty} {t : Tagging} {at end : ℕ} {x : Value} {after : ℕ} → Decodes v ty t at end x after → Fine ty → under i (ofType ty) ≡ some g → AllFit v g (step defaults i (value x))
+  step-fits : (i : Id) {ty : Ty} {t : Tagging} {at end : ℕ} {x : Value} {after : ℕ} → Decodes v ty t at end x after → Fine ty
+      → under i (ofType ty) ≡ some g → AllFit v g (step defaults i (value x))
   unfolding under Fine
   step-fits i (is-basic b l) f e = none-some g e
   step-fits i (is-sequence {s = s} b w) f e = fields-fit i s w f e
@@ -238,9 +249,11 @@ module _ (t : List ℕ) where
     part-short : (start n : ℕ) → length (part v start n) ≤ 65536
     part-short start n = omega (arith, length-take n (drop start v), rest-length v start)
 
-    read-value : {ty : Ty} {g : Tagging} {at end : ℕ} {x : Value} {after : ℕ} → Decodes v ty g at end x after → suits r (ofType ty) ≡ true → isReadBy r t (spotOf x .contents) ≡ true
+    read-value : {ty : Ty} {g : Tagging} {at end : ℕ} {x : Value} {after : ℕ} → Decodes v ty g at end x after → suits r (ofType ty) ≡ true
+        → isReadBy r t (spotOf x .contents) ≡ true
     unfolding spotAt
-    read-value (is-basic {k = k} {start = start} {n = n} b l) h = subst (λ (s : Spot). isReadBy r t (s .contents) ≡ true) (b .spot) (read-basic t (part v start n) r k h asserted l (part-short start n))
+    read-value (is-basic {k = k} {start = start} {n = n} b l) h =
+        subst (λ (s : Spot). isReadBy r t (s .contents) ≡ true) (b .spot) (read-basic t (part v start n) r k h asserted l (part-short start n))
     read-value (is-sequence {ms = ms} {s = s} b w) h = read-sequence r ms (s .contents) h
     read-value (is-choice {ms = ms} {x = x} c) h = read-choice t (spotOf x .contents) r ms h
     read-value (is-list {k = k} {ty = ty} {s = s} b w q) h = read-list r k ty (s .contents) h

@@ -3,25 +3,27 @@ use mathlib.Core.Path.{_≡_, refl, sym, ap, ap₂, _∙_, subst}
 use mathlib.Core.Bool.{Bool, true, false}
 use mathlib.Core.Option.{some}
 use mathlib.Core.List.{List, [], _∷_, _++_, map}
-use Prim.Native.Nat.{ℕ, zero, suc, _≤_, _<_, _+_, _-_}
+use Prim.Native.Nat.{ℕ, zero, suc, _≤_, _+_, _-_}
 use native.Mathlib.Omega.{arith}
 use borrow.Author.Tests.{lt-ltb, le-ltb}
 use lib.Dec.{leb, eqb}
 use Rattle.octets.specs.Pick.{pick, either}
-use Rattle.octets.specs.Octets.{octet, same}
+use Rattle.octets.specs.Octets.{same}
 use Rattle.der.specs.Header.{headerAt}
 use Rattle.der.specs.declared.Header.{Header}
 use Rattle.table.specs.Types.{Tagging, untagged, Presence, mandatory, optional, default, Member, Ty, Members}
 use Rattle.table.specs.Begins.{isMandatory}
 use Rattle.value.specs.Value.{Spot, spotAt, spotOf, Value, leaf, fields, elements, Fields, Values}
 use Rattle.value.specs.Decode.{storedValue}
-use Rattle.value.proofs.Decodes.{Decodes, is-basic, is-sequence, is-choice, is-list, bare, Fielded, none-left, there, lacks, Chosen, this, other, Elements, ends, goes, decodes-stored}
+use Rattle.value.proofs.Decodes.{Decodes, is-basic, is-sequence, is-choice, is-list, bare}
+use Rattle.value.proofs.Decodes.{Fielded, none-left, there, lacks, Chosen, this, other, Elements, ends, goes, decodes-stored}
 use Rattle.value.proofs.Before.{choice-before}
 use Rattle.reference.specs.Reference.{Index, position, fromEnd, count, all, Id, name, index}
 use Rattle.reference.specs.Named.{Held, value, missing, counted, absentNames, memberNamed, size, each, elementAt, indexedBy, step, replaced, held, named}
 use Rattle.reference.specs.Numbers.{Component, stored, defaulted, tallied, component}
 use Rattle.trail.specs.Opened.{Opened, after, openAt}
-use Rattle.trail.specs.Trail.{Trail, done, reach, then, eachFrom, countFrom, positionFrom, Found, found, lacking, nothing, findMember, findAlternative, ending, lackingTrail, onFound, inMembers, alongIndex, inList, inValue, along, trail, faulty, reached}
+use Rattle.trail.specs.Trail.{Trail, done, reach, then, eachFrom, countFrom, positionFrom, Found, found, lacking, nothing, findMember}
+use Rattle.trail.specs.Trail.{findAlternative, ending, lackingTrail, onFound, inMembers, alongIndex, inList, inValue, along, trail, faulty, reached}
 use Rattle.trail.proofs.Standing.{Stands, open-decoded, same-start, same-span}
 
 -- ---- held values, and the walk that reaches their components and ends well
@@ -115,7 +117,8 @@ module _ (defaults : Bool) (is : List Id) (v : List ℕ) (f : Ty → Opened → 
       go true q = ends-default place m
       go false q = nothing-held
 
-  member-named : (x : List ℕ) (place : ℕ) {stop : ℕ} {ms : Members} {i : ℕ} {fs : Fields} → Fielded v stop ms i fs → onFound defaults is place f (findMember x ms v stop i) ≡ laid (held defaults is (memberNamed defaults place x fs))
+  member-named : (x : List ℕ) (place : ℕ) {stop : ℕ} {ms : Members} {i : ℕ} {fs : Fields} → Fielded v stop ms i fs
+      → onFound defaults is place f (findMember x ms v stop i) ≡ laid (held defaults is (memberNamed defaults place x fs))
   unfolding findMember memberNamed
   member-named x place (none-left q) = nothing-held
   member-named x place (there {stop = stop} {m = m} {ty = ty} {ms = ms} {after = last} {x = y} {fs = fs} q t d rest) =
@@ -126,11 +129,14 @@ module _ (defaults : Bool) (is : List Id) (v : List ℕ) (f : Ty → Opened → 
       either-there true = refl
       either-there false = refl
 
-      go : (o : Opened) → Stands ty v o y → (b : Bool) → onFound defaults is place f (findMember x ms v stop last) ≡ laid (held defaults is (memberNamed defaults place x fs))
-          → onFound defaults is place f (pick b (found ty o) (findMember x ms v stop last)) ≡ laid (held defaults is (pick b (value y ∷ []) (memberNamed defaults place x fs)))
+      go : (o : Opened) → Stands ty v o y → (b : Bool)
+          → onFound defaults is place f (findMember x ms v stop last) ≡ laid (held defaults is (memberNamed defaults place x fs))
+          → onFound defaults is place f (pick b (found ty o) (findMember x ms v stop last))
+          ≡ laid (held defaults is (pick b (value y ∷ []) (memberNamed defaults place x fs)))
       go o s true r = right ty o y s
       go o s false r = r
-  member-named x place (lacks {stop = stop} {m = m} {ms = ms} {i = i} {fs = fs} q mandatory-not rest) = rw (mandatory-not, q) (go (same (m .name) x) (member-named x place rest))
+  member-named x place (lacks {stop = stop} {m = m} {ms = ms} {i = i} {fs = fs} q mandatory-not rest) =
+      rw (mandatory-not, q) (go (same (m .name) x) (member-named x place rest))
     where
       go : (b : Bool) → onFound defaults is place f (findMember x ms v stop i) ≡ laid (held defaults is (memberNamed defaults place x fs))
           → onFound defaults is place f (pick b (lacking m) (findMember x ms v stop i)) ≡ laid (held defaults is (pick b (absentNames defaults place m (m .presence)) (memberNamed defaults place x fs)))
@@ -141,20 +147,22 @@ module _ (defaults : Bool) (is : List Id) (v : List ℕ) (f : Ty → Opened → 
   alternative-named : (x : List ℕ) (place : ℕ) {stop at : ℕ} {ms : Members} {y : Value} {last : ℕ} → Chosen v stop at ms y last
       → onFound defaults is place f (findAlternative x ms v stop at) ≡ laid (held defaults is (step defaults (name x) (value y)))
   unfolding findAlternative step
-  alternative-named x place (this {m = m} {ty = ty} {x = y} q t e r) = let s = open-decoded t in rw (q, s .1) (go (s .0) (s .2) (same (m .name) x))
+  alternative-named x place (this {m = m} {ty = ty} {x = y} q t b) = let s = open-decoded t in rw (q, s .1) (go (s .0) (s .2) (same (m .name) x))
     where
-      go : (o : Opened) → Stands ty v o y → (b : Bool) → onFound defaults is place f (pick b (found ty o) nothing) ≡ laid (held defaults is (pick b (value y ∷ []) []))
+      go : (o : Opened) → Stands ty v o y → (b : Bool)
+          → onFound defaults is place f (pick b (found ty o) nothing) ≡ laid (held defaults is (pick b (value y ∷ []) []))
       go o s true = right ty o y s
       go o s false = nothing-held
   alternative-named x place (other q c) = rw q (alternative-named x place c)
 
   no-index : (j : Index) {stop at : ℕ} {ms : Members} {y : Value} {last : ℕ} → Chosen v stop at ms y last → step defaults (index j) (value y) ≡ []
   unfolding step
-  no-index j (this q t e r) = refl
+  no-index j (this q t b) = refl
   no-index j (other q c) = no-index j c
 
   -- the elements of a list
-  each-named : {ty : Ty} {stop k i : ℕ} {xs : Values} → Elements v ty stop k i xs → eachFrom (openAt ty untagged v) (f ty) k stop i ≡ laid (held defaults is (each xs))
+  each-named : {ty : Ty} {stop k i : ℕ} {xs : Values} → Elements v ty stop k i xs
+      → eachFrom (openAt ty untagged v) (f ty) k stop i ≡ laid (held defaults is (each xs))
   unfolding eachFrom each
   each-named (ends {ty = ty} {stop = stop} {k = k} {i = i} h) = each-end k h
     where
@@ -164,7 +172,8 @@ module _ (defaults : Bool) (is : List Id) (v : List ℕ) (f : Ty → Opened → 
   each-named (goes {ty = ty} {stop = stop} {i = i} {x = x} {xs = xs} h d rest) =
       let s = open-decoded (bare refl d) in
       rw (lt-ltb i stop h, s .1, s .3)
-      (ap₂ then (right ty (s .0) x (s .2)) (each-named rest) ∙ laid-then (held defaults is (value x ∷ [])) (held defaults is (each xs)) ∙ ap laid (sym (held-append defaults is (value x ∷ []) (each xs))))
+      (ap₂ then (right ty (s .0) x (s .2)) (each-named rest)
+      ∙ laid-then (held defaults is (value x ∷ [])) (held defaults is (each xs)) ∙ ap laid (sym (held-append defaults is (value x ∷ []) (each xs))))
 
   count-named : (n : ℕ) {ty : Ty} {stop k i : ℕ} {xs : Values} → Elements v ty stop k i xs → countFrom (openAt ty untagged v) k stop n i ≡ some (n + size xs)
   unfolding countFrom size
@@ -184,7 +193,8 @@ module _ (defaults : Bool) (is : List Id) (v : List ℕ) (f : Ty → Opened → 
   count-all : {ty : Ty} {stop k i : ℕ} {xs : Values} → Elements v ty stop k i xs → countFrom (openAt ty untagged v) k stop 0 i ≡ some (size xs)
   count-all {xs = xs} es = let q : 0 + size xs ≡ size xs = omega arith in count-named 0 es ∙ ap some q
 
-  position-named : (n : ℕ) {ty : Ty} {stop k i : ℕ} {xs : Values} → Elements v ty stop k i xs → positionFrom (openAt ty untagged v) (f ty) k stop n i ≡ laid (held defaults is (elementAt n xs))
+  position-named : (n : ℕ) {ty : Ty} {stop k i : ℕ} {xs : Values} → Elements v ty stop k i xs
+      → positionFrom (openAt ty untagged v) (f ty) k stop n i ≡ laid (held defaults is (elementAt n xs))
   unfolding positionFrom elementAt
   position-named n (ends {ty = ty} {stop = stop} {k = k} {i = i} h) = position-end k h
     where
@@ -195,13 +205,16 @@ module _ (defaults : Bool) (is : List Id) (v : List ℕ) (f : Ty → Opened → 
       let s = open-decoded (bare refl d) in
       rw (lt-ltb i stop h, s .1, s .3) (go (s .0) (s .2) (eqb n 1) (position-named (n - 1) rest))
     where
-      go : (o : Opened) → Stands ty v o x → (b : Bool) → positionFrom (openAt ty untagged v) (f ty) k stop (n - 1) last ≡ laid (held defaults is (elementAt (n - 1) xs))
-          → pick b (f ty o) (positionFrom (openAt ty untagged v) (f ty) k stop (n - 1) last) ≡ laid (held defaults is (pick b (value x ∷ []) (elementAt (n - 1) xs)))
+      go : (o : Opened) → Stands ty v o x → (b : Bool)
+          → positionFrom (openAt ty untagged v) (f ty) k stop (n - 1) last ≡ laid (held defaults is (elementAt (n - 1) xs))
+          → pick b (f ty o) (positionFrom (openAt ty untagged v) (f ty) k stop (n - 1) last)
+          ≡ laid (held defaults is (pick b (value x ∷ []) (elementAt (n - 1) xs)))
       go o s true r = right ty o x s
       go o s false r = r
 
   -- an index on a list that is opened
-  index-named : (i : Index) (ty : Ty) (l : Opened) (xs : Values) → Elements v ty (after l) (l .span) (l .start) xs → alongIndex i is (openAt ty untagged v) l (f ty) ≡ laid (held defaults is (indexedBy i (l .place) xs))
+  index-named : (i : Index) (ty : Ty) (l : Opened) (xs : Values) → Elements v ty (after l) (l .span) (l .start) xs
+      → alongIndex i is (openAt ty untagged v) l (f ty) ≡ laid (held defaults is (indexedBy i (l .place) xs))
   index-named (position n) ty l xs es = position-named n es
   index-named (fromEnd n) ty l xs es = rw (count-all es) (go (leb n (size xs)))
     where
@@ -233,19 +246,19 @@ module _ (defaults : Bool) (is : List Id) (v : List ℕ) (f : Ty → Opened → 
   elements-name (index j) ty o s xs e w = index-named j ty o xs w ∙ ap (λ (p : ℕ). laid (held defaults is (indexedBy j p xs))) e
 
   -- what one identifier names in a value that is decoded and opened at a place
-  step-decoded : (i : Id) {ty : Ty} {g : Tagging} {at end : ℕ} {x : Value} {last : ℕ} → Decodes v ty g at end x last → (o : Opened) (octet : ℕ) → headerAt v at end ≡ Header.Found octet (o .start) (o .span)
-      → at ≡ o .place → last ≡ after o → o .place ≡ spotOf x .place → inValue defaults i is ty v o f ≡ laid (held defaults is (step defaults i (value x)))
+  step-decoded : (i : Id) {ty : Ty} {g : Tagging} {at end : ℕ} {x : Value} {last : ℕ} → Decodes v ty g at end x last
+      → (o : Opened) (octet : ℕ) → headerAt v at end ≡ Header.Found octet (o .start) (o .span) → at ≡ o .place → last ≡ after o → o .place ≡ spotOf x .place
+      → inValue defaults i is ty v o f ≡ laid (held defaults is (step defaults i (value x)))
   step-decoded i (is-basic {k = k} {s = s} b l) o octet h at-place at-end place = leaf-names i k s
-  step-decoded i (is-sequence {ms = ms} {at = at} {end = end} {start = start} {n = n} {after = last} {s = s} {fs = fs} b w) o octet h at-place at-end place =
-      let a = same-start v at end _ start n octet (o .start) (o .span) (b .header) h in
-      fields-name i ms o s fs place (subst (λ (y : ℕ). Fielded v y ms (o .start) fs) at-end (subst (λ (y : ℕ). Fielded v last ms y fs) a w))
+  step-decoded i (is-sequence {ms = ms} {after = last} {s = s} {fs = fs} b w) o octet h at-place at-end place =
+      let from-start = subst (λ (y : ℕ). Fielded v last ms y fs) (same-start b h) w in
+      fields-name i ms o s fs place (subst (λ (y : ℕ). Fielded v y ms (o .start) fs) at-end from-start)
   step-decoded i (is-choice {ms = ms} {after = last} {x = x} c) o octet h at-place at-end place =
-      choice-names i ms o x last (subst (λ (y : ℕ). Chosen v (after o) y ms x last) at-place (choice-before v (after o) c (omega arith)))
-  step-decoded i (is-list {ty = ty} {at = at} {end = end} {start = start} {n = n} {after = last} {s = s} {xs = xs} b w r) o octet h at-place at-end place =
-      let a = same-start v at end _ start n octet (o .start) (o .span) (b .header) h in
-      let c = same-span v at end _ start n octet (o .start) (o .span) (b .header) h in
-      elements-name i ty o s xs place
-      (subst (λ (y : ℕ). Elements v ty y (o .span) (o .start) xs) at-end (subst (λ (y : ℕ). Elements v ty last (o .span) y xs) a (subst (λ (y : ℕ). Elements v ty last y start xs) c w)))
+      choice-names i ms o x last (subst (λ (y : ℕ). Chosen v (after o) y ms x last) at-place (choice-before (after o) c (omega arith)))
+  step-decoded i (is-list {ty = ty} {start = start} {after = last} {s = s} {xs = xs} b w r) o octet h at-place at-end place =
+      let so-many = subst (λ (y : ℕ). Elements v ty last y start xs) (same-span b h) w in
+      let from-start = subst (λ (y : ℕ). Elements v ty last (o .span) y xs) (same-start b h) so-many in
+      elements-name i ty o s xs place (subst (λ (y : ℕ). Elements v ty y (o .span) (o .start) xs) at-end from-start)
 
   -- in a value that stands
   step-named : (i : Id) (ty : Ty) (o : Opened) (x : Value) → Stands ty v o x → inValue defaults i is ty v o f ≡ laid (held defaults is (step defaults i (value x)))

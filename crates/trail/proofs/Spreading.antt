@@ -169,7 +169,9 @@ spread lo hi (counted p n ∷ hs) w = (w .0, spread (p + 2) hi hs (w .1))
 -- what a reference names in a stored value: places rise, from the first octet on, within the value
 pub named-spread : (defaults : Bool) (is : List Id) (ty : Ty) (v : List ℕ) (x : Value) → storedValue ty v ≡ some x → Spread 0 (length v) (map component (named defaults is x))
 unfolding named
-named-spread defaults is ty v x e = spread 0 (length v) (held defaults is (value x ∷ [])) (held-ranged defaults is 0 (length v) (value x ∷ []) (one-value 0 (length v) x (stored-lies ty v x e)))
+named-spread defaults is ty v x e =
+    spread 0 (length v) (held defaults is (value x ∷ []))
+    (held-ranged defaults is 0 (length v) (value x ∷ []) (one-value 0 (length v) x (stored-lies ty v x e)))
 
 -- so many as half the octets at most
 pub spread-few : (lo hi : ℕ) (cs : List Component) → Spread lo hi cs → lo + 2 * length cs ≤ hi

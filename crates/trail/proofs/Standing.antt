@@ -3,19 +3,18 @@ use mathlib.Core.Path.{_≡_, sym, ap, ap₂, _∙_, subst}
 use mathlib.Core.Bool.{true}
 use mathlib.Core.Option.{Option, some}
 use mathlib.Core.List.{List}
-use Prim.Native.Nat.{ℕ, _≤_, _<_, _+_}
+use Prim.Native.Nat.{ℕ, _+_}
 use borrow.Author.Tests.{eq-eqb}
 use lib.Dec.{eqb}
-use Rattle.octets.specs.Octets.{octet}
 use Rattle.der.specs.Header.{headerAt, insideAt, opened}
 use Rattle.der.specs.declared.Header.{Header}
 use Rattle.der.specs.declared.Inside.{Inside}
 use Rattle.der.proofs.Laws.{inside-view}
 use Rattle.table.specs.Types.{Tagging, explicit, Ty}
-use Rattle.value.specs.Value.{spotOf, Value}
+use Rattle.value.specs.Value.{Spot, spotOf, Value}
 use Rattle.value.proofs.Views.{in-bare, in-explicit}
-use Rattle.value.proofs.Decodes.{Decodes, is-basic, is-sequence, is-choice, is-list, Tagged, bare, filling}
-use Rattle.value.proofs.Laws.{own, begins-chosen}
+use Rattle.value.proofs.Decodes.{Behind, Decodes, is-basic, is-sequence, is-choice, is-list, Tagged, bare, filling, own}
+use Rattle.value.proofs.Laws.{begins-chosen}
 use Rattle.trail.specs.Opened.{Opened, openedSpot, after, ownHeader, openedAs, openOwn, openAt}
 
 -- ---- a value stands where it is opened
@@ -27,46 +26,52 @@ pub record Stands (ty : Ty) (v : List ℕ) (o : Opened) (x : Value) : Type 0 whe
   pub header : headerAt v (o .place) end ≡ Header.Found octet (o .start) (o .span)
   pub spot : openedSpot v o ≡ spotOf x
 
--- contents behind a header start where it says, and are as long
-module _ (v : List ℕ) (at end g start n octet from span : ℕ) (e : insideAt g v at end ≡ Inside.Of start n) (h : headerAt v at end ≡ Header.Found octet from span) where
-  same-header : _≡_ {A = Header} (Header.Found g start n) (Header.Found octet from span)
-  same-header = sym (inside-view g v at end start n e) ∙ h
+-- the contents of one header start at one place, and have one length
+module _ {v : List ℕ} {o at end start n : ℕ} {s : Spot} {last : ℕ} (b : Behind v o at end start n s last)
+    {u from m : ℕ} (h : headerAt v at end ≡ Header.Found u from m) where
+  same-header : _≡_ {A = Header} (Header.Found o start n) (Header.Found u from m)
+  same-header = sym (inside-view o v at end start n (b .header)) ∙ h
 
   pub same-start : start ≡ from
   same-start = let e = same-header in cc
 
-  pub same-span : n ≡ span
+  pub same-span : n ≡ m
   same-span = let e = same-header in cc
 
-  same-inside : insideAt g v at end ≡ Inside.Of from span
-  same-inside = e ∙ ap₂ Inside.Of same-start same-span
+  same-inside : insideAt o v at end ≡ Inside.Of from m
+  same-inside = b .header ∙ ap₂ Inside.Of same-start same-span
 
 -- the header of a decoded value
-own-opened : {ty : Ty} {g : Tagging} {v : List ℕ} {at end : ℕ} {x : Value} {last : ℕ} → Decodes v ty g at end x last → (octet start n : ℕ) → headerAt v at end ≡ Header.Found octet start n
-    → ownHeader ty g v at end ≡ Inside.Of start n
+own-opened : {ty : Ty} {g : Tagging} {v : List ℕ} {at end : ℕ} {x : Value} {last : ℕ} → Decodes v ty g at end x last → {octet start n : ℕ}
+    → headerAt v at end ≡ Header.Found octet start n → ownHeader ty g v at end ≡ Inside.Of start n
 unfolding ownHeader
-own-opened {v = v} (is-basic {at = at} {end = end} b l) octet start n h = same-inside v at end _ _ _ octet start n (b .header) h
-own-opened {v = v} (is-sequence {at = at} {end = end} b w) octet start n h = same-inside v at end _ _ _ octet start n (b .header) h
-own-opened (is-choice c) octet start n h = rw (begins-chosen c, h)
-own-opened {v = v} (is-list {at = at} {end = end} b w r) octet start n h = same-inside v at end _ _ _ octet start n (b .header) h
+own-opened (is-basic b l) h = same-inside b h
+own-opened (is-sequence b w) h = same-inside b h
+own-opened (is-choice c) h = rw (begins-chosen c, h)
+own-opened (is-list b w r) h = same-inside b h
 
 -- opened inside its wrapper, where there is one
 abbrev Standing : Ty → List ℕ → Option Opened → Value → ℕ → Type 0
 Standing ty v found x last = (o : Opened) × (found ≡ some o) × (Stands ty v o x) × (after o ≡ last)
 
-open-inner : {ty : Ty} {g : Tagging} {v : List ℕ} {at end : ℕ} {x : Value} {last : ℕ} → Decodes v ty g at end x last → Standing ty v (openOwn ty g v at end) x last
+open-inner : {ty : Ty} {g : Tagging} {v : List ℕ} {at end : ℕ} {x : Value} {last : ℕ} → Decodes v ty g at end x last
+    → Standing ty v (openOwn ty g v at end) x last
 open-inner {ty = ty} {g = g} {v = v} {at = at} {end = end} {x = x} d =
-    let w = own v d in
-    let o : Opened = record { place = at; start = w .start; span = w .n } in (
+    let w = own d in
+    let h = inside-view (w .octet) v at end (w .start) (w .n) (w .behind .header) in
+    let o : Opened = record { place = at; start = w .start; span = w .n } in
+    let e : after o ≡ _ = w .behind .ends in (
       o,
-      ap (λ (i : Inside). opened i (openedAs at)) (own-opened d (w .octet) (w .start) (w .n) (w .header)),
-      record { tagging = g; end = end; decodes = subst (Decodes v ty g at end x) (sym (w .ends)) d; octet = w .octet; header = w .header; spot = w .spot },
-      w .ends,
+      ap (λ (i : Inside). opened i (openedAs at)) (own-opened d h),
+      record { tagging = g; end = end; decodes = subst (Decodes v ty g at end x) (sym e) d; octet = w .octet; header = h; spot = w .behind .spot },
+      e,
     )
 
-pub open-decoded : {ty : Ty} {g : Tagging} {v : List ℕ} {at end : ℕ} {x : Value} {last : ℕ} → Tagged v ty g at end x last → Standing ty v (openAt ty g v at end) x last
+pub open-decoded : {ty : Ty} {g : Tagging} {v : List ℕ} {at end : ℕ} {x : Value} {last : ℕ} → Tagged v ty g at end x last
+    → Standing ty v (openAt ty g v at end) x last
 unfolding openAt
-open-decoded {v = v} (bare {ty = ty} {g = g} {at = at} {end = end} q d) = let s = open-inner d in (s .0, in-bare after g (openOwn ty g v) v at end q ∙ s .1, s .2, s .3)
+open-decoded {v = v} (bare {ty = ty} {g = g} {at = at} {end = end} q d) =
+    let s = open-inner d in (s .0, in-bare after g (openOwn ty g v) v at end q ∙ s .1, s .2, s .3)
 open-decoded {v = v} (filling {ty = ty} {k = k} {at = at} {end = end} {start = start} {n = n} e d q) =
     let s = open-inner d in
     let full : eqb (after (s .0)) (start + n) ≡ true = eq-eqb (after (s .0)) (start + n) (s .3 ∙ q) in

@@ -15,8 +15,7 @@ use Rattle.table.specs.Work.{Sound}
 use Rattle.value.specs.Decode.{Decoded, startsHere, choiceOf, unwrapped, alternativeFrom, decode}
 use Rattle.value.specs.Work.{checked, first, markedOf}
 use Rattle.value.specs.declared.Checked.{Checked}
-use Rattle.value.proofs.Decodes.{decodes-tagged}
-use Rattle.value.proofs.Laws.{framed-by}
+use Rattle.value.proofs.Decodes.{framed-by, decodes-tagged}
 use Rattle.value.proofs.LeafSteps.{first-none, first-step}
 use Rattle.value.proofs.MemberSteps.{starts-as}
 
@@ -26,7 +25,7 @@ told-choice mem ty g v at end = go (decode ty g v at end) refl
   where
     go : (o : Option Decoded) → decode ty g v at end ≡ o → checked (choiceOf mem v at end o) ≡ checked o
     go none q = refl
-    go (some d) q = let w = framed-by v (decodes-tagged ty g v at end d q) in rw (w .header)
+    go (some d) q = let w = framed-by (decodes-tagged ty g v at end d q) in rw (w .header)
 
 module _ (chain : ℕ) (t s m : List ℕ) (row : ℕ) (ok : Sound chain t s m) (here : row < length s) (v : List ℕ) (at end : ℕ) where
   abbrev tests : ℕ → Bool

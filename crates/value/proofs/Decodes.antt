@@ -1,27 +1,32 @@
 -- How a decoded value is made: a family for each part of the decoder, with a constructor for each way to a value. Laws of decoded values go by these.
-use mathlib.Core.Path.{_≡_, refl, sym, _∙_, subst}
+use mathlib.Core.Path.{_≡_, refl, sym, ap₂, _∙_, subst}
 use mathlib.Core.Bool.{Bool, true, false}
 use mathlib.Core.Option.{Option, none, some}
 use mathlib.Core.List.{List}
 use Prim.Native.Nat.{ℕ, zero, suc, _≤_, _<_, _+_}
-use borrow.Author.Tests.{eqb-true, ltb-true, ltb-false}
+use borrow.Author.Tests.{eqb-true, eq-eqb, ltb-true, ltb-false}
 use lib.ListN.{length}
 use lib.Dec.{ltb, eqb}
 use Rattle.octets.specs.Pick.{pick, either}
-use Rattle.octets.specs.Octets.{part}
+use Rattle.octets.specs.Octets.{octet, part}
 use Rattle.der.specs.Kind as kind
 use Rattle.der.specs.Tag.{wrapperOctet}
 use Rattle.der.specs.Header.{headerAt, insideAt, anyTag}
 use Rattle.der.specs.Contents.{legal}
+use Rattle.der.specs.declared.Header.{Header}
 use Rattle.der.specs.declared.Inside.{Inside}
+use Rattle.der.proofs.Laws.{inside-view, any-view}
 use Rattle.table.specs.Types.{Tagging, untagged, explicit, implicit, Member, Ty, basic, sequence, choice, listOf, Members, noMore, more}
 use Rattle.table.specs.Begins.{isMandatory}
-use Rattle.value.specs.Value.{Spot, spotAt, spotOf, Value, leaf, fields, chosen, elements, Fields, endFields, present, absent, Values, endValues, next}
+use Rattle.value.specs.Value.{Spot, spotAt, spotOf, Value, leaf, fields, chosen, elements}
+use Rattle.value.specs.Value.{Fields, endFields, present, absent, Values, endValues, next}
 use Rattle.value.specs.Order.{rising}
-use Rattle.value.specs.Decode.{Decoded, afterOf, tagOctet, inWrapper, startsHere, choiceOf, isDefault, presentThen, absentThen, many, unwrapped, fieldsFrom, alternativeFrom, decode, storedValue}
-use Rattle.value.proofs.Views.{none-some, some-same, bind-view, pick-view, leaf-view, fields-view, elements-view, choice-view, wrapper-view, isBare, many-end, many-zero, many-more, next-view, present-view, absent-view}
+use Rattle.value.specs.Decode.{Decoded, afterOf, tagOctet, inWrapper, startsHere, choiceOf, isDefault, presentThen, absentThen}
+use Rattle.value.specs.Decode.{many, unwrapped, fieldsFrom, alternativeFrom, decode, storedValue}
+use Rattle.value.proofs.Views.{none-some, some-same, bind-view, pick-view, isBare, wrapper-view}
+use Rattle.value.proofs.Views.{leaf-view, fields-view, elements-view, choice-view, many-end, many-zero, many-more, next-view, present-view, absent-view}
 
--- the header with a tag octet at a place: the spot of the value behind it, and the place after it
+-- a header with a tag octet at a place: where its contents start, how long they are, the spot that it makes, and the place after it
 pub record Behind (v : List ℕ) (octet at end start n : ℕ) (s : Spot) (after : ℕ) : Type 0 where
   pub header : insideAt octet v at end ≡ Inside.Of start n
   pub spot : spotAt v at start n ≡ s
@@ -30,52 +35,114 @@ pub record Behind (v : List ℕ) (octet at end start n : ℕ) (s : Spot) (after 
 mutual
   -- x is a value of a type, inside its wrapper, at a place, before an end; and the place after it
   pub data Decodes (v : List ℕ) : Ty → Tagging → ℕ → ℕ → Value → ℕ → Type 0 where
-    is-basic : {k : ℕ} {g : Tagging} {at end start n after : ℕ} {s : Spot} → Behind v (tagOctet g k) at end start n s after → legal k (part v start n) ≡ true → Decodes v (basic k) g at end (leaf k s) after
-    is-sequence : {ms : Members} {g : Tagging} {at end start n after : ℕ} {s : Spot} {fs : Fields} → Behind v (tagOctet g kind.sequence) at end start n s after → Fielded v after ms start fs
-        → Decodes v (sequence ms) g at end (fields s fs) after
+    is-basic : {k : ℕ} {g : Tagging} {at end start n after : ℕ} {s : Spot} → Behind v (tagOctet g k) at end start n s after
+        → legal k (part v start n) ≡ true → Decodes v (basic k) g at end (leaf k s) after
+    is-sequence : {ms : Members} {g : Tagging} {at end start n after : ℕ} {s : Spot} {fs : Fields} → Behind v (tagOctet g kind.sequence) at end start n s after
+        → Fielded v after ms start fs → Decodes v (sequence ms) g at end (fields s fs) after
     is-choice : {ms : Members} {g : Tagging} {at end after : ℕ} {x : Value} → Chosen v end at ms x after → Decodes v (choice ms) g at end x after
-    is-list : {k : ℕ} {ty : Ty} {g : Tagging} {at end start n after : ℕ} {s : Spot} {xs : Values} → Behind v (tagOctet g k) at end start n s after → Elements v ty after n start xs
-        → either (eqb k kind.sequenceOf) (rising v xs) ≡ true → Decodes v (listOf k ty) g at end (elements s xs) after
+    is-list : {k : ℕ} {ty : Ty} {g : Tagging} {at end start n after : ℕ} {s : Spot} {xs : Values} → Behind v (tagOctet g k) at end start n s after
+        → Elements v ty after n start xs → either (eqb k kind.sequenceOf) (rising v xs) ≡ true → Decodes v (listOf k ty) g at end (elements s xs) after
 
   -- the same under a tag mode: an explicit one has a wrapper, which the value fills
   pub data Tagged (v : List ℕ) : Ty → Tagging → ℕ → ℕ → Value → ℕ → Type 0 where
     bare : {ty : Ty} {g : Tagging} {at end after : ℕ} {x : Value} → isBare g ≡ true → Decodes v ty g at end x after → Tagged v ty g at end x after
-    filling : {ty : Ty} {k at end start n after : ℕ} {x : Value} → insideAt (wrapperOctet k) v at end ≡ Inside.Of start n → Decodes v ty (explicit k) start (start + n) x after → after ≡ start + n
-        → Tagged v ty (explicit k) at end x after
+    filling : {ty : Ty} {k at end start n after : ℕ} {x : Value} → insideAt (wrapperOctet k) v at end ≡ Inside.Of start n
+        → Decodes v ty (explicit k) start (start + n) x after → after ≡ start + n → Tagged v ty (explicit k) at end x after
 
   -- members in turn from a place up to a stop
   pub data Fielded (v : List ℕ) : ℕ → Members → ℕ → Fields → Type 0 where
     none-left : {stop i : ℕ} → i ≡ stop → Fielded v stop noMore i endFields
-    there : {stop : ℕ} {m : Member} {ty : Ty} {ms : Members} {i after : ℕ} {x : Value} {fs : Fields} → startsHere m ty v stop i ≡ true → Tagged v ty (m .tagging) i stop x after
-        → isDefault (m .presence) (spotOf x .contents) ≡ false → Fielded v stop ms after fs → Fielded v stop (more m ty ms) i (present m x fs)
-    lacks : {stop : ℕ} {m : Member} {ty : Ty} {ms : Members} {i : ℕ} {fs : Fields} → startsHere m ty v stop i ≡ false → isMandatory (m .presence) ≡ false → Fielded v stop ms i fs
-        → Fielded v stop (more m ty ms) i (absent m fs)
+    there : {stop : ℕ} {m : Member} {ty : Ty} {ms : Members} {i after : ℕ} {x : Value} {fs : Fields} → startsHere m ty v stop i ≡ true
+        → Tagged v ty (m .tagging) i stop x after → isDefault (m .presence) (spotOf x .contents) ≡ false → Fielded v stop ms after fs
+        → Fielded v stop (more m ty ms) i (present m x fs)
+    lacks : {stop : ℕ} {m : Member} {ty : Ty} {ms : Members} {i : ℕ} {fs : Fields} → startsHere m ty v stop i ≡ false → isMandatory (m .presence) ≡ false
+        → Fielded v stop ms i fs → Fielded v stop (more m ty ms) i (absent m fs)
 
-  -- the alternative that can begin with the tag at a place
+  -- the alternative that can begin with the tag at a place, behind the header there
   pub data Chosen (v : List ℕ) : ℕ → ℕ → Members → Value → ℕ → Type 0 where
-    this : {end at : ℕ} {m : Member} {ty : Ty} {ms : Members} {start n after : ℕ} {s : Spot} {x : Value} → startsHere m ty v end at ≡ true → Tagged v ty (m .tagging) at end x after
-        → anyTag (headerAt v at end) ≡ Inside.Of start n → spotAt v at start n ≡ s → Chosen v end at (more m ty ms) (chosen s m x) after
-    other : {end at : ℕ} {m : Member} {ty : Ty} {ms : Members} {after : ℕ} {x : Value} → startsHere m ty v end at ≡ false → Chosen v end at ms x after → Chosen v end at (more m ty ms) x after
+    this : {end at : ℕ} {m : Member} {ty : Ty} {ms : Members} {start n after : ℕ} {s : Spot} {x : Value} → startsHere m ty v end at ≡ true
+        → Tagged v ty (m .tagging) at end x after → Behind v (octet v at) at end start n s after → Chosen v end at (more m ty ms) (chosen s m x) after
+    other : {end at : ℕ} {m : Member} {ty : Ty} {ms : Members} {after : ℕ} {x : Value} → startsHere m ty v end at ≡ false
+        → Chosen v end at ms x after → Chosen v end at (more m ty ms) x after
 
   -- elements in turn from a place up to a stop, at most k of them
   pub data Elements (v : List ℕ) : Ty → ℕ → ℕ → ℕ → Values → Type 0 where
     ends : {ty : Ty} {stop k i : ℕ} → stop ≤ i → Elements v ty stop k i endValues
-    goes : {ty : Ty} {stop k i after : ℕ} {x : Value} {xs : Values} → i < stop → Decodes v ty untagged i stop x after → Elements v ty stop k after xs → Elements v ty stop (suc k) i (next x xs)
+    goes : {ty : Ty} {stop k i after : ℕ} {x : Value} {xs : Values} → i < stop → Decodes v ty untagged i stop x after → Elements v ty stop k after xs
+        → Elements v ty stop (suc k) i (next x xs)
+
+-- ---- what is decoded at a place ends with the header there
+pub record Framed (v : List ℕ) (at end after : ℕ) : Type 0 where
+  pub octet : ℕ
+  pub start : ℕ
+  pub n : ℕ
+  pub header : headerAt v at end ≡ Header.Found octet start n
+  pub ends : start + n ≡ after
+
+-- a value's own spot is that of the header at its place
+pub record Own (v : List ℕ) (at end : ℕ) (x : Value) (after : ℕ) : Type 0 where
+  pub octet : ℕ
+  pub start : ℕ
+  pub n : ℕ
+  pub behind : Behind v octet at end start n (spotOf x) after
+
+pub framed : {v : List ℕ} {at end : ℕ} {x : Value} {after : ℕ} → Own v at end x after → Framed v at end after
+framed {v = v} {at = at} {end = end} w =
+    let h = inside-view (w .octet) v at end (w .start) (w .n) (w .behind .header) in
+    record { octet = w .octet; start = w .start; n = w .n; header = h; ends = w .behind .ends }
+
+unfoldable pub own-behind : {v : List ℕ} {octet at end start n : ℕ} {x : Value} {after : ℕ} → Behind v octet at end start n (spotOf x) after
+    → Own v at end x after
+own-behind {octet = octet} {start = start} {n = n} b = record { octet = octet; start = start; n = n; behind = b }
+
+pub own-choice : {v : List ℕ} {end at : ℕ} {ms : Members} {x : Value} {after : ℕ} → Chosen v end at ms x after → Own v at end x after
+own-choice (this q t b) = own-behind b
+own-choice (other q c) = own-choice c
+
+pub own : {v : List ℕ} {ty : Ty} {g : Tagging} {at end : ℕ} {x : Value} {after : ℕ} → Decodes v ty g at end x after → Own v at end x after
+own (is-basic b l) = own-behind b
+own (is-sequence b w) = own-behind b
+own (is-choice c) = own-choice c
+own (is-list b w r) = own-behind b
+
+-- under any tag mode
+pub framed-by : {v : List ℕ} {ty : Ty} {g : Tagging} {at end : ℕ} {x : Value} {after : ℕ} → Tagged v ty g at end x after → Framed v at end after
+framed-by (bare q d) = framed (own d)
+framed-by {v = v} (filling {k = k} {at = at} {end = end} {start = start} {n = n} e d q) =
+    record { octet = wrapperOctet k; start = start; n = n; header = inside-view (wrapperOctet k) v at end start n e; ends = sym q }
 
 -- ---- made from the decoder's equations
 behind : {v : List ℕ} {octet at end start n : ℕ} → insideAt octet v at end ≡ Inside.Of start n → Behind v octet at end start n (spotAt v at start n) (start + n)
 behind e = record { header = e; spot = refl; ends = refl }
 
--- under a tag mode, where the value inside is made
-tagged-by : (ty : Ty) (g : Tagging) (v : List ℕ) (at end : ℕ) (d : Decoded) → ((a e : ℕ) → unwrapped ty g v a e ≡ some d → Decodes v ty g a e (d .value) (d .after))
-    → inWrapper afterOf g (λ a e. unwrapped ty g v a e) v at end ≡ some d → Tagged v ty g at end (d .value) (d .after)
-unfolding inWrapper
-tagged-by ty untagged v at end d own e = bare refl (own at end e)
-tagged-by ty (implicit n) v at end d own e = bare refl (own at end e)
-tagged-by ty (explicit n) v at end d own e = let w = wrapper-view afterOf v at end d n (λ a e. unwrapped ty (explicit n) v a e) e in filling (w .2) (own (w .0) (w .0 + w .1) (w .3)) (w .4)
+-- any header there, where what is decoded ends with it
+found-same : (a b c x y z : ℕ) → _≡_ {A = Header} (Header.Found a b c) (Header.Found x y z) → b + c ≡ y + z
+found-same a b c x y z e = let p : b ≡ y = cc in let q : c ≡ z = cc in ap₂ _+_ p q
 
--- elements, where one is made wherever it is decoded
-elements-by : (v : List ℕ) (ty : Ty) → ((i stop : ℕ) (d : Decoded) → unwrapped ty untagged v i stop ≡ some d → Decodes v ty untagged i stop (d .value) (d .after))
+behind-any : (v : List ℕ) (at end start n after : ℕ) → anyTag (headerAt v at end) ≡ Inside.Of start n → Framed v at end after
+    → Behind v (octet v at) at end start n (spotAt v at start n) after
+unfolding insideAt
+behind-any v at end start n after e w =
+    let h = any-view v at end start n e in
+    let ends = found-same _ start n _ (w .start) (w .n) (sym h ∙ w .header) ∙ w .ends in
+    record { header = rw (h, eq-eqb (octet v at) (octet v at) refl); spot = refl; ends = ends }
+
+-- under a tag mode, where the value inside is made
+abbrev Made : (v : List ℕ) → Ty → Tagging → Decoded → Type 0
+Made v ty g d = (a e : ℕ) → unwrapped ty g v a e ≡ some d → Decodes v ty g a e (d .value) (d .after)
+
+abbrev MadeTagged : (v : List ℕ) → Ty → Tagging → ℕ → ℕ → Decoded → Type 0
+MadeTagged v ty g at end d = inWrapper afterOf g (λ a e. unwrapped ty g v a e) v at end ≡ some d → Tagged v ty g at end (d .value) (d .after)
+
+tagged-by : (ty : Ty) (g : Tagging) (v : List ℕ) (at end : ℕ) (d : Decoded) → Made v ty g d → MadeTagged v ty g at end d
+unfolding inWrapper
+tagged-by ty untagged v at end d one e = bare refl (one at end e)
+tagged-by ty (implicit n) v at end d one e = bare refl (one at end e)
+tagged-by ty (explicit n) v at end d one e =
+    let w = wrapper-view afterOf v at end d n (λ a e. unwrapped ty (explicit n) v a e) e in filling (w .2) (one (w .0) (w .0 + w .1) (w .3)) (w .4)
+
+-- elements, where one is made
+elements-by : (v : List ℕ) (ty : Ty) → ((d : Decoded) → Made v ty untagged d)
     → (k stop i : ℕ) (xs : Values) → many (λ i stop. unwrapped ty untagged v i stop) k stop i ≡ some xs → Elements v ty stop k i xs
 elements-by v ty one k stop i xs e = go k i xs e
   where
@@ -97,52 +164,68 @@ elements-by v ty one k stop i xs e = go k i xs e
         by false q rest = over (suc k) i xs e (ltb-false i stop q)
         by true q rest =
             let w = next-view (λ j. many f k stop j) (f i stop) xs (sym (many-more f stop i k (ltb-true i stop q)) ∙ e) in
-            subst (Elements v ty stop (suc k) i) (w .4) (goes (ltb-true i stop q) (one i stop (w .0) (w .2)) (rest (w .0 .after) (w .1) (w .3)))
+            subst (Elements v ty stop (suc k) i) (w .4) (goes (ltb-true i stop q) (one (w .0) i stop (w .2)) (rest (w .0 .after) (w .1) (w .3)))
 
 mutual
   unfolding unwrapped
 
   pub decodes : (ty : Ty) (g : Tagging) (v : List ℕ) (at end : ℕ) (d : Decoded) → unwrapped ty g v at end ≡ some d → Decodes v ty g at end (d .value) (d .after)
-  decodes (basic k) g v at end d e = let w = leaf-view v at end d k g e in subst (λ (y : Decoded). Decodes v (basic k) g at end (y .value) (y .after)) (w .4) (is-basic (behind (w .2)) (w .3))
+  decodes (basic k) g v at end d e =
+      let w = leaf-view v at end d k g e in
+      subst (λ (y : Decoded). Decodes v (basic k) g at end (y .value) (y .after)) (w .4) (is-basic (behind (w .2)) (w .3))
   decodes (sequence ms) g v at end d e =
       let w = fields-view v at end d ms g e in
-      subst (λ (y : Decoded). Decodes v (sequence ms) g at end (y .value) (y .after)) (w .5) (is-sequence (behind (w .3)) (decodes-fields ms v (w .0 + w .1) (w .0) (w .2) (w .4)))
+      let members = decodes-fields ms v (w .0 + w .1) (w .0) (w .2) (w .4) in
+      subst (λ (y : Decoded). Decodes v (sequence ms) g at end (y .value) (y .after)) (w .5) (is-sequence (behind (w .3)) members)
   decodes (choice ms) g v at end d e = is-choice (decodes-choice ms v at end d e)
   decodes (listOf k ty) g v at end d e =
       let w = elements-view v at end d k ty g e in
-      subst (λ (y : Decoded). Decodes v (listOf k ty) g at end (y .value) (y .after)) (w .6)
-      (is-list (behind (w .3)) (elements-by v ty (λ i stop x q. decodes ty untagged v i stop x q) (w .1) (w .0 + w .1) (w .0) (w .2) (w .4)) (w .5))
+      let turn = elements-by v ty (λ x i stop q. decodes ty untagged v i stop x q) (w .1) (w .0 + w .1) (w .0) (w .2) (w .4) in
+      subst (λ (y : Decoded). Decodes v (listOf k ty) g at end (y .value) (y .after)) (w .6) (is-list (behind (w .3)) turn (w .5))
 
   decodes-fields : (ms : Members) (v : List ℕ) (stop i : ℕ) (fs : Fields) → fieldsFrom ms v stop i ≡ some fs → Fielded v stop ms i fs
-  decodes-fields noMore v stop i fs e = let w = pick-view (eqb i stop) endFields fs e in subst (Fielded v stop noMore i) (w .1) (none-left (eqb-true i stop (w .0)))
-  decodes-fields (more m ty ms) v stop i fs e = go (startsHere m ty v stop i) refl (λ d q. tagged-by ty (m .tagging) v i stop d (λ a z r. decodes ty (m .tagging) v a z d r) q) (λ j gs r. decodes-fields ms v stop j gs r) e
+  decodes-fields noMore v stop i fs e =
+      let w = pick-view (eqb i stop) endFields fs e in subst (Fielded v stop noMore i) (w .1) (none-left (eqb-true i stop (w .0)))
+  decodes-fields (more m ty ms) v stop i fs e =
+      go (startsHere m ty v stop i) refl (λ d q. tagged-by ty (m .tagging) v i stop d (λ a z r. decodes ty (m .tagging) v a z d r) q)
+      (λ j gs r. decodes-fields ms v stop j gs r) e
     where
       member : Option Decoded
       member = inWrapper afterOf (m .tagging) (λ a e. unwrapped ty (m .tagging) v a e) v i stop
 
-      go : (x : Bool) → startsHere m ty v stop i ≡ x → ((d : Decoded) → member ≡ some d → Tagged v ty (m .tagging) i stop (d .value) (d .after)) → ((j : ℕ) (gs : Fields) → fieldsFrom ms v stop j ≡ some gs → Fielded v stop ms j gs)
-          → pick x (presentThen m (λ i. fieldsFrom ms v stop i) member) (absentThen m (fieldsFrom ms v stop i)) ≡ some fs → Fielded v stop (more m ty ms) i fs
-      go true q own rest f =
-          let w = present-view m (λ i. fieldsFrom ms v stop i) member fs f in
-          subst (Fielded v stop (more m ty ms) i) (w .5) (there q (own (w .0) (w .2)) (w .3) (rest (w .0 .after) (w .1) (w .4)))
-      go false q own rest f = let w = absent-view m (fieldsFrom ms v stop i) fs f in subst (Fielded v stop (more m ty ms) i) (w .3) (lacks q (w .1) (rest i (w .0) (w .2)))
+      rest : ℕ → Option Fields
+      rest i = fieldsFrom ms v stop i
+
+      go : (b : Bool) → startsHere m ty v stop i ≡ b → ((d : Decoded) → MadeTagged v ty (m .tagging) i stop d)
+          → ((j : ℕ) (gs : Fields) → rest j ≡ some gs → Fielded v stop ms j gs)
+          → pick b (presentThen m rest member) (absentThen m (rest i)) ≡ some fs → Fielded v stop (more m ty ms) i fs
+      go true q one others f =
+          let w = present-view m rest member fs f in
+          subst (Fielded v stop (more m ty ms) i) (w .5) (there q (one (w .0) (w .2)) (w .3) (others (w .0 .after) (w .1) (w .4)))
+      go false q one others f = let w = absent-view m (rest i) fs f in subst (Fielded v stop (more m ty ms) i) (w .3) (lacks q (w .1) (others i (w .0) (w .2)))
 
   decodes-choice : (ms : Members) (v : List ℕ) (at end : ℕ) (d : Decoded) → alternativeFrom ms v at end ≡ some d → Chosen v end at ms (d .value) (d .after)
   decodes-choice noMore v at end d e = none-some d e
-  decodes-choice (more m ty ms) v at end d e = go (startsHere m ty v end at) refl (λ x q. tagged-by ty (m .tagging) v at end x (λ a z r. decodes ty (m .tagging) v a z x r) q) (λ q. decodes-choice ms v at end d q) e
+  decodes-choice (more m ty ms) v at end d e =
+      go (startsHere m ty v end at) refl (λ x q. tagged-by ty (m .tagging) v at end x (λ a z r. decodes ty (m .tagging) v a z x r) q)
+      (λ q. decodes-choice ms v at end d q) e
     where
       alternative : Option Decoded
       alternative = inWrapper afterOf (m .tagging) (λ a e. unwrapped ty (m .tagging) v a e) v at end
 
-      go : (b : Bool) → startsHere m ty v end at ≡ b → ((x : Decoded) → alternative ≡ some x → Tagged v ty (m .tagging) at end (x .value) (x .after)) → (alternativeFrom ms v at end ≡ some d → Chosen v end at ms (d .value) (d .after))
+      go : (b : Bool) → startsHere m ty v end at ≡ b → ((x : Decoded) → MadeTagged v ty (m .tagging) at end x)
+          → (alternativeFrom ms v at end ≡ some d → Chosen v end at ms (d .value) (d .after))
           → pick b (choiceOf m v at end alternative) (alternativeFrom ms v at end) ≡ some d → Chosen v end at (more m ty ms) (d .value) (d .after)
-      go true q own others f =
+      go true q one others f =
           let w = choice-view v at end d m alternative f in
-          subst (λ (y : Decoded). Chosen v end at (more m ty ms) (y .value) (y .after)) (w .5) (this q (own (w .0) (w .3)) (w .4) refl)
-      go false q own others f = other q (others f)
+          let t = one (w .0) (w .3) in
+          subst (λ (y : Decoded). Chosen v end at (more m ty ms) (y .value) (y .after)) (w .5)
+          (this q t (behind-any v at end (w .1) (w .2) (w .0 .after) (w .4) (framed-by t)))
+      go false q one others f = other q (others f)
 
 -- under a tag mode
-pub decodes-tagged : (ty : Ty) (g : Tagging) (v : List ℕ) (at end : ℕ) (d : Decoded) → decode ty g v at end ≡ some d → Tagged v ty g at end (d .value) (d .after)
+pub decodes-tagged : (ty : Ty) (g : Tagging) (v : List ℕ) (at end : ℕ) (d : Decoded) → decode ty g v at end ≡ some d
+    → Tagged v ty g at end (d .value) (d .after)
 unfolding decode
 decodes-tagged ty g v at end d e = tagged-by ty g v at end d (λ a z. decodes ty g v a z d) e
 

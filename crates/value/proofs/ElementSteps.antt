@@ -21,8 +21,8 @@ use Rattle.value.specs.Decode.{Decoded, nextThen, many, unwrapped}
 use Rattle.value.specs.Work.{checked, upTo, inOrder, elementsChecked, risingAfter, orderAfter, neighbours}
 use Rattle.value.specs.declared.Checked.{Checked}
 use Rattle.value.proofs.Views.{many-end, many-more}
-use Rattle.value.proofs.Decodes.{decodes}
-use Rattle.value.proofs.Laws.{Own, own, own-encoding, framed, framed-long, framed-within}
+use Rattle.value.proofs.Decodes.{Own, own, framed, decodes}
+use Rattle.value.proofs.Laws.{own-encoding, framed-long, framed-within}
 
 -- ---- rising, element by element
 rises : (v : List ℕ) (x : Value) (xs : Values) → rising v (next x xs) ≡ risingAfter v (encoding v x) xs
@@ -120,20 +120,14 @@ module _ (chain : ℕ) (t s m : List ℕ) (row : ℕ) (ok : Sound chain t s m) (
         value-there : (d : Decoded) × (one i stop ≡ some d) × (d .after ≡ after)
         value-there = told-at (one i stop) after (sym found ∙ asks)
 
-        abbrev x : Value
-        x = value-there .0 .value
-
-        abbrev last : ℕ
-        last = value-there .0 .after
-
-        owned : Own v i stop x last
-        owned = own v (decodes element untagged v i stop (value-there .0) (value-there .1))
+        owned : Own v i stop (value-there .0 .value) (value-there .0 .after)
+        owned = own (decodes element untagged v i stop (value-there .0) (value-there .1))
 
         pub element-long : i + 2 ≤ after
-        element-long = let a = framed-long v i stop last (framed v i stop x last owned) in let b = value-there .2 in omega arith
+        element-long = let a = framed-long (framed owned) in let b = value-there .2 in omega arith
 
         pub element-within : after ≤ stop
-        element-within = let a = framed-within v i stop last (framed v i stop x last owned) in let b = value-there .2 in omega arith
+        element-within = let a = framed-within (framed owned) in let b = value-there .2 in omega arith
 
         pub element-less : stop - after < stop - i
         element-less = let a = element-long in let b = element-within in omega arith
@@ -142,7 +136,7 @@ module _ (chain : ℕ) (t s m : List ℕ) (row : ℕ) (ok : Sound chain t s m) (
         element-after = let a = element-long in omega arith
 
         encoded : encoding v (value-there .0 .value) ≡ part v i (after - i)
-        encoded = sym (own-encoding v i stop x last owned) ∙ ap (λ (x : ℕ). part v i (x - i)) (value-there .2)
+        encoded = sym (own-encoding owned) ∙ ap (λ (x : ℕ). part v i (x - i)) (value-there .2)
 
         split : orderAfter k v (part v before (i - before)) (nextThen (λ j. many one (opens .0) stop j) (one i stop)) ≡ both (neighbours k v before i after) (orderAfter k v (part v i (after - i)) (many one (opens .0) stop after))
         unfolding neighbours

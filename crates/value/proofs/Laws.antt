@@ -3,114 +3,72 @@ use mathlib.Core.Path.{_≡_, refl, sym, ap, ap₂, _∙_, subst}
 use mathlib.Core.Bool.{Bool, true, false}
 use mathlib.Core.Option.{some}
 use mathlib.Core.List.{List}
-use Prim.Native.Nat.{ℕ, _≤_, _<_, _+_, _-_}
+use Prim.Native.Nat.{ℕ, _≤_, _+_, _-_}
 use native.Mathlib.Omega.{arith}
 use lib.Dec.{ltb}
 use lib.ListN.{length}
 use Rattle.octets.specs.Pick.{either}
 use Rattle.octets.specs.Octets.{octet, part}
 use Rattle.octets.proofs.Laws.{both-true}
-use Rattle.der.specs.Kind as kind
 use Rattle.der.specs.Tag.{tagOf, wrapperOctet}
-use Rattle.der.specs.Header.{headerAt, anyTag}
-use Rattle.der.specs.declared.Header.{Header}
-use Rattle.der.specs.declared.Inside.{Inside}
-use Rattle.der.proofs.Laws.{header-long, header-within, inside-view, any-view, inside-long}
+use Rattle.der.proofs.Laws.{header-long, header-within, inside-long}
 use Rattle.table.specs.Types.{Tagging, Ty, choice, Members}
 use Rattle.table.specs.Begins.{asTagged, begins, someBegins, memberBegins}
-use Rattle.value.specs.Value.{Spot, spotAt, spotOf, encoding, Value, leaf, fields, chosen, elements, Fields, endFields, present, absent, Values, endValues, next}
+use Rattle.value.specs.Value.{Spot, spotAt, spotOf, encoding, Value, leaf, fields, chosen, elements}
+use Rattle.value.specs.Value.{Fields, endFields, present, absent, Values, endValues, next}
 use Rattle.value.specs.Lies.{InSpot, endOf, Lies, LieInFields, LieInTurn}
-use Rattle.value.specs.Decode.{tagOctet, startsHere, storedValue}
-use Rattle.value.proofs.Decodes.{Behind, Decodes, is-basic, is-sequence, is-choice, is-list, Tagged, bare, filling, Fielded, none-left, there, lacks, Chosen, this, other, Elements, ends, goes, decodes-stored}
-
--- ---- what is decoded at a place ends with the header there
-pub record Framed (v : List ℕ) (at end after : ℕ) : Type 0 where
-  pub octet : ℕ
-  pub start : ℕ
-  pub n : ℕ
-  pub header : headerAt v at end ≡ Header.Found octet start n
-  pub ends : start + n ≡ after
-
--- a value's own spot: the place, and the contents of the header there
-pub record Own (v : List ℕ) (at end : ℕ) (x : Value) (after : ℕ) : Type 0 where
-  pub octet : ℕ
-  pub start : ℕ
-  pub n : ℕ
-  pub header : headerAt v at end ≡ Header.Found octet start n
-  pub ends : start + n ≡ after
-  pub spot : spotAt v at start n ≡ spotOf x
-
-found-same : (a b c x y z : ℕ) → _≡_ {A = Header} (Header.Found a b c) (Header.Found x y z) → b + c ≡ y + z
-found-same a b c x y z e = let p : b ≡ y = cc in let q : c ≡ z = cc in ap₂ _+_ p q
-
--- any header there ends where what is decoded does
-pub framed-ends : (v : List ℕ) (at end start n after : ℕ) → Framed v at end after → anyTag (headerAt v at end) ≡ Inside.Of start n → start + n ≡ after
-framed-ends v at end start n after r e = found-same (octet v at) start n (r .octet) (r .start) (r .n) (sym (any-view v at end start n e) ∙ r .header) ∙ r .ends
-
-module _ (v : List ℕ) where
-  pub framed : (at end : ℕ) (x : Value) (after : ℕ) → Own v at end x after → Framed v at end after
-  framed at end x after w = record { octet = w .octet; start = w .start; n = w .n; header = w .header; ends = w .ends }
-
-  own-behind : (o at end start n : ℕ) (x : Value) (after : ℕ) → Behind v o at end start n (spotOf x) after → Own v at end x after
-  own-behind o at end start n x after b = record { octet = o; start = start; n = n; header = inside-view o v at end start n (b .header); ends = b .ends; spot = b .spot }
-
-  mutual
-    pub own : {ty : Ty} {g : Tagging} {at end : ℕ} {x : Value} {after : ℕ} → Decodes v ty g at end x after → Own v at end x after
-    own (is-basic {k = k} {g = g} {at = at} {end = end} {start = start} {n = n} {after = after} {s = s} b l) = own-behind (tagOctet g k) at end start n (leaf k s) after b
-    own (is-sequence {g = g} {at = at} {end = end} {start = start} {n = n} {after = after} {s = s} {fs = fs} b w) = own-behind (tagOctet g kind.sequence) at end start n (fields s fs) after b
-    own (is-choice c) = own-choice c
-    own (is-list {k = k} {g = g} {at = at} {end = end} {start = start} {n = n} {after = after} {s = s} {xs = xs} b w r) = own-behind (tagOctet g k) at end start n (elements s xs) after b
-
-    pub own-choice : {end at : ℕ} {ms : Members} {x : Value} {after : ℕ} → Chosen v end at ms x after → Own v at end x after
-    own-choice (this {end = end} {at = at} {start = start} {n = n} {after = after} q t e spot) =
-        record { octet = octet v at; start = start; n = n; header = any-view v at end start n e; ends = framed-ends v at end start n after (framed-by t) e; spot = spot }
-    own-choice (other q c) = own-choice c
-
-    -- under any tag mode
-    pub framed-by : {ty : Ty} {g : Tagging} {at end : ℕ} {x : Value} {after : ℕ} → Tagged v ty g at end x after → Framed v at end after
-    framed-by (bare {at = at} {end = end} {after = after} {x = x} q d) = framed at end x after (own d)
-    framed-by (filling {k = k} {at = at} {end = end} {start = start} {n = n} e d q) = record { octet = wrapperOctet k; start = start; n = n; header = inside-view (wrapperOctet k) v at end start n e; ends = sym q }
+use Rattle.value.specs.Decode.{startsHere, storedValue}
+use Rattle.value.proofs.Decodes.{Decodes, is-basic, is-sequence, is-choice, is-list, Tagged, bare, filling}
+use Rattle.value.proofs.Decodes.{Fielded, none-left, there, lacks, Chosen, this, other, Elements, ends, goes}
+use Rattle.value.proofs.Decodes.{Framed, Own, own, framed, own-behind, framed-by, decodes-stored}
 
 -- a CHOICE can begin with the tag of its alternative
-pub begins-chosen : {v : List ℕ} {end at : ℕ} {ms : Members} {x : Value} {after : ℕ} → Chosen v end at ms x after → begins (choice ms) (tagOf (octet v at)) ≡ true
+pub begins-chosen : {v : List ℕ} {end at : ℕ} {ms : Members} {x : Value} {after : ℕ} → Chosen v end at ms x after
+    → begins (choice ms) (tagOf (octet v at)) ≡ true
 unfolding begins memberBegins startsHere
-begins-chosen {v = v} (this {end = end} {at = at} q t e r) = rw (both-true (ltb at end) _ q .1)
-begins-chosen {v = v} (other {at = at} {m = m} {ty = ty} {ms = ms} q c) = last (asTagged (m .tagging) (begins ty (tagOf (octet v at))) (tagOf (octet v at))) (begins-chosen c)
+begins-chosen (this {end = end} {at = at} q t b) = rw (both-true (ltb at end) _ q .1)
+begins-chosen {v = v} (other {at = at} {m = m} {ty = ty} {ms = ms} q c) =
+    last (asTagged (m .tagging) (begins ty (tagOf (octet v at))) (tagOf (octet v at))) (begins-chosen c)
   where
     last : (b : Bool) → someBegins ms (tagOf (octet v at)) ≡ true → either b (someBegins ms (tagOf (octet v at))) ≡ true
     last true e = refl
     last false e = e
 
 -- ---- a decoded value lies from its place on, within its end, and takes at least two octets
-module _ (v : List ℕ) (at end : ℕ) where
-  pub framed-long : (after : ℕ) → Framed v at end after → at + 2 ≤ after
-  framed-long after w = let h = header-long v at end (w .octet) (w .start) (w .n) (w .header) in let e = w .ends in omega arith
+module _ {v : List ℕ} {at end after : ℕ} where
+  pub framed-long : Framed v at end after → at + 2 ≤ after
+  framed-long w = let h = header-long v at end (w .octet) (w .start) (w .n) (w .header) in let e = w .ends in omega arith
 
-  pub framed-within : (after : ℕ) → Framed v at end after → after ≤ end
-  framed-within after w = let h = header-within v at end (w .octet) (w .start) (w .n) (w .header) in let e = w .ends in omega arith
+  pub framed-within : Framed v at end after → after ≤ end
+  framed-within w = let h = header-within v at end (w .octet) (w .start) (w .n) (w .header) in let e = w .ends in omega arith
 
-  module _ (x : Value) (after : ℕ) (w : Own v at end x after) where
+  module _ {x : Value} (w : Own v at end x after) where
     own-place : at ≡ spotOf x .place
     unfolding spotAt
-    own-place = ap (λ (s : Spot). s .place) (w .spot)
+    own-place = ap (λ (s : Spot). s .place) (w .behind .spot)
 
     own-size : w .start + w .n - at ≡ spotOf x .size
     unfolding spotAt
-    own-size = ap (λ (s : Spot). s .size) (w .spot)
+    own-size = ap (λ (s : Spot). s .size) (w .behind .spot)
 
     -- contents start behind the header's two octets at least
     own-start : spotOf x .place + 2 ≤ w .start
-    own-start = let h = header-long v at end (w .octet) (w .start) (w .n) (w .header) in let p = own-place in omega arith
+    own-start = let h = inside-long (w .octet) v at end (w .start) (w .n) (w .behind .header) in let p = own-place in omega arith
 
     own-end : endOf x ≡ after
-    own-end = let h = own-start in let e = w .ends in let p = own-place in let q = own-size in omega arith
+    own-end = let h = own-start in let e = w .behind .ends in let p = own-place in let q = own-size in omega arith
 
     own-spot : InSpot at after (spotOf x)
-    own-spot = let h = own-start in let e = w .ends in let p = own-place in let q = own-end in record { from = omega arith; long = omega arith; to = omega arith }
+    own-spot =
+        let h = own-start in
+        let e = w .behind .ends in
+        let p = own-place in
+        let q = own-end in
+        record { from = omega arith; long = omega arith; to = omega arith }
 
     pub own-encoding : part v at (after - at) ≡ encoding v x
     unfolding encoding
-    own-encoding = let e : after - at ≡ w .start + w .n - at = ap (λ (y : ℕ). y - at) (sym (w .ends)) in ap₂ (part v) own-place (e ∙ own-size)
+    own-encoding = let e : after - at ≡ w .start + w .n - at = ap (λ (y : ℕ). y - at) (sym (w .behind .ends)) in ap₂ (part v) own-place (e ∙ own-size)
 
 -- ---- where its parts lie
 pub lies-wider : (a b lo hi : ℕ) (x : Value) → a ≤ lo → hi ≤ b → Lies lo hi x → Lies a b x
@@ -144,47 +102,41 @@ pub record Placed (at end : ℕ) (x : Value) (after : ℕ) : Type 0 where
   pub last : endOf x ≡ after
   pub lies : Lies at after x
 
-module _ (v : List ℕ) where
-  placed-own : (at end : ℕ) (x : Value) (after : ℕ) → Own v at end x after → Lies at after x → Placed at end x after
-  placed-own at end x after o w =
-      let f = framed v at end x after o in
-      record { long = framed-long v at end after f; within = framed-within v at end after f; last = own-end v at end x after o; lies = w }
+placed-own : {v : List ℕ} {at end : ℕ} {x : Value} {after : ℕ} → Own v at end x after → Lies at after x → Placed at end x after
+placed-own o w = record { long = framed-long (framed o); within = framed-within (framed o); last = own-end o; lies = w }
 
+module _ {v : List ℕ} where
   mutual
     unfolding Lies own-behind
 
     pub lies : {ty : Ty} {g : Tagging} {at end : ℕ} {x : Value} {after : ℕ} → Decodes v ty g at end x after → Lies at after x
-    lies (is-basic {k = k} {g = g} {at = at} {end = end} {start = start} {n = n} {after = after} {s = s} b l) = own-spot v at end (leaf k s) after (own-behind v (tagOctet g k) at end start n (leaf k s) after b)
-    lies (is-sequence {g = g} {at = at} {end = end} {start = start} {n = n} {after = after} {s = s} {fs = fs} b w) =
-        let o = own-behind v (tagOctet g kind.sequence) at end start n (fields s fs) after b in
-        let parts = fields-wider (s .place + 2) start after fs (own-start v at end (fields s fs) after o) (lies-fields w) in
-        (own-spot v at end (fields s fs) after o, subst (λ (z : ℕ). LieInFields (s .place + 2) z fs) (sym (own-end v at end (fields s fs) after o)) parts)
+    lies (is-basic {k = k} {s = s} b l) = own-spot (own-behind {x = leaf k s} b)
+    lies (is-sequence {at = at} {end = end} {start = start} {after = after} {s = s} {fs = fs} b w) =
+        let o : Own v at end (fields s fs) after = own-behind b in
+        let members = fields-wider (s .place + 2) start after fs (own-start o) (lies-fields w) in
+        (own-spot o, subst (λ (z : ℕ). LieInFields (s .place + 2) z fs) (sym (own-end o)) members)
     lies (is-choice c) = lies-choice c
-    lies (is-list {k = k} {g = g} {at = at} {end = end} {start = start} {n = n} {after = after} {s = s} {xs = xs} b w r) =
-        let o = own-behind v (tagOctet g k) at end start n (elements s xs) after b in
+    lies (is-list {at = at} {end = end} {start = start} {after = after} {s = s} {xs = xs} b w r) =
+        let o : Own v at end (elements s xs) after = own-behind b in
         let z = b .ends in
-        let parts = turn-wider (s .place + 2) start after xs (own-start v at end (elements s xs) after o) (lies-elements w (omega arith)) in
-        (own-spot v at end (elements s xs) after o, subst (λ (z : ℕ). LieInTurn (s .place + 2) z xs) (sym (own-end v at end (elements s xs) after o)) parts)
+        let turn = turn-wider (s .place + 2) start after xs (own-start o) (lies-elements w (omega arith)) in
+        (own-spot o, subst (λ (z : ℕ). LieInTurn (s .place + 2) z xs) (sym (own-end o)) turn)
 
     -- under any tag mode
     pub placed : {ty : Ty} {g : Tagging} {at end : ℕ} {x : Value} {after : ℕ} → Tagged v ty g at end x after → Placed at end x after
-    placed (bare {at = at} {end = end} {after = after} {x = x} q d) = placed-own at end x after (own v d) (lies d)
+    placed (bare q d) = placed-own (own d) (lies d)
     placed (filling {k = k} {at = at} {end = end} {start = start} {n = n} {after = after} {x = x} e d q) =
-        let f = framed-by v (filling e d q) in
+        let f = framed-by (filling e d q) in
         let h = inside-long (wrapperOctet k) v at end start n e in
-        record {
-          long = framed-long v at end after f;
-          within = framed-within v at end after f;
-          last = own-end v start (start + n) x after (own v d);
-          lies = lies-wider at after start after x (omega arith) (omega arith) (lies d);
-        }
+        let inner = lies-wider at after start after x (omega arith) (omega arith) (lies d) in
+        record { long = framed-long f; within = framed-within f; last = own-end (own d); lies = inner }
 
     lies-choice : {end at : ℕ} {ms : Members} {x : Value} {after : ℕ} → Chosen v end at ms x after → Lies at after x
-    lies-choice (this {end = end} {at = at} {m = m} {ms = ms} {after = after} {s = s} {x = x} q t e r) =
-        let o = own-choice v (this {ms = ms} q t e r) in
-        let p = own-place v at end (chosen s m x) after o in
-        let l = own-end v at end (chosen s m x) after o in
-        (own-spot v at end (chosen s m x) after o, lies-wider (s .place) (s .place + s .size) at after x (omega arith) (omega arith) (placed t .lies))
+    lies-choice (this {end = end} {at = at} {m = m} {after = after} {s = s} {x = x} q t b) =
+        let o : Own v at end (chosen s m x) after = own-behind b in
+        let p = own-place o in
+        let l = own-end o in
+        (own-spot o, lies-wider (s .place) (s .place + s .size) at after x (omega arith) (omega arith) (placed t .lies))
     lies-choice (other q c) = lies-choice c
 
     lies-fields : {stop : ℕ} {ms : Members} {i : ℕ} {fs : Fields} → Fielded v stop ms i fs → LieInFields i stop fs
@@ -198,10 +150,10 @@ module _ (v : List ℕ) where
     lies-elements : {ty : Ty} {stop k i : ℕ} {xs : Values} → Elements v ty stop k i xs → i ≤ stop → LieInTurn i stop xs
     lies-elements (ends q) h = h
     lies-elements (goes {stop = stop} {i = i} {after = after} {x = x} {xs = xs} q d w) h =
-        let p = placed-own i stop x after (own v d) (lies d) in
+        let p = placed-own (own d) (lies d) in
         let l = p .last in
         (lies-wider i stop i after x (omega arith) (p .within) (p .lies), turn-wider (endOf x) after stop xs (omega arith) (lies-elements w (p .within)))
 
 -- a stored value lies from the first octet on, up to the last
 pub stored-lies : (ty : Ty) (v : List ℕ) (x : Value) → storedValue ty v ≡ some x → Lies 0 (length v) x
-stored-lies ty v x e = lies v (decodes-stored ty v x e)
+stored-lies ty v x e = lies (decodes-stored ty v x e)

@@ -17,7 +17,8 @@ use Rattle.der.specs.declared.Inside.{Inside}
 use Rattle.der.proofs.Laws.{tag-small}
 use Rattle.rows.specs.Row.{rowAt, kindAt, typeRowAt, membersAt, modeAt, numberAt, presenceAt, defaultAt}
 use Rattle.groups.specs.Clauses.{defaultAllowed, defaultLegal}
-use Rattle.table.specs.Types.{Tagging, untagged, explicit, implicit, mandatory, optional, default, taggingOf, presenceOf, Member, memberOf, Ty, basic, Members, more, membersFrom, typed, typeFrom}
+use Rattle.table.specs.Types.{Tagging, untagged, explicit, implicit, mandatory, optional, default, taggingOf, presenceOf, Member, memberOf}
+use Rattle.table.specs.Types.{Ty, basic, Members, more, membersFrom, typed, typeFrom}
 use Rattle.table.specs.Begins.{isMandatory}
 use Rattle.table.specs.Work.{Sound}
 use Rattle.table.proofs.TagLaws.{mandatory-as}

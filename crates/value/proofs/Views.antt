@@ -1,4 +1,4 @@
--- A view for each kind of decoded value: what a type's decoding says, where it gives a value.
+-- Views of the decoder's equations: what each part of it says, where it gives a value. The families of `Decodes` are made of these.
 use mathlib.Core.Path.{_≡_, refl, sym, ap, _∙_}
 use mathlib.Core.Bool.{Bool, true, false, false≢true}
 use mathlib.Core.Option.{Option, none, some}
@@ -18,7 +18,8 @@ use Rattle.table.specs.Types.{Tagging, untagged, explicit, implicit, Member, Ty
 use Rattle.table.specs.Begins.{isMandatory}
 use Rattle.value.specs.Value.{spotAt, spotOf, leaf, fields, chosen, elements, Fields, present, absent, Values, endValues, next}
 use Rattle.value.specs.Order.{rising}
-use Rattle.value.specs.Decode.{Decoded, decoded, tagOctet, inside, inWrapper, leafOf, fieldsOf, elementsOf, choiceOf, isDefault, unlessDefault, presentThen, absentThen, nextThen, many, unwrapped, fieldsFrom}
+use Rattle.value.specs.Decode.{Decoded, decoded, tagOctet, inside, inWrapper, leafOf, fieldsOf, elementsOf, choiceOf, isDefault, unlessDefault}
+use Rattle.value.specs.Decode.{presentThen, absentThen, nextThen, many, unwrapped, fieldsFrom}
 
 -- ---- things that are there
 pub none-some : {A B : Type 0} (a : A) → _≡_ {A = Option A} none (some a) → B
@@ -93,7 +94,8 @@ module _ {A : Type 0} (after : A → ℕ) where
   in-bare (implicit n) f v at end q = refl
   in-bare (explicit n) f v at end q = absurd (false≢true q)
 
-  pub in-explicit : (n : ℕ) (f : ℕ → ℕ → Option A) (v : List ℕ) (at end : ℕ) → inWrapper after (explicit n) f v at end ≡ opened (insideAt (wrapperOctet n) v at end) (inside after f)
+  pub in-explicit : (n : ℕ) (f : ℕ → ℕ → Option A) (v : List ℕ) (at end : ℕ)
+      → inWrapper after (explicit n) f v at end ≡ opened (insideAt (wrapperOctet n) v at end) (inside after f)
   unfolding inWrapper
   in-explicit n f v at end = refl
 
@@ -132,22 +134,26 @@ next-view rest element xs e =
 
 -- ---- members in turn: one that is there, and those after it; one that isn't
 pub present-view : (m : Member) (rest : ℕ → Option Fields) (member : Option Decoded) (fs : Fields) → presentThen m rest member ≡ some fs
-    → (d : Decoded) × (gs : Fields) × (member ≡ some d) × (isDefault (m .presence) (spotOf (d .value) .contents) ≡ false) × (rest (d .after) ≡ some gs) × (present m (d .value) gs ≡ fs)
+    → (d : Decoded) × (gs : Fields) × (member ≡ some d) × (isDefault (m .presence) (spotOf (d .value) .contents) ≡ false) × (rest (d .after) ≡ some gs)
+    × (present m (d .value) gs ≡ fs)
 present-view m rest member fs e =
     let b = bind-view member (λ any. bind (unlessDefault m any) (λ d. bind (rest (d .after)) (λ gs. some (present m (d .value) gs)))) fs e in
     let c = bind-view (unlessDefault m (b .0)) (λ d. bind (rest (d .after)) (λ gs. some (present m (d .value) gs))) fs (b .2) in
     let u = unless-view (isDefault (m .presence) (spotOf (b .0 .value) .contents)) (b .0) (c .0) (c .1) in
     let r = bind-view (rest (c .0 .after)) (λ gs. some (present m (c .0 .value) gs)) fs (c .2) in
     let same : b .0 ≡ c .0 = u .1 in
-    (c .0, r .0, b .1 ∙ ap some same, sym (ap (λ (d : Decoded). isDefault (m .presence) (spotOf (d .value) .contents)) same) ∙ u .0, r .1, some-same _ fs (r .2))
+    let other = ap (λ (d : Decoded). isDefault (m .presence) (spotOf (d .value) .contents)) same in
+    (c .0, r .0, b .1 ∙ ap some same, sym other ∙ u .0, r .1, some-same _ fs (r .2))
   where
     unless-view : (t : Bool) (a b : Decoded) → pick t none (some a) ≡ some b → (t ≡ false) × (a ≡ b)
     unless-view true a b e = none-some b e
     unless-view false a b e = (refl, some-same a b e)
 
-pub absent-view : (m : Member) (rest : Option Fields) (fs : Fields) → absentThen m rest ≡ some fs → (gs : Fields) × (isMandatory (m .presence) ≡ false) × (rest ≡ some gs) × (absent m gs ≡ fs)
+pub absent-view : (m : Member) (rest : Option Fields) (fs : Fields) → absentThen m rest ≡ some fs
+    → (gs : Fields) × (isMandatory (m .presence) ≡ false) × (rest ≡ some gs) × (absent m gs ≡ fs)
 absent-view m rest fs e = go (isMandatory (m .presence)) refl e
   where
-    go : (t : Bool) → isMandatory (m .presence) ≡ t → pick t none (bind rest (λ gs. some (absent m gs))) ≡ some fs → (gs : Fields) × (isMandatory (m .presence) ≡ false) × (rest ≡ some gs) × (absent m gs ≡ fs)
+    go : (t : Bool) → isMandatory (m .presence) ≡ t → pick t none (bind rest (λ gs. some (absent m gs))) ≡ some fs
+        → (gs : Fields) × (isMandatory (m .presence) ≡ false) × (rest ≡ some gs) × (absent m gs ≡ fs)
     go true q e = none-some fs e
     go false q e = let b = bind-view rest (λ gs. some (absent m gs)) fs e in (b .0, q, b .1, some-same _ fs (b .2))
