@@ -11,7 +11,7 @@ use Rattle.table.specs.Admitted.{admitted}
 use Rattle.table.specs.Types.{Ty, typeAt}
 use Rattle.value.specs.Decode.{storedValue}
 use Rattle.value.specs.Check.{isStored}
-use Rattle.reference.specs.Reference.{Id}
+use Rattle.reference.specs.Reference.{Id, givenIds}
 use Rattle.reference.specs.Allowed.{allowed}
 use Rattle.trail.specs.Trail.{Trail, trail, faulty, reached}
 use Rattle.filter.specs.Filter.{Filter}
@@ -20,7 +20,7 @@ use Rattle.judge.specs.Truth.{Truth}
 use Rattle.judge.specs.Reading.{Outcome, settled, faulted}
 use Rattle.engine.specs.Limits.{Limits}
 use Rattle.engine.specs.Answer.{Report, refused, answers, budgeted, questionFits, evaluated, withFilter, askReport}
-use Rattle.engine.specs.Listing.{Listing, refusedList, lists, written, listed, walked, listingFits, givenIds, withIds, listingOf, listReport}
+use Rattle.engine.specs.Listing.{Listing, refusedList, lists, written, listed, walked, listingFits, withIds, listingOf, listReport}
 use Rattle.demands.specs.Refusals.{enough, isFault, ofFilter, Refuses, walkOf, ofWalk, walks, RefusesListing}
 
 -- the report by its tests: sizes, admission, the filter that was read, the check of the value, and what the filter comes to

@@ -2,7 +2,7 @@
 use Prim.Native.Nat.{ℕ, suc, _≤_, _<_, _+_, _*_}
 use mathlib.Core.Path.{_≡_, refl, sym, ap, _∙_}
 use mathlib.Core.Bool.{Bool, true, false}
-use mathlib.Core.Option.{Option, none, some}
+use mathlib.Core.Option.{none, some}
 use mathlib.Core.List.{List, [], _∷_, map}
 use native.Mathlib.Omega.{arith}
 use borrow.Author.Tests.{lt-ltb, le-ltb, le-leb}
@@ -15,13 +15,11 @@ use Rattle.table.specs.Check.{tableFits}
 use Rattle.value.specs.Value.{Value}
 use Rattle.value.specs.Check.{valueFits}
 use Rattle.value.specs.Decode.{storedValue}
-use Rattle.reference.specs.Reference.{Id, readReference}
+use Rattle.reference.specs.Reference.{Id, identifiers, givenIds}
 use Rattle.reference.specs.Allowed as reference
 use Rattle.reference.specs.Named.{Held, named}
 use Rattle.reference.specs.Numbers.{Component, component}
-use Rattle.rules.specs.Rule.{Rule, ruleOf}
-use Rattle.rules.specs.Suits.{suits}
-use Rattle.rules.specs.Asserted.{conforms}
+use Rattle.rules.specs.Rule.{Rule}
 use Rattle.rules.specs.Accepts.{accepts}
 use Rattle.filter.specs.Filter.{Item, item, Filter}
 use Rattle.filter.specs.Parse.{filterFits, parse}
@@ -30,10 +28,10 @@ use Rattle.trail.proofs.Agreeing.{laid, trail-named, laid-sound, laid-reached}
 use Rattle.trail.proofs.Spreading.{named-spread}
 use Rattle.judge.specs.Truth.{Truth, TRUE, FALSE, UNDEFINED}
 use Rattle.judge.specs.Reading.{Outcome, settled, faulted, reading}
-use Rattle.judge.specs.Assertion.{identifiers, Asked, asked, testing, outcomeOf, outcome}
+use Rattle.judge.specs.Assertion.{asked, testing, outcomeOf, outcome}
 use Rattle.engine.specs.Limits.{Limits}
 use Rattle.engine.specs.Answer.{answers, budgeted, questionWithin, questionFits, evaluated, withFilter, askReport}
-use Rattle.engine.specs.Listing.{Listing, written, listed, walked, listingFits, listReport, givenIds, withIds, listingOf}
+use Rattle.engine.specs.Listing.{Listing, written, listed, walked, listingFits, listReport, withIds, listingOf}
 use Rattle.demands.specs.Demand.{Taken, components, Listed, acceptsOne, needed, Put, ruleFor, truthBy, Answered}
 
 -- ---- tests along the named components
@@ -54,9 +52,6 @@ tested-named f hs = let e : 0 + needed f (map component hs) ≡ needed f (map co
 module _ (l : Limits) (t v : List ℕ) (given : Bool) (r : List ℕ) (x : Value) (is : List Id) (target : reference.Target) (w : Taken l t v given r x is target) (defaults : Bool) where
   abbrev ty : Ty
   ty = typeAt (l .table) t 0
-
-  abbrev asksWith : List ℕ → Rule → Option Asked
-  asksWith text u = pick (both (suits u target) (conforms u text)) (some (record { ids = is; rule = u })) none
 
   stored : isSome (storedValue ty v) ≡ true
   stored = ap isSome (w .decodes)
@@ -92,32 +87,15 @@ module _ (l : Limits) (t v : List ℕ) (given : Bool) (r : List ℕ) (x : Value)
         go true = refl
         go false = refl
 
-    asks-by : asked ty i ≡ bind (ruleOf (i .rule)) (asksWith (i .value))
+    asks-by : asked ty i ≡ bind (ruleFor target i) (λ u. some (record { ids = is; rule = u }))
     unfolding asked
     asks-by = rw (the-ids, w .allowed)
 
     asks-none : ruleFor target i ≡ none → asked ty i ≡ none
-    asks-none e = asks-by ∙ go (ruleOf (i .rule)) e
-      where
-        under : (b : Bool) (u : Rule) → pick b (some u) none ≡ none → pick {A = Option Asked} b (some (record { ids = is; rule = u })) none ≡ none
-        under true u q = absurd (let z : _≡_ {A = ℕ} 0 1 = cc in omega arith)
-        under false u q = refl
-
-        go : (o : Option Rule) → bind o (λ u. pick (both (suits u target) (conforms u (i .value))) (some u) none) ≡ none → bind o (asksWith (i .value)) ≡ none
-        go none q = refl
-        go (some u) q = under (both (suits u target) (conforms u (i .value))) u q
+    asks-none e = asks-by ∙ rw e
 
     asks-some : (u : Rule) → ruleFor target i ≡ some u → asked ty i ≡ some (record { ids = is; rule = u })
-    asks-some u e = asks-by ∙ go (ruleOf (i .rule)) e
-      where
-        under : (b : Bool) (y : Rule) → pick b (some y) none ≡ some u → pick {A = Option Asked} b (some (record { ids = is; rule = y })) none ≡ some (record { ids = is; rule = u })
-        under true y q = let z : y ≡ u = cc in ap (λ (k : Rule). some (record { ids = is; rule = k })) z
-        under false y q = absurd (let z : _≡_ {A = ℕ} 0 1 = cc in omega arith)
-
-        go : (o : Option Rule) → bind o (λ y. pick (both (suits y target) (conforms y (i .value))) (some y) none) ≡ some u
-            → bind o (asksWith (i .value)) ≡ some (record { ids = is; rule = u })
-        go none q = absurd (let z : _≡_ {A = ℕ} 0 1 = cc in omega arith)
-        go (some y) q = under (both (suits y target) (conforms y (i .value))) y q
+    asks-some u e = asks-by ∙ rw e
 
     report-by : askReport l t v s budget ≡ budgeted budget (outcomeOf ty v i (asked ty i))
     unfolding askReport withFilter evaluated reading outcome

@@ -6,18 +6,17 @@ use mathlib.Core.Option.{Option, none, some}
 use mathlib.Core.List.{List, [], _∷_, _++_, map}
 use lib.ListN.{length, drop}
 use lib.Dec.{leb}
-use Rattle.octets.specs.Pick.{pick, both, either, isSome, bind}
+use Rattle.octets.specs.Pick.{pick, either, isSome}
 use Rattle.table.specs.Types.{Ty, typeAt}
 use Rattle.table.specs.Admitted as table
 use Rattle.value.specs.Value.{Value}
 use Rattle.value.specs.Decode.{storedValue}
-use Rattle.reference.specs.Reference.{Id}
+use Rattle.reference.specs.Reference.{Id, givenIds}
 use Rattle.reference.specs.Allowed as reference
 use Rattle.reference.specs.Named.{named}
 use Rattle.reference.specs.Numbers.{Component, component, threes}
-use Rattle.rules.specs.Rule.{Rule, ruleOf}
-use Rattle.rules.specs.Suits.{suits}
-use Rattle.rules.specs.Asserted.{conforms}
+use Rattle.rules.specs.Rule.{Rule}
+use Rattle.rules.specs.RuleFor as rules
 use Rattle.rules.specs.Accepts.{accepts}
 use Rattle.filter.specs.Filter.{Item, item}
 use Rattle.filter.specs.Parse.{filterFits, parse}
@@ -25,7 +24,7 @@ use Rattle.trail.specs.Spread.{Spread}
 use Rattle.judge.specs.Truth.{Truth, TRUE, FALSE, UNDEFINED}
 use Rattle.engine.specs.Limits.{Limits}
 use Rattle.engine.specs.Answer as answer
-use Rattle.engine.specs.Listing.{listingFits, listReport, givenIds, refusedList, lists}
+use Rattle.engine.specs.Listing.{listingFits, listReport, refusedList, lists}
 
 -- "Take any admitted table, any value of its type, any component reference allowed there or none, .. with sizes within limits": table t, stored
 -- value v, which decodes to x; reference r where one is given, with the identifiers is, which lead to a target
@@ -69,7 +68,7 @@ pub record Put (l : Limits) (given : Bool) (r : List ℕ) (defaults : Bool) (s :
 
 -- its rule, where document 01 doesn't make it Undefined: the rule is known, for the target, and the value text conforms
 abbrev pub ruleFor : reference.Target → Item → Option Rule
-ruleFor target i = bind (ruleOf (i .rule)) (λ u. pick (both (suits u target) (conforms u (i .value))) (some u) none)
+ruleFor target i = rules.ruleFor target (i .rule) (i .value)
 
 -- "if document 01 .. doesn't make it Undefined, it is TRUE if its rule accepts at least one value on that list, else FALSE"
 abbrev pub truthBy : (Component → Bool) → List Component → Truth

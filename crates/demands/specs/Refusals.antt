@@ -12,7 +12,7 @@ use Rattle.octets.specs.Pick.{pick, both, either, no, isSome, bind}
 use Rattle.table.specs.Types.{typeAt}
 use Rattle.table.specs.Admitted.{admitted}
 use Rattle.value.specs.Check.{isStored}
-use Rattle.reference.specs.Reference.{Id}
+use Rattle.reference.specs.Reference.{Id, givenIds}
 use Rattle.reference.specs.Allowed.{Target, allowed}
 use Rattle.filter.specs.Filter.{Filter}
 use Rattle.filter.specs.Parse.{parse}
@@ -20,7 +20,7 @@ use Rattle.trail.specs.Trail.{Trail, trail, faulty, reached}
 use Rattle.judge.specs.Reading.{Outcome, settled, faulted}
 use Rattle.engine.specs.Limits.{Limits}
 use Rattle.engine.specs.Answer.{Report, questionFits, evaluated, askReport}
-use Rattle.engine.specs.Listing.{listingFits, givenIds, listReport}
+use Rattle.engine.specs.Listing.{listingFits, listReport}
 
 -- ---- a filter's refusals
 -- the tests of an outcome are within the budget

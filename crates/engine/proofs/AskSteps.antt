@@ -24,6 +24,7 @@ use Rattle.assertion.specs.Assertion.{Read}
 use Rattle.filter.specs.Filter.{Filter}
 use Rattle.filter.specs.Parse.{filterFits, filterAt, parse, parseWithin}
 use Rattle.filter.specs.Answers as filter
+use Rattle.filter.specs.Paper.{filterLimits}
 use Rattle.filter.specs.declared.Filter as declared
 use Rattle.filter.specs.declared.Reading.{Reading}
 use Rattle.filter.proofs.Laws.{parse-read, counted-some, counted-none}
@@ -52,7 +53,7 @@ pub value-within : (v : List ℕ) → valueFits (valueLimits 2 4096) v ≡ value
 unfolding valueFits
 value-within v = and-both (leb 2 (length v)) (leb (length v) 4096)
 
-pub filter-within : (s : List ℕ) → filterFits (filter.limits 2048 16 64) s ≡ filterWithin s
+pub filter-within : (s : List ℕ) → filterFits filterLimits s ≡ filterWithin s
 unfolding filterFits
 filter-within s = and-both (leb 1 (length s)) (leb (length s) 2048)
 
@@ -71,7 +72,7 @@ module _ (t v s : List ℕ) (budget : ℕ) where
       unfolding questionWithin tableFits
       asks-value e = rw (le-leb 1 (length t) h, le-leb (length t) 4992 l, sym (value-within v) ∙ sym fits ∙ not-true x e)
 
-      module _ (e : not x ≡ false) (y : Bool) (reads : y ≡ filterFits (filter.limits 2048 16 64) s) where
+      module _ (e : not x ≡ false) (y : Bool) (reads : y ≡ filterFits filterLimits s) where
         pub asks-filter : not y ≡ true → false ≡ questionWithin 4992 (leb 2 (length v) && leb (length v) 4096) (leb 1 (length s) && leb (length s) 2048) 65535 t budget
         unfolding questionWithin tableFits
         asks-filter f = rw (le-leb 1 (length t) h, le-leb (length t) 4992 l, sym (value-within v) ∙ sym fits ∙ not-false x e, sym (filter-within s) ∙ sym reads ∙ not-true y f)
@@ -114,7 +115,7 @@ budget-told budget (settled UNDEFINED k) = let e : 0 + k ≡ k = omega arith in 
 budget-told budget (faulted k) = let e : 0 + k ≡ k = omega arith in judged-pick (leb (0 + k) budget) Judged.Fault ∙ rw e
 
 -- ---- 3, then 4
-module _ (s : List ℕ) (r : Reading) (told : filter.report r ≡ filter.counted (parse (filter.limits 2048 16 64) s)) where
+module _ (s : List ℕ) (r : Reading) (told : filter.report r ≡ filter.counted (parse filterLimits s)) where
   is-malformed : r ≡ Reading.Bad → parseWithin 16 64 s ≡ none
   is-malformed e = counted-none (parseWithin 16 64 s) (sym (ap filter.report e) ∙ told)
 
@@ -123,12 +124,12 @@ module _ (s : List ℕ) (r : Reading) (told : filter.report r ≡ filter.counted
     the-filter = let w = counted-some (parseWithin 16 64 s) (f .items) (sym (ap filter.report good) ∙ told) in (w .0, w .1 .0)
 
     read-at : filterAt s 0 ≡ some (record { is = the-filter .0; after = length s })
-    read-at = parse-read (filter.limits 2048 16 64) s (the-filter .0) (the-filter .1) .0 .1
+    read-at = parse-read filterLimits s (the-filter .0) (the-filter .1) .0 .1
 
     pub typed-read : isSome (filterAt s 0) ≡ true
     typed-read = ap isSome read-at
 
-module _ (ty : Ty) (v s : List ℕ) (budget : ℕ) (r : Reading) (told : filter.report r ≡ filter.counted (parse (filter.limits 2048 16 64) s)) where
+module _ (ty : Ty) (v s : List ℕ) (budget : ℕ) (r : Reading) (told : filter.report r ≡ filter.counted (parse filterLimits s)) where
   pub typed-malformed : r ≡ Reading.Bad → refused 3 ≡ withFilter ty v budget (parseWithin 16 64 s)
   unfolding withFilter
   typed-malformed e = rw (is-malformed s r told e)

@@ -21,7 +21,7 @@ use Rattle.value.specs.Limits.{limits as valueLimits}
 use Rattle.value.specs.Decode.{storedValue}
 use Rattle.value.specs.Check.{valueFits}
 use Rattle.value.proofs.EntrySteps.{not-admitted, is-admitted, rows-are}
-use Rattle.reference.specs.Reference.{Id, readReference}
+use Rattle.reference.specs.Reference.{Id, readReference, givenIds}
 use Rattle.reference.specs.Allowed.{allowed}
 use Rattle.reference.specs.Work.{targetTold, leadsTo}
 use Rattle.reference.specs.declared.Target.{Target}
@@ -31,7 +31,7 @@ use Rattle.walk.specs.declared.State.{State}
 use Rattle.walk.specs.declared.Task.{Task}
 use Rattle.walk.proofs.State as state
 use Rattle.walk.proofs.ListLaws.{count-run, list-run}
-use Rattle.engine.specs.Listing.{refused, Listing, refusedList, lists, written, listed, walked, listingFits, givenIds, withIds, listingOf, listedReport, listedTold, isRefused}
+use Rattle.engine.specs.Listing.{refused, Listing, refusedList, lists, written, listed, walked, listingFits, withIds, listingOf, listedReport, listedTold, isRefused}
 use Rattle.engine.specs.declared.Listed.{Listed}
 
 -- ---- sizes

@@ -13,7 +13,7 @@ use Rattle.table.specs.Check.{tableFits}
 use Rattle.value.specs.Limits as value
 use Rattle.value.specs.Decode.{storedValue}
 use Rattle.value.specs.Check.{valueFits}
-use Rattle.reference.specs.Reference.{Id, readReference}
+use Rattle.reference.specs.Reference.{Id, givenIds}
 use Rattle.reference.specs.Allowed.{allowed}
 use Rattle.reference.specs.Numbers.{Component, threes}
 use Rattle.engine.specs.Limits.{Limits}
@@ -58,9 +58,6 @@ unfoldable pub listingFits : ℕ → value.Limits → ℕ → List ℕ → List 
 listingFits bytes vl most t v given r = both (tableFits bytes t) (both (valueFits vl v) (either (no given) (leb (length r) most)))
 
 -- "The listing may be given no reference; an empty one is refused 3."
-abbrev pub givenIds : Bool → List ℕ → Option (List Id)
-givenIds given r = pick given (readReference r) (some [])
-
 -- 3: "reference malformed or not allowed"; then 4: "value not as above", by the type of row 0
 unfoldable pub withIds : Ty → List ℕ → Bool → List ℕ → Option (List Id) → Listing
 withIds ty v defaults room none = refusedList 3 room

@@ -17,7 +17,7 @@ ghost use Rattle.rows.specs.Limits.{limits as tableLimits};
 ghost use Rattle.table.specs.Types.{typeFrom};
 ghost use Rattle.table.specs.Work.{Sound};
 ghost use Rattle.value.specs.Limits.{limits as valueLimits};
-ghost use Rattle.reference.specs.Reference.{readReference};
+ghost use Rattle.reference.specs.Reference.{readReference, givenIds};
 ghost use Rattle.reference.specs.Work.{leadsTo};
 ghost use Rattle.trail.specs.Trail.{trail};
 ghost use Rattle.walk.specs.Run.{idsOr};
@@ -27,7 +27,7 @@ ghost use Rattle.filter.specs.Parse.{filterAt, parseWithin};
 ghost use Rattle.judge.specs.Assertion.{outcome};
 ghost use Rattle.judge.specs.Work.{NamesDiffer, Ready, judgedText};
 ghost use Rattle.engine.specs.Answer as answer;
-ghost use Rattle.engine.specs.Listing.{walked, listingFits, givenIds, withIds, listingOf, listedReport, listedTold, isRefused};
+ghost use Rattle.engine.specs.Listing.{walked, listingFits, withIds, listingOf, listedReport, listedTold, isRefused};
 
 // The answer of the listing: the number of named values, or a refusal.
 pub enum Listed {
@@ -242,7 +242,7 @@ fn question_fits(table: &[u8], value: &[u8], filter: &[u8], budget: u64) -> bool
     if !value::value_fits(value) {
         return false;
     }
-    if !filter::fits(filter) {
+    if !filter::Filter::fits(filter) {
         return false;
     }
     budget <= Answer::MAX_BUDGET
