@@ -10,20 +10,16 @@ use lib.Dec.{eqb}
 use lib.ListN.{length, take, drop, length-take, length-append}
 use lib.Seq.{take-take}
 use Rattle.octets.specs.Pick.{pick, no, bind}
-use Rattle.octets.specs.Octets.{octet, part}
+use Rattle.octets.specs.Octets.{octet, part, between}
 use Rattle.octets.specs.Text.{starts, trimmed}
-use Rattle.octets.specs.Quoted.{closing, closingAt, undoubled, characters}
+use Rattle.octets.specs.Quoted.{closing, closingAt}
 use Rattle.octets.specs.Answers.{told}
 use Rattle.octets.specs.declared.Place.{Place}
 use Rattle.octets.proofs.Laws.{both-true, rest-length}
 use Rattle.assertion.specs.Spaces.{openBrace, closeBrace, comma}
 use Rattle.assertion.specs.ValueText.{braceFrom, braceAt}
-use Rattle.assertion.specs.Assertion.{Read, readTo, commaFrom, assertionAt}
-use Rattle.assertion.specs.Item.{Item}
-use Rattle.assertion.specs.Places.{wordAt, between, withinQuotes, componentOf, itemOf, assertionTold}
-use Rattle.assertion.specs.declared.Component.{Component}
-use Rattle.assertion.specs.declared.Parts.{Parts}
-use Rattle.assertion.specs.declared.Assertion.{Assertion}
+use Rattle.assertion.specs.Assertion.{commaFrom}
+use Rattle.assertion.specs.Places.{wordAt}
 
 -- ---- what there is, or nothing
 pub some-is : {A : Type 0} {a b : A} → some a ≡ some b → a ≡ b
@@ -184,22 +180,3 @@ module _ (s : List ℕ) (at b : ℕ) where
       go : (t : Bool) → pick t (closing (drop (at + 1) s) (at + 1)) none ≡ some b → (at < b) × (b < length s)
       go true f = let r = closing-from (drop (at + 1) s) (at + 1) b f in (omega arith, omega (arith, rest-length s (at + 1)))
       go false f = absurd (none-not f)
-
--- ---- from places to contents
--- the reader's places are those of the item that the definition reads
-module _ (s : List ℕ) (at : ℕ) (a : Assertion) (e : assertionTold s a ≡ assertionAt s at) where
-  pub good-parts : (p : Parts) → a ≡ Assertion.Good p → assertionAt s at ≡ readTo (itemOf s p) (p .after)
-  good-parts p q = sym e ∙ ap (assertionTold s) q
-
-  pub good-item : (p : Parts) (i : Read Item) → a ≡ Assertion.Good p → assertionAt s at ≡ some i → (i .is ≡ itemOf s p) × (i .after ≡ p .after)
-  good-item p i q r =
-      let z = some-is (sym r ∙ good-parts p q) in
-      (ap (λ (x : Read Item). x .is) z, ap (λ (x : Read Item). x .after) z)
-
-  pub bad-parts : a ≡ Assertion.Bad → assertionAt s at ≡ none
-  bad-parts q = sym e ∙ ap (assertionTold s) q
-
--- the reference is between its quotes, with one quote for two
-pub component-quoted : (s : List ℕ) (a b : ℕ) → componentOf s (Component.Quoted a b) ≡ some (undoubled (withinQuotes s a b))
-unfolding characters
-component-quoted s a b = refl

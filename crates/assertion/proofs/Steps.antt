@@ -9,7 +9,7 @@ use borrow.Author.Tests.{eq-eqb, ne-eqb, not-true, not-false}
 use lib.ListN.{length, take, drop}
 use lib.Seq.{take-suc, take-length, length-take-le}
 use Rattle.octets.specs.Pick.{no}
-use Rattle.octets.specs.Octets.{octet, part, every, bytes}
+use Rattle.octets.specs.Octets.{octet, part, between, every, bytes}
 use Rattle.octets.specs.Text.{isLower, isUpper, isLetter, isAlnum, starts, skip, trimmed}
 use Rattle.octets.specs.Quoted.{closingAt, characters}
 use Rattle.octets.specs.Answers.{told}
@@ -19,7 +19,7 @@ use Rattle.assertion.specs.Spaces.{labelAt, markAt}
 use Rattle.assertion.specs.ValueText.{braceFrom, braceAt, valueTextAt}
 use Rattle.assertion.specs.Assertion.{readTo, followed, quotedPart, componentAt, truthPart, defaultsAt, commaFrom, isNameLetter, isRuleName, isRule, ruleAt, valueAt, assertionAt}
 use Rattle.assertion.specs.Work.{ruleFrom, valuesAt, partsAt}
-use Rattle.assertion.specs.Places.{wordAt, between, withinQuotes, componentOf, componentTold, defaultsTold, ruleTold, valueTold, assertionTold}
+use Rattle.assertion.specs.Places.{wordAt, withinQuotes, componentOf, componentTold, defaultsTold, ruleTold, valueTold, assertionTold}
 use Rattle.assertion.specs.declared.ComponentPart.{ComponentPart}
 use Rattle.assertion.specs.declared.DefaultsPart.{DefaultsPart}
 use Rattle.assertion.specs.declared.RulePart.{RulePart}
@@ -30,9 +30,6 @@ use Rattle.assertion.proofs.Laws.{at-place, at-none, starts-fits, word-
 use Rattle.assertion.proofs.Progress.{value-onward, assertion-steps}
 
 -- ---- parts of a text
-pub between-none : (s t : List ℕ) (a b : ℕ) → t ≡ part s a 0 → b ≤ a → t ≡ between s a b
-between-none s t a b e h = let z : 0 ≡ b - a = omega arith in e ∙ ap (part s a) z
-
 pub quotes-none : (s t : List ℕ) (a b : ℕ) → t ≡ part s a 0 → b ≤ a → t ≡ withinQuotes s a b
 quotes-none s t a b e h = let z : 0 ≡ b - (a + 1) = omega arith in e ∙ ap (part s (a + 1)) z
 

@@ -27,6 +27,7 @@ isGood : String → Bool
 isGood s = isSome (read s)
 
 -- `useDefaultValues` after `rule`, before `component`; `value` before `rule`
-orders : map isGood ("{rule x,useDefaultValues FALSE,value 1}" ∷ "{useDefaultValues FALSE,component \"a\",rule x,value 1}" ∷ "{value 1,rule x}" ∷ []) ≡ false ∷ false ∷ false ∷ []
+orders : map isGood ("{rule x,useDefaultValues FALSE,value 1}" ∷ "{useDefaultValues FALSE,component \"a\",rule x,value 1}" ∷ "{value 1,rule x}" ∷ [])
+    ≡ false ∷ false ∷ false ∷ []
 unfolding assertionComputes read isGood
 orders = refl

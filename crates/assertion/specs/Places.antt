@@ -5,7 +5,7 @@ use mathlib.Core.Option.{Option, none, some}
 use mathlib.Core.List.{List}
 use lib.ListN.{length, drop}
 use Rattle.octets.specs.Pick.{pick}
-use Rattle.octets.specs.Octets.{part}
+use Rattle.octets.specs.Octets.{between}
 use Rattle.octets.specs.Text.{starts}
 use Rattle.octets.specs.Quoted.{characters}
 use Rattle.assertion.specs.Item.{Item}
@@ -23,10 +23,6 @@ use Rattle.assertion.specs.declared.Assertion.{Assertion}
 -- the place after a word that stands at a place
 unfoldable pub wordAt : List ℕ → List ℕ → ℕ → Option ℕ
 wordAt w s at = pick (starts w (drop at s)) (some (at + length w)) none
-
--- from a place to another
-abbrev pub between : List ℕ → ℕ → ℕ → List ℕ
-between s a b = part s a (b - a)
 
 -- between two quotes
 abbrev pub withinQuotes : List ℕ → ℕ → ℕ → List ℕ
@@ -59,7 +55,12 @@ valueTold s ValuePart.Bad = none
 -- ---- the assertion
 -- the item whose parts stand at these places
 abbrev pub itemOf : List ℕ → Parts → Item
-itemOf s p = record { component = componentOf s (p .component); defaults = p .defaults; rule = between s (p .rule) (p .«rule_end»); value = between s (p .value) (p .«value_end») }
+itemOf s p = record {
+  component = componentOf s (p .component);
+  defaults = p .defaults;
+  rule = between s (p .rule) (p .«rule_end»);
+  value = between s (p .value) (p .«value_end»);
+}
 
 abbrev pub assertionTold : List ℕ → Assertion → Option (Read Item)
 assertionTold s (Assertion.Good p) = readTo (itemOf s p) (p .after)

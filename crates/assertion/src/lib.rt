@@ -59,16 +59,6 @@ pub enum Assertion {
 }
 
 // ---- parts of a text
-// From a place to another, nothing where the second is not further on.
-pub fn between(s: &[u8], a: usize, b: usize) -> &[u8]
-    ensures { λ r. ⌜ now r ≡ places.between (now (s .entry)) a b ⌝ }
-{
-    if b <= a {
-        return octets::part(s, a, 0);
-    }
-    octets::part(s, a, b - a)
-}
-
 // What stands between two quotes, doubled quotes as they are.
 pub fn within_quotes(s: &[u8], a: usize, b: usize) -> &[u8]
     ensures { λ r. ⌜ now r ≡ places.withinQuotes (now (s .entry)) a b ⌝ }
@@ -76,7 +66,7 @@ pub fn within_quotes(s: &[u8], a: usize, b: usize) -> &[u8]
     if b <= a {
         return octets::part(s, a, 0);
     }
-    between(s, a + 1, b)
+    octets::between(s, a + 1, b)
 }
 
 // ---- words, labels and marks
@@ -91,7 +81,7 @@ pub fn word_at(s: &[u8], at: usize, w: &[u8]) -> Place
 }
 
 // What follows a label at a place and the spaces after it, one at least.
-pub fn label_at(s: &[u8], at: usize, w: &[u8]) -> Place
+fn label_at(s: &[u8], at: usize, w: &[u8]) -> Place
     ensures { λ r. ⌜ told r ≡ spaces.labelAt (now (w .entry)) (now (s .entry)) at ⌝ }
 {
     let Place::At(p) = word_at(s, at, w) else {

@@ -12,7 +12,7 @@ use Rattle.octets.specs.Octets.{octet, same, nibble}
 use Rattle.octets.proofs.Laws.{rest-cons, rest-none}
 use Rattle.octets.proofs.TextLaws.{same-nil, same-shorter, same-longer, same-cons}
 use Rattle.der.specs.Meaning.{bitsOf}
-use Rattle.binary.specs.Asserted.{between, isBitText, hexBits, textBits, assertedBits}
+use Rattle.binary.specs.Asserted.{digits, isBitText, hexBits, textBits, assertedBits}
 use Rattle.binary.specs.Answers.{hexFrom, restBits, toldBit, isEnd, bitIn, bitsIn}
 use Rattle.binary.specs.declared.Quarter.{Quarter}
 use Rattle.binary.specs.declared.Bits.{Bits}
@@ -101,7 +101,7 @@ module _ (s h : List ℕ) (hexed : Bool) (i : ℕ) (a : Bits) (step : BitStep) (
 pub bits-too-long : (c : List ℕ) (x : Bool) → 65536 < length c → false ≡ both (leb (length c) 65536) x
 bits-too-long c x h = rw (lt-leb (length c) 65536 h)
 
-module _ (t c p : List ℕ) (u r : Bool) (short : length c ≤ 65536) (inside : p ≡ between t) (told : u ≡ isBitText t) where
+module _ (t c p : List ℕ) (u r : Bool) (short : length c ≤ 65536) (inside : p ≡ digits t) (told : u ≡ isBitText t) where
   pub bits-of-text : u ≡ true → r ≡ same (bitsOf c) (bitsIn false p) → r ≡ both (leb (length c) 65536) (same (bitsOf c) (assertedBits t))
   unfolding assertedBits
   bits-of-text h e = rw (le-leb (length c) 65536 short, sym told ∙ h) (e ∙ ap (λ (x : List ℕ). same (bitsOf c) (textBits x)) inside)

@@ -11,16 +11,16 @@ use Rattle.octets.specs.Pick.{pick, both}
 use Rattle.octets.specs.Octets.{octet, part, every, same, below, nibble, paired}
 use Rattle.octets.proofs.Laws.{rest-cons, rest-none}
 use Rattle.octets.proofs.TextLaws.{same-nil, same-shorter, same-longer, same-cons, below-nil, below-shorter, below-longer-list, below-cons, paired-nil, paired-one, paired-two}
-use Rattle.binary.specs.Asserted.{inQuotes, between, isHexDigit, isBit, isHexString, isBitText, isOctets, assertedOctets, isBits}
+use Rattle.binary.specs.Asserted.{inQuotes, digits, isHexDigit, isBit, isHexString, isBitText, isOctets, assertedOctets, isBits}
 use Rattle.binary.specs.Answers.{ordered, isSame, isLess, toldPair}
 use Rattle.binary.specs.declared.Order.{Order}
 use Rattle.binary.specs.declared.Pair.{Pair}
 
 -- ---- between the quotes
-pub between-none : (t r : List ℕ) → length t ≤ 3 → r ≡ part t 1 0 → r ≡ between t
-between-none t r h e = let q : 0 ≡ length t - 3 = omega arith in e ∙ ap (part t 1) q
+pub digits-none : (t r : List ℕ) → length t ≤ 3 → r ≡ part t 1 0 → r ≡ digits t
+digits-none t r h e = let q : 0 ≡ length t - 3 = omega arith in e ∙ ap (part t 1) q
 
-module _ (t p : List ℕ) (r : Bool) (inside : p ≡ between t) where
+module _ (t p : List ℕ) (r : Bool) (inside : p ≡ digits t) where
   pub hex-digits : (u : Bool) → r ≡ inQuotes 72 t → not r ≡ false → u ≡ every isHexDigit p → u ≡ isHexString t
   unfolding isHexString
   hex-digits u e h q = rw (sym e ∙ not-false r h) (q ∙ ap (every isHexDigit) inside)
@@ -136,7 +136,7 @@ ordered-less (a ∷ l) (b ∷ s) = go (ltb a b) (ltb b a) (ordered-less l s) ∙
     go false true f = refl
     go false false f = f
 
-module _ (t c p : List ℕ) (o : Order) (r : Bool) (inside : p ≡ between t) (told : o ≡ ordered c (paired p)) where
+module _ (t c p : List ℕ) (o : Order) (r : Bool) (inside : p ≡ digits t) (told : o ≡ ordered c (paired p)) where
   against : o ≡ ordered c (assertedOctets t)
   unfolding assertedOctets
   against = told ∙ ap (λ (x : List ℕ). ordered c (paired x)) inside

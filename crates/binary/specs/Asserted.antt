@@ -16,8 +16,8 @@ inQuotes letter t =
     (both (eqb (octet t (length t - 2)) 39)
     (eqb (octet t (length t - 1)) letter)))
 
-abbrev pub between : List ℕ → List ℕ
-between t = part t 1 (length t - 3)
+abbrev pub digits : List ℕ → List ℕ
+digits t = part t 1 (length t - 3)
 
 -- uppercase
 abbrev pub isHexDigit : ℕ → Bool
@@ -27,17 +27,17 @@ abbrev pub isBit : ℕ → Bool
 isBit b = within 48 49 b
 
 unfoldable pub isHexString : List ℕ → Bool
-isHexString t = both (inQuotes 72 t) (every isHexDigit (between t))
+isHexString t = both (inQuotes 72 t) (every isHexDigit (digits t))
 
 unfoldable pub isBitText : List ℕ → Bool
-isBitText t = both (inQuotes 66 t) (every isBit (between t))
+isBitText t = both (inQuotes 66 t) (every isBit (digits t))
 
 -- ---- octets
 unfoldable pub isOctets : List ℕ → Bool
-isOctets t = both (isHexString t) (eqb (length (between t) % 2) 0)
+isOctets t = both (isHexString t) (eqb (length (digits t) % 2) 0)
 
 unfoldable pub assertedOctets : List ℕ → List ℕ
-assertedOctets t = paired (between t)
+assertedOctets t = paired (digits t)
 
 -- ---- bits
 unfoldable pub isBits : List ℕ → Bool
@@ -55,4 +55,4 @@ textBits [] = []
 textBits (b ∷ bs) = (b - 48) ∷ textBits bs
 
 unfoldable pub assertedBits : List ℕ → List ℕ
-assertedBits t = pick (isBitText t) (textBits (between t)) (hexBits (between t))
+assertedBits t = pick (isBitText t) (textBits (digits t)) (hexBits (digits t))

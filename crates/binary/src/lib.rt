@@ -59,9 +59,9 @@ fn in_quotes(letter: u8, t: &[u8]) -> bool
     t[last] == letter
 }
 
-// What stands between the single quotes.
-fn between(t: &[u8]) -> &[u8]
-    ensures { λ r. ⌜ now r ≡ asserted.between (now (t .entry)) ⌝ }
+// The digits between the single quotes.
+fn digits(t: &[u8]) -> &[u8]
+    ensures { λ r. ⌜ now r ≡ asserted.digits (now (t .entry)) ⌝ }
 {
     if t.len() <= 3 {
         return octets::part(t, 1, 0);
@@ -110,7 +110,7 @@ fn is_hex_string(t: &[u8]) -> bool
     if !in_quotes(72, t) {
         return false;
     }
-    all_hex(between(t))
+    all_hex(digits(t))
 }
 
 fn is_bit_text(t: &[u8]) -> bool
@@ -119,7 +119,7 @@ fn is_bit_text(t: &[u8]) -> bool
     if !in_quotes(66, t) {
         return false;
     }
-    all_bits(between(t))
+    all_bits(digits(t))
 }
 
 // Whether a value text conforms to octets: `'..'H`, an even number of digits.
@@ -129,7 +129,7 @@ pub fn is_octets(t: &[u8]) -> bool
     if !is_hex_string(t) {
         return false;
     }
-    let h = between(t);
+    let h = digits(t);
     h.len() % 2 == 0
 }
 
@@ -224,14 +224,14 @@ fn is_less(o: Order) -> bool
 pub fn same_octets(t: &[u8], c: &[u8]) -> bool
     ensures { λ r. ⌜ r ≡ octets.same (now (c .entry)) (asserted.assertedOctets (now (t .entry))) ⌝ }
 {
-    is_same(order_octets(c, between(t)))
+    is_same(order_octets(c, digits(t)))
 }
 
 // Whether stored octets are less than the asserted ones.
 pub fn less_octets(t: &[u8], c: &[u8]) -> bool
     ensures { λ r. ⌜ r ≡ octets.below (now (c .entry)) (asserted.assertedOctets (now (t .entry))) ⌝ }
 {
-    is_less(order_octets(c, between(t)))
+    is_less(order_octets(c, digits(t)))
 }
 
 // ---- bits of a text, one after another
@@ -339,7 +339,7 @@ pub fn same_bits(t: &[u8], c: &[u8]) -> bool
         return false;
     }
     if is_bit_text(t) {
-        return same_bit_list(c, between(t), false);
+        return same_bit_list(c, digits(t), false);
     }
-    same_bit_list(c, between(t), true)
+    same_bit_list(c, digits(t), true)
 }

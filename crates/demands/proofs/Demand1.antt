@@ -19,7 +19,7 @@ use Rattle.value.specs.Decode.{storedValue}
 use Rattle.value.specs.Check as value
 use Rattle.value.specs.Check.{valueFits, isStored}
 use Rattle.value.specs.Part.{PartReport, refusedPart, partReport}
-use Rattle.reference.specs.Reference.{Id}
+use Rattle.reference.specs.Reference.{Id, givenIds}
 use Rattle.reference.specs.Allowed.{allowed}
 use Rattle.reference.specs.Named.{named}
 use Rattle.reference.specs.Numbers.{Component}
@@ -30,7 +30,7 @@ use Rattle.trail.proofs.Agreeing.{trail-named, laid-reached}
 use Rattle.judge.specs.Reading.{Outcome, settled, faulted}
 use Rattle.engine.specs.Paper.{limits}
 use Rattle.engine.specs.Answer.{Report, refused, answers, budgeted, questionFits, evaluated, withFilter, questionOf, askReport}
-use Rattle.engine.specs.Listing.{Listing, refusedList, lists, written, listed, walked, listingFits, givenIds, withIds, listingOf, listReport}
+use Rattle.engine.specs.Listing.{Listing, refusedList, lists, written, listed, walked, listingFits, withIds, listingOf, listReport}
 use Rattle.demands.specs.Named.{components}
 use Rattle.demands.specs.Refusals.{TableRefusals, RefusesTable, ValueRefusals, RefusesValue, partRefusal, PartRefused, ListRefusals, ofSome, RefusesListing, AskRefusals, enough, isFault, over, faults, RefusesFilter}
 

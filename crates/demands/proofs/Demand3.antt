@@ -14,7 +14,7 @@ use Rattle.table.specs.Types.{Ty, typeAt}
 use Rattle.value.specs.Value.{Value}
 use Rattle.value.specs.Check.{valueFits}
 use Rattle.value.specs.Decode.{storedValue}
-use Rattle.reference.specs.Reference.{Id}
+use Rattle.reference.specs.Reference.{Id, identifiers, givenIds}
 use Rattle.reference.specs.Allowed as reference
 use Rattle.reference.specs.Named.{named}
 use Rattle.rules.specs.Rule.{Rule, ruleOf}
@@ -26,10 +26,10 @@ use Rattle.trail.specs.Trail.{trail}
 use Rattle.trail.proofs.Agreeing.{laid, trail-named, laid-sound, laid-reached}
 use Rattle.trail.proofs.Spreading.{named-spread}
 use Rattle.judge.specs.Reading.{reading}
-use Rattle.judge.specs.Assertion.{identifiers, Asked, asked, outcomeOf, outcome}
+use Rattle.judge.specs.Assertion.{Asked, asked, outcomeOf, outcome}
 use Rattle.engine.specs.Paper.{limits}
 use Rattle.engine.specs.Answer.{Report, budgeted, questionFits, evaluated, withFilter, questionOf, askReport}
-use Rattle.engine.specs.Listing.{Listing, written, listed, walked, referenceFits, listingFits, listReport, givenIds, withIds, listingOf}
+use Rattle.engine.specs.Listing.{Listing, written, listed, walked, referenceFits, listingFits, listReport, withIds, listingOf}
 use Rattle.demands.specs.Named.{components, needed}
 use Rattle.demands.specs.Demand.{Taken, Listed, Put, ruleFor, Asserted, Demanded}
 use Rattle.demands.proofs.Determined.{named-determined}
@@ -39,9 +39,6 @@ use Rattle.demands.proofs.Demand2.{tested-named, answered-truly}
 module _ (t v : List ℕ) (given : Bool) (r : List ℕ) (x : Value) (is : List Id) (target : reference.Target) (w : Taken t v given r x is target) (defaults : Bool) where
   abbrev ty : Ty
   ty = typeAt (limits .table) t 0
-
-  abbrev asksWith : List ℕ → Rule → Option Asked
-  asksWith text u = pick (both (suits u target) (conforms u text)) (some (record { ids = is; rule = u })) none
 
   stored : isSome (storedValue ty v) ≡ true
   stored = ap isSome (w .decodes)
@@ -78,32 +75,15 @@ module _ (t v : List ℕ) (given : Bool) (r : List ℕ) (x : Value) (is : List I
         go true = refl
         go false = refl
 
-    asks-by : asked ty i ≡ bind (ruleOf (i .rule)) (asksWith (i .value))
+    asks-by : asked ty i ≡ bind (ruleFor target i) (λ u. some (record { ids = is; rule = u }))
     unfolding asked
     asks-by = rw (the-ids, w .allowed)
 
     asks-none : ruleFor target i ≡ none → asked ty i ≡ none
-    asks-none e = asks-by ∙ go (ruleOf (i .rule)) e
-      where
-        under : (b : Bool) (u : Rule) → pick b (some u) none ≡ none → pick {A = Option Asked} b (some (record { ids = is; rule = u })) none ≡ none
-        under true u q = absurd (let z : _≡_ {A = ℕ} 0 1 = cc in omega arith)
-        under false u q = refl
-
-        go : (o : Option Rule) → bind o (λ u. pick (both (suits u target) (conforms u (i .value))) (some u) none) ≡ none → bind o (asksWith (i .value)) ≡ none
-        go none q = refl
-        go (some u) q = under (both (suits u target) (conforms u (i .value))) u q
+    asks-none e = asks-by ∙ rw e
 
     asks-some : (u : Rule) → ruleFor target i ≡ some u → asked ty i ≡ some (record { ids = is; rule = u })
-    asks-some u e = asks-by ∙ go (ruleOf (i .rule)) e
-      where
-        under : (b : Bool) (y : Rule) → pick b (some y) none ≡ some u → pick {A = Option Asked} b (some (record { ids = is; rule = y })) none ≡ some (record { ids = is; rule = u })
-        under true y q = let z : y ≡ u = cc in ap (λ (k : Rule). some (record { ids = is; rule = k })) z
-        under false y q = absurd (let z : _≡_ {A = ℕ} 0 1 = cc in omega arith)
-
-        go : (o : Option Rule) → bind o (λ y. pick (both (suits y target) (conforms y (i .value))) (some y) none) ≡ some u
-            → bind o (asksWith (i .value)) ≡ some (record { ids = is; rule = u })
-        go none q = absurd (let z : _≡_ {A = ℕ} 0 1 = cc in omega arith)
-        go (some y) q = under (both (suits y target) (conforms y (i .value))) y q
+    asks-some u e = asks-by ∙ rw e
 
     report-by : askReport limits t v s budget ≡ budgeted budget (outcomeOf ty v i (asked ty i))
     unfolding askReport questionOf withFilter evaluated reading outcome

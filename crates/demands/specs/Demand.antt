@@ -11,12 +11,11 @@ use Rattle.table.specs.Types.{typeAt}
 use Rattle.table.specs.Admitted as table
 use Rattle.value.specs.Value.{Value}
 use Rattle.value.specs.Decode.{storedValue}
-use Rattle.reference.specs.Reference.{Id}
+use Rattle.reference.specs.Reference.{Id, givenIds}
 use Rattle.reference.specs.Allowed as reference
 use Rattle.reference.specs.Numbers.{Component, threes}
-use Rattle.rules.specs.Rule.{Rule, ruleOf}
-use Rattle.rules.specs.Suits.{suits}
-use Rattle.rules.specs.Asserted.{conforms}
+use Rattle.rules.specs.Rule.{Rule}
+use Rattle.rules.specs.RuleFor as rules
 use Rattle.rules.specs.Accepts.{accepts}
 use Rattle.filter.specs.Filter.{Item, item}
 use Rattle.filter.specs.Parse.{filterFits, parse}
@@ -24,7 +23,7 @@ use Rattle.trail.specs.Spread.{Spread}
 use Rattle.judge.specs.Truth.{UNDEFINED}
 use Rattle.engine.specs.Paper.{limits}
 use Rattle.engine.specs.Answer as answer
-use Rattle.engine.specs.Listing.{Listing, listingFits, givenIds, refusedList, lists}
+use Rattle.engine.specs.Listing.{Listing, listingFits, refusedList, lists}
 use Rattle.demands.specs.Named.{components, needed, truthBy}
 use Rattle.demands.specs.Numbers.{Determined}
 use Rattle.demands.specs.Truths.{AnswersTruly}
@@ -63,7 +62,7 @@ pub record Put (given : Bool) (r : List ℕ) (defaults : Bool) (s : List ℕ) (i
 
 -- its rule, where document 01 doesn't make it Undefined: the rule is known, for the target, and the value text conforms
 abbrev pub ruleFor : reference.Target → Item → Option Rule
-ruleFor target i = bind (ruleOf (i .rule)) (λ u. pick (both (suits u target) (conforms u (i .value))) (some u) none)
+ruleFor target i = rules.ruleFor target (i .rule) (i .value)
 
 pub record Asserted (i : Item) (budget : ℕ) (target : reference.Target) (cs : List Component) (b : answer.Report) : Type 0 where
   -- where document 01 makes it Undefined

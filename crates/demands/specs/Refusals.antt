@@ -14,6 +14,7 @@ use Rattle.table.specs.Admitted.{admitted}
 use Rattle.table.specs.Check.{TableReport}
 use Rattle.value.specs.Decode.{storedValue}
 use Rattle.value.specs.Check.{ValueReport, valueFits, isStored}
+use Rattle.reference.specs.Reference.{givenIds}
 use Rattle.reference.specs.Allowed.{allowed}
 use Rattle.reference.specs.Numbers.{Component}
 use Rattle.filter.specs.Filter.{Filter}
@@ -22,7 +23,7 @@ use Rattle.trail.specs.Trail.{trail, faulty}
 use Rattle.judge.specs.Reading.{Outcome, settled, faulted}
 use Rattle.engine.specs.Paper.{limits}
 use Rattle.engine.specs.Answer.{Report, questionFits, evaluated}
-use Rattle.engine.specs.Listing.{Listing, listingFits, givenIds}
+use Rattle.engine.specs.Listing.{Listing, listingFits}
 use Rattle.demands.specs.Named.{components}
 
 -- ---- the table check

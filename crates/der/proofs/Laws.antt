@@ -1,19 +1,19 @@
 -- Laws of the definitions, for this crate's proofs and for the layers above.
-use mathlib.Core.Path.{_≡_, refl, sym, ap, _∙_}
-use mathlib.Core.Bool.{Bool, true, false, false≢true}
+use mathlib.Core.Path.{_≡_, refl, sym, _∙_}
+use mathlib.Core.Bool.{Bool, true, false}
 use mathlib.Core.List.{List}
 use Prim.Native.Nat.{ℕ, _≤_, _<_, _+_, _-_, _%_}
 use native.Mathlib.Omega.{arith}
-use borrow.Author.Tests.{ltb-false, leb-true, leb-false, eqb-true, eqb-false, eq-eqb, le-ltb, lt-leb}
+use borrow.Author.Tests.{ltb-false, leb-true, leb-false, eqb-true, eq-eqb, le-ltb, lt-leb}
 use lib.Dec.{ltb, leb, eqb}
 use lib.ListN.{length}
 use Rattle.octets.specs.Octets.{octet, two}
 use Rattle.octets.specs.Pick.{pick, both}
-use Rattle.octets.proofs.Laws.{pick-cases}
+use Rattle.octets.proofs.Laws.{pick-cases, both-true}
 use Rattle.der.specs.Tag.{class, number, tagOf}
 use Rattle.der.specs.Header.{longLength, lengthAt, sized, headerAt, tagged, insideAt, anyTag}
 use Rattle.der.specs.Kind as kind
-use Rattle.der.specs.Contents.{legalBoolean, legalInteger, legalOid, legalBits, legalText, legal}
+use Rattle.der.specs.Contents.{legalBoolean, legalInteger, legal}
 use Rattle.der.specs.Time.{legalTime}
 use Rattle.der.specs.declared.Header.{Header}
 use Rattle.der.specs.declared.Inside.{Inside}
@@ -64,12 +64,12 @@ length-within s at end n after =
 
 -- ---- headers: a header that fits lies within its end and is at least two octets
 abbrev Fitting : List ℕ → ℕ → ℕ → ℕ → ℕ → ℕ → Type 0
-Fitting s at end o start n = (at + 1 < start) × (start + n ≤ end) × (o ≡ octet s at) × (number o ≡ 31 → ⊥)
+Fitting s at end o start n = (at + 1 < start) × (start + n ≤ end) × (o ≡ octet s at)
 
 header-fits : (s : List ℕ) (at end o start n : ℕ) → headerAt s at end ≡ Header.Found o start n → Fitting s at end o start n
 unfolding headerAt
 header-fits s at end o start n =
-    pick-cases P (leb end at) _ _ (λ t. misfit) (λ t. pick-cases P (eqb (number (octet s at)) 31) _ _ (λ t. misfit) (λ t. go (lengthAt s (at + 1) end) refl t))
+    pick-cases P (leb end at) _ _ (λ t. misfit) (λ t. pick-cases P (eqb (number (octet s at)) 31) _ _ (λ t. misfit) (λ t. go (lengthAt s (at + 1) end) refl))
   where
     P : Header → Type 0
     P x = x ≡ Header.Found o start n → Fitting s at end o start n
@@ -77,14 +77,14 @@ header-fits s at end o start n =
     misfit : P Header.Misfit
     misfit e = absurd (let z : _≡_ {A = ℕ} 0 1 = cc in omega arith)
 
-    go : (l : Length) → lengthAt s (at + 1) end ≡ l → eqb (number (octet s at)) 31 ≡ false → P (sized (octet s at) end l)
-    go Length.Unusable q t = misfit
-    go (Length.Of m next) q t = pick-cases P (ltb (end - next) m) _ _ (λ u. misfit) (λ u e.
+    go : (l : Length) → lengthAt s (at + 1) end ≡ l → P (sized (octet s at) end l)
+    go Length.Unusable q = misfit
+    go (Length.Of m next) q = pick-cases P (ltb (end - next) m) _ _ (λ u. misfit) (λ u e.
         let w = length-within s (at + 1) end m next q in
         let a : octet s at ≡ o = cc in
         let b : next ≡ start = cc in
         let d : m ≡ n = cc in
-        (omega arith, omega (arith, ltb-false), sym a, λ z. eqb-false _ _ t (ap number a ∙ z)))
+        (omega arith, omega (arith, ltb-false), sym a))
 
 module _ (s : List ℕ) (at end o start n : ℕ) (e : headerAt s at end ≡ Header.Found o start n) where
   pub header-long : at + 1 < start
@@ -95,9 +95,6 @@ module _ (s : List ℕ) (at end o start n : ℕ) (e : headerAt s at end ≡ Head
 
   pub header-tag : o ≡ octet s at
   header-tag = header-fits s at end o start n e .2
-
-  pub header-not-31 : number o ≡ 31 → ⊥
-  header-not-31 = header-fits s at end o start n e .3
 
 -- the header behind contents with a tag octet g, and behind any contents
 pub inside-view : (g : ℕ) (s : List ℕ) (at end start n : ℕ) → insideAt g s at end ≡ Inside.Of start n → headerAt s at end ≡ Header.Found g start n
@@ -125,29 +122,13 @@ module _ (g : ℕ) (s : List ℕ) (at end start n : ℕ) (e : insideAt g s at en
   pub inside-within : start + n ≤ end
   inside-within = header-within s at end g start n (inside-view g s at end start n e)
 
-  pub inside-tag : g ≡ octet s at
-  inside-tag = header-tag s at end g start n (inside-view g s at end start n e)
-
--- a header that fits, with the tag asked for, is that contents' header
-pub inside-of : (s : List ℕ) (at end g start n : ℕ) → headerAt s at end ≡ Header.Found g start n → insideAt g s at end ≡ Inside.Of start n
-unfolding insideAt
-inside-of s at end g start n e = ap (tagged g) e ∙ rw (eq-eqb g g refl)
-
 -- ---- contents
-both-true : (a b : Bool) → both a b ≡ true → (a ≡ true) × (b ≡ true)
-both-true true b e = (refl, e)
-both-true false b e = absurd (false≢true e)
-
 pub integer-octets : (c : List ℕ) → legalInteger c ≡ true → (1 ≤ length c) × (length c ≤ 8)
 unfolding legalInteger
 integer-octets c e =
     let w = both-true (both (leb 1 (length c)) (leb (length c) 8)) _ e .0 in
     let v = both-true (leb 1 (length c)) (leb (length c) 8) w in
     (leb-true _ _ (v .0), leb-true _ _ (v .1))
-
-pub bits-octets : (c : List ℕ) → legalBits c ≡ true → 1 ≤ length c
-unfolding legalBits
-bits-octets c e = leb-true _ _ (both-true (leb 1 (length c)) _ e .0)
 
 pub time-octets : (c : List ℕ) → legalTime c ≡ true → 15 ≤ length c
 unfolding legalTime
@@ -166,18 +147,6 @@ module _ (c : List ℕ) where
   pub legal-enumerated : legal kind.enumerated c ≡ legalInteger c
   unfolding legal
   legal-enumerated = refl
-
-  pub legal-oid : legal kind.objectIdentifier c ≡ legalOid c
-  unfolding legal
-  legal-oid = refl
-
-  pub legal-bits : legal kind.bitString c ≡ legalBits c
-  unfolding legal
-  legal-bits = refl
-
-  pub legal-time : legal kind.generalizedTime c ≡ legalTime c
-  unfolding legal legalText
-  legal-time = refl
 
 -- ---- what is read before one end is read before any end that it lies within
 long-before : (n least next end other m after : ℕ) → longLength n least next end ≡ Length.Of m after → after ≤ other → longLength n least next other ≡ Length.Of m after

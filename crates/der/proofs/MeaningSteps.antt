@@ -12,7 +12,7 @@ use lib.Bits.{bitAnd, and-mask}
 use lib.ListN.{length, getD, drop, length-take, length-append, List·getD-append, List·getD-eq-default}
 use lib.Seq.{getD-take, getD-append-add}
 use Rattle.octets.specs.Pick.{pick}
-use Rattle.octets.specs.Octets.{octet, part, baseFrom}
+use Rattle.octets.specs.Octets.{octet, between, baseFrom}
 use Rattle.octets.proofs.Laws.{octet-past, rest-cons, rest-none}
 use Rattle.der.specs.Tag.{form, universal, ownOctet, implicitOctet, wrapperOctet}
 use Rattle.der.specs.Contents.{legal}
@@ -34,11 +34,8 @@ unfolding wrapperOctet
 wrapper-is n x e = ap (λ (p : ℕ). 160 + p) e
 
 -- ---- contents up to an end
-pub legal-none : (k : ℕ) (s c : List ℕ) (start end : ℕ) (r : Bool) → end ≤ start → c ≡ part s start 0 → r ≡ legal k c → r ≡ legal k (part s start (end - start))
-legal-none k s c start end r h e q = let z : end - start ≡ 0 = omega arith in rw z (q ∙ ap (legal k) e)
-
-pub legal-some : (k : ℕ) (s c : List ℕ) (start end : ℕ) (r : Bool) → c ≡ part s start (end - start) → r ≡ legal k c → r ≡ legal k (part s start (end - start))
-legal-some k s c start end r e q = q ∙ ap (legal k) e
+pub legal-is : (k : ℕ) (s c : List ℕ) (start end : ℕ) (r : Bool) → c ≡ between s start end → r ≡ legal k c → r ≡ legal k (between s start end)
+legal-is k s c start end r e q = q ∙ ap (legal k) e
 
 -- ---- BOOLEAN
 pub truth-is : (c : List ℕ) (o : ℕ) → o ≡ octet c 0 → not (eqb o 0) ≡ booleanOf c

@@ -1,50 +1,46 @@
 -- One lemma for each return and each turn of a loop; its premises are the facts as the code has them.
-use mathlib.Core.Path.{_≡_, refl, sym, ap, ap₂, _∙_}
+use mathlib.Core.Path.{_≡_, sym, ap, ap₂, _∙_}
 use mathlib.Core.List.{List}
 use Prim.Native.Nat.{ℕ, _≤_, _<_, _+_, _-_, _*_, _/_, _^_}
 use native.Mathlib.Omega.{arith}
 use borrow.Author.Tests.{eq-eqb, ne-eqb, lt-ltb, le-ltb, lt-leb, le-leb}
 use lib.Bits.{bitAnd, and-mask}
 use Rattle.octets.specs.Octets.{octet, two}
-use Rattle.der.specs.Tag.{class, constructed, number, tagOf, context, universalText, universal}
+use Rattle.der.specs.Tag.{class, constructed, number, split, tagOf, context, universalText, universal}
 use Rattle.der.specs.Header.{longLength, lengthAt, sized, headerAt, tagged, insideAt, anyTag}
+use Rattle.der.specs.declared.Tag.{Tag}
 use Rattle.der.specs.declared.Length.{Length}
 use Rattle.der.specs.declared.Header.{Header}
 use Rattle.der.specs.declared.Inside.{Inside}
 use Rattle.der.proofs.Laws.{number-small, length-within}
 
 -- ---- tags
-pub class-is : (o : ℕ) → o / 2 ^ 6 ≡ class o
-unfolding class
-class-is o = refl
+pub split-is : (o : ℕ) → record { class = o / 2 ^ 6; constructed = bitAnd (o / 2 ^ 5) 1; number = bitAnd o 31 } ≡ split o
+unfolding class constructed number
+split-is o = rw (and-mask (o / 2 ^ 5) 1, and-mask o 5)
 
-pub constructed-is : (o : ℕ) → bitAnd (o / 2 ^ 5) 1 ≡ constructed o
-unfolding constructed
-constructed-is o = and-mask (o / 2 ^ 5) 1
+module _ (o : ℕ) (g : Tag) (read : g ≡ split o) where
+  class-of : g .class ≡ class o
+  class-of = ap (λ (x : Tag). x .class) read
 
-pub number-is : (o : ℕ) → bitAnd o 31 ≡ number o
-unfolding number
-number-is o = and-mask o 5
+  number-of : g .number ≡ number o
+  number-of = ap (λ (x : Tag). x .number) read
 
-module _ (o k : ℕ) (read : k ≡ class o) where
-  pub tag-universal : (n : ℕ) → k ≡ 0 → n ≡ number o → n ≡ tagOf o
+  pub tag-universal : g .class ≡ 0 → g .number ≡ tagOf o
   unfolding tagOf
-  tag-universal n h e = rw (eq-eqb (class o) 0 (sym read ∙ h)) e
+  tag-universal h = rw (eq-eqb (class o) 0 (sym class-of ∙ h)) number-of
 
-  module _ (h : k ≡ 0 → ⊥) where
-    pub tag-context : (k' n : ℕ) → k' ≡ class o → k' ≡ 2 → n ≡ context (number o) → n ≡ tagOf o
+  pub tag-fits : 32 + g .number < 256
+  tag-fits = let e = number-of in omega (arith, number-small o)
+
+  module _ (h : g .class ≡ 0 → ⊥) where
+    pub tag-context : g .class ≡ 2 → 32 + g .number ≡ tagOf o
     unfolding tagOf
-    tag-context k' n read' g e = rw (ne-eqb (class o) 0 (λ z. h (read ∙ z)), eq-eqb (class o) 2 (sym read' ∙ g)) e
+    tag-context e = rw (ne-eqb (class o) 0 (λ z. h (class-of ∙ z)), eq-eqb (class o) 2 (sym class-of ∙ e)) (ap context number-of)
 
-    pub tag-other : (k' : ℕ) → k' ≡ class o → (k' ≡ 2 → ⊥) → 31 ≡ tagOf o
+    pub tag-other : (g .class ≡ 2 → ⊥) → 31 ≡ tagOf o
     unfolding tagOf
-    tag-other k' read' g = rw (ne-eqb (class o) 0 (λ z. h (read ∙ z)), ne-eqb (class o) 2 (λ z. g (read' ∙ z)))
-
-pub context-is : (o n : ℕ) → n ≡ number o → 32 + n ≡ context (number o)
-context-is o n e = ap (λ (x : ℕ). 32 + x) e
-
-pub tag-fits : (o n : ℕ) → n ≡ number o → 32 + n < 256
-tag-fits o n e = omega (arith, number-small o)
+    tag-other e = rw (ne-eqb (class o) 0 (λ z. h (class-of ∙ z)), ne-eqb (class o) 2 (λ z. e (class-of ∙ z)))
 
 pub universal-text : (k r : ℕ) → (k ≡ 1 → ⊥) → (k ≡ 2 → ⊥) → (k ≡ 3 → ⊥) → (k ≡ 4 → ⊥) → (k ≡ 5 → ⊥) → (k ≡ 6 → ⊥) → (k ≡ 7 → ⊥) → r ≡ universalText k → r ≡ universal k
 unfolding universal
@@ -96,15 +92,15 @@ pub header-none : (s : List ℕ) (at end : ℕ) → end ≤ at → Header.Misfit
 unfolding headerAt
 header-none s at end h = rw (le-leb end at h)
 
-module _ (s : List ℕ) (at end o k : ℕ) (h : at < end) (read : o ≡ octet s at) (told : k ≡ number o) where
-  pub header-31 : k ≡ 31 → Header.Misfit ≡ headerAt s at end
+module _ (s : List ℕ) (at end o : ℕ) (g : Tag) (h : at < end) (read : o ≡ octet s at) (told : g ≡ split o) where
+  pub header-31 : g .number ≡ 31 → Header.Misfit ≡ headerAt s at end
   unfolding headerAt
-  header-31 e = rw (lt-leb end at h, ← read, eq-eqb _ _ (sym told ∙ e))
+  header-31 e = rw (lt-leb end at h, ← read, eq-eqb _ _ (sym (number-of o g told) ∙ e))
 
-  module _ (n : k ≡ 31 → ⊥) (l : Length) (found : l ≡ lengthAt s (at + 1) end) where
+  module _ (n : g .number ≡ 31 → ⊥) (l : Length) (found : l ≡ lengthAt s (at + 1) end) where
     sized-is : headerAt s at end ≡ sized o end l
     unfolding headerAt
-    sized-is = rw (lt-leb end at h, ← read, ne-eqb _ _ (λ z. n (told ∙ z)), ← found)
+    sized-is = rw (lt-leb end at h, ← read, ne-eqb _ _ (λ z. n (number-of o g told ∙ z)), ← found)
 
     pub header-unusable : l ≡ Length.Unusable → Header.Misfit ≡ headerAt s at end
     header-unusable e = sym (sized-is ∙ ap (sized o end) e)

@@ -13,7 +13,6 @@ use Rattle.octets.specs.Pick.{pick}
 use Rattle.octets.specs.Octets.{octet, part, every}
 use Rattle.octets.specs.Text.{isDigit, decimalFrom, decimal}
 use Rattle.octets.proofs.Laws.{octet-past, rest-cons, rest-none}
-use Rattle.der.specs.Time as time
 use Rattle.der.specs.Time.{digitsAt, isLeap, hasThirty, daysIn, realDate, realTime, fractionDigits, fractionFormed, tailFormed, realMoment, legalTime, scaled, billionths, timeOf}
 
 -- ---- digits: i of them stand for v

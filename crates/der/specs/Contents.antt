@@ -9,7 +9,8 @@ use Rattle.octets.specs.Pick.{pick, both, either, no, consed}
 use Rattle.octets.specs.Octets.{octet, same, every}
 use Rattle.octets.specs.Text.{within, isAlnum}
 use Rattle.octets.specs.Utf8.{utf8}
-use Rattle.der.specs.Kind.{boolean, integer, enumerated, null, objectIdentifier, octetString, bitString, utf8String, printableString, ia5String, generalizedTime}
+use Rattle.der.specs.Kind.{boolean, integer, enumerated, null, objectIdentifier, octetString, bitString}
+use Rattle.der.specs.Kind.{utf8String, printableString, ia5String, generalizedTime}
 use Rattle.der.specs.Time.{legalTime}
 
 -- BOOLEAN 00 or FF

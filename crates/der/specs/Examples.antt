@@ -44,7 +44,8 @@ unfolding derComputes headerOf
 headers = refl
 
 -- a header inside an end that it passes, and one with another tag
-bodies : insideAt 2 (hex "020101") 0 3 ∷ insideAt 2 (hex "020101") 0 2 ∷ insideAt 10 (hex "020101") 0 3 ∷ [] ≡ Inside.Of 2 1 ∷ Inside.Misfit ∷ Inside.Misfit ∷ []
+bodies : insideAt 2 (hex "020101") 0 3 ∷ insideAt 2 (hex "020101") 0 2 ∷ insideAt 10 (hex "020101") 0 3 ∷ []
+    ≡ Inside.Of 2 1 ∷ Inside.Misfit ∷ Inside.Misfit ∷ []
 unfolding derComputes
 bodies = refl
 
@@ -63,7 +64,8 @@ unfolding derComputes
 nulls = refl
 
 -- 80 at the start of a subidentifier, first or later; 4294967295 and 4294967296; an end inside one; none; 32 and 33 of them
-oids : map (legal kind.objectIdentifier) (hex "550D0E" ∷ hex "8055" ∷ hex "558001" ∷ hex "2A8FFFFFFF7F" ∷ hex "2A9080808000" ∷ hex "2A86" ∷ [] ∷ replicate 32 1 ∷ replicate 33 1 ∷ [])
+oids : map (legal kind.objectIdentifier) (hex "550D0E" ∷ hex "8055" ∷ hex "558001" ∷ hex "2A8FFFFFFF7F" ∷ hex "2A9080808000" ∷ hex "2A86"
+    ∷ [] ∷ replicate 32 1 ∷ replicate 33 1 ∷ [])
     ≡ true ∷ false ∷ false ∷ true ∷ false ∷ false ∷ false ∷ true ∷ false ∷ []
 unfolding derComputes
 oids = refl
@@ -75,7 +77,8 @@ unfolding derComputes
 bit-strings = refl
 
 -- a surrogate; * and @ are not printable; 80 is not of IA5String
-strings : map (legal kind.utf8String) (hex "EDA080" ∷ hex "ED9FBF" ∷ [] ∷ []) ++ map (legal kind.printableString) (bytes "Aa0 '()+,-./:=?" ∷ bytes "a*" ∷ bytes "a@" ∷ bytes "a;" ∷ [])
+strings : map (legal kind.utf8String) (hex "EDA080" ∷ hex "ED9FBF" ∷ [] ∷ [])
+    ++ map (legal kind.printableString) (bytes "Aa0 '()+,-./:=?" ∷ bytes "a*" ∷ bytes "a@" ∷ bytes "a;" ∷ [])
     ++ map (legal kind.ia5String) (hex "007F" ∷ hex "80" ∷ [])
     ≡ false ∷ true ∷ true ∷ true ∷ false ∷ false ∷ false ∷ true ∷ false ∷ []
 unfolding derComputes
@@ -85,28 +88,34 @@ isTime : String → Bool
 isTime s = legal kind.generalizedTime (bytes s)
 
 -- 29 February of 1900, 2000, 2023, 2024; 31 April; month 13 and 00; day 00; hour 24; minute 60; second 60 and 61
-dates : map isTime ("19000229000000Z" ∷ "20000229000000Z" ∷ "20230229000000Z" ∷ "20240229000000Z" ∷ "20240431000000Z" ∷ "20241301000000Z" ∷ "20240001000000Z" ∷ "20240100000000Z"
+dates : map isTime ("19000229000000Z" ∷ "20000229000000Z" ∷ "20230229000000Z" ∷ "20240229000000Z" ∷ "20240431000000Z"
+    ∷ "20241301000000Z" ∷ "20240001000000Z" ∷ "20240100000000Z"
     ∷ "20240101240000Z" ∷ "20240101006000Z" ∷ "20161231235960Z" ∷ "20161231235961Z" ∷ "00000101000000Z" ∷ [])
     ≡ false ∷ true ∷ false ∷ true ∷ false ∷ false ∷ false ∷ false ∷ false ∷ false ∷ true ∷ false ∷ true ∷ []
 unfolding derComputes isTime
 dates = refl
 
 -- fractions: one digit, nine, ten, ending in 0, none, with second 60; no Z; an offset; a comma
-fractions : map isTime ("20240101000000.5Z" ∷ "20240101000000.123456789Z" ∷ "20240101000000.1234567891Z" ∷ "20240101000000.50Z" ∷ "20240101000000.Z" ∷ "20161231235960.5Z"
+fractions : map isTime ("20240101000000.5Z" ∷ "20240101000000.123456789Z" ∷ "20240101000000.1234567891Z" ∷ "20240101000000.50Z"
+    ∷ "20240101000000.Z" ∷ "20161231235960.5Z"
     ∷ "20240101000000" ∷ "20240101000000+0000" ∷ "20240101000000,5Z" ∷ "202401010000Z" ∷ [])
     ≡ true ∷ true ∷ false ∷ false ∷ false ∷ true ∷ false ∷ false ∷ false ∷ false ∷ []
 unfolding derComputes isTime
 fractions = refl
 
 -- .05 is earlier than .5, and a time without a fraction than both
-times : earlier (timeOf (bytes "20240101000000.05Z")) (timeOf (bytes "20240101000000.5Z")) ∷ earlier (timeOf (bytes "20240101000000Z")) (timeOf (bytes "20240101000000.05Z"))
-    ∷ earlier (timeOf (bytes "20240101000001Z")) (timeOf (bytes "20240101000000.9Z")) ∷ sameTime (timeOf (bytes "20240101000000Z")) (timeOf (bytes "20240101000000Z")) ∷ [] ≡ true ∷ true ∷ false ∷ true ∷ []
+times : earlier (timeOf (bytes "20240101000000.05Z")) (timeOf (bytes "20240101000000.5Z"))
+    ∷ earlier (timeOf (bytes "20240101000000Z")) (timeOf (bytes "20240101000000.05Z"))
+    ∷ earlier (timeOf (bytes "20240101000001Z")) (timeOf (bytes "20240101000000.9Z"))
+    ∷ sameTime (timeOf (bytes "20240101000000Z")) (timeOf (bytes "20240101000000Z")) ∷ []
+    ≡ true ∷ true ∷ false ∷ true ∷ []
 unfolding derComputes
 times = refl
 
 -- 128, -128, -1, the least and the greatest of eight octets
 wholes : map integerOf (hex "0080" ∷ hex "80" ∷ hex "FF" ∷ hex "8000000000000000" ∷ hex "7FFFFFFFFFFFFFFF" ∷ [])
-    ≡ plus 128 ∷ record { minus = true; size = 128 } ∷ record { minus = true; size = 1 } ∷ record { minus = true; size = 9223372036854775808 } ∷ plus 9223372036854775807 ∷ []
+    ≡ plus 128 ∷ record { minus = true; size = 128 } ∷ record { minus = true; size = 1 }
+    ∷ record { minus = true; size = 9223372036854775808 } ∷ plus 9223372036854775807 ∷ []
 unfolding derComputes
 wholes = refl
 
@@ -115,7 +124,8 @@ arcs : map arcsOf (hex "550D0E" ∷ hex "8837" ∷ hex "27" ∷ hex "28" ∷ [])
 unfolding derComputes
 arcs = refl
 
-dotted : map isDotted (bytes "2.5.13.14" ∷ bytes "0.39" ∷ bytes "1.40" ∷ bytes "2.40" ∷ bytes "3.1" ∷ bytes "2" ∷ bytes "2.05" ∷ bytes "2..5" ∷ bytes "2.5." ∷ bytes "1.2.18446744073709551616" ∷ bytes "cn" ∷ [])
+dotted : map isDotted (bytes "2.5.13.14" ∷ bytes "0.39" ∷ bytes "1.40" ∷ bytes "2.40" ∷ bytes "3.1" ∷ bytes "2"
+    ∷ bytes "2.05" ∷ bytes "2..5" ∷ bytes "2.5." ∷ bytes "1.2.18446744073709551616" ∷ bytes "cn" ∷ [])
     ≡ true ∷ true ∷ false ∷ true ∷ false ∷ false ∷ false ∷ false ∷ false ∷ true ∷ false ∷ []
 unfolding derComputes
 dotted = refl

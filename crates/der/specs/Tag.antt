@@ -2,7 +2,9 @@
 use Prim.Native.Nat.{ℕ, _+_, _/_, _%_}
 use lib.Dec.{eqb}
 use Rattle.octets.specs.Pick.{pick}
-use Rattle.der.specs.Kind.{boolean, integer, enumerated, null, objectIdentifier, octetString, bitString, utf8String, printableString, ia5String, generalizedTime, setOf, isConstructed}
+use Rattle.der.specs.Kind.{boolean, integer, enumerated, null, objectIdentifier, octetString, bitString, setOf, isConstructed}
+use Rattle.der.specs.Kind.{utf8String, printableString, ia5String, generalizedTime}
+use Rattle.der.specs.declared.Tag.{Tag}
 
 -- 0 universal, 1 application, 2 context, 3 private
 unfoldable pub class : ℕ → ℕ
@@ -13,6 +15,10 @@ constructed o = o / 32 % 2
 
 unfoldable pub number : ℕ → ℕ
 number o = o % 32
+
+-- the three parts
+abbrev pub split : ℕ → Tag
+split o = record { class = class o; constructed = constructed o; number = number o }
 
 -- A tag by class and number, as types are told apart: n for universal n, 32 + n for context n, and for any other 31, which is not used
 abbrev pub context : ℕ → ℕ

@@ -63,7 +63,6 @@ unfoldable pub billionths : List ℕ → ℕ
 billionths f = scaled 9 0 f
 
 -- what a time says (`Time`): the 14 digits as one number, which orders dates and times, and the fraction
-
 unfoldable pub timeOf : List ℕ → Time
 timeOf c = record { stamp = digitsAt c 0 14; fraction = billionths (fractionDigits c) }
 

@@ -3,7 +3,7 @@ ghost use mathlib.Core.Path.{_≡_};
 ghost use Prim.Native.Nat.{_≤_, _<_, _+_, _-_, _%_, _^_};
 ghost use lib.Dec.{eqb};
 ghost use lib.ListN.{length, drop, getD};
-ghost use Rattle.octets.specs.Octets.{octet, two, part, baseFrom};
+ghost use Rattle.octets.specs.Octets.{octet, two, between, baseFrom};
 ghost use Rattle.der.specs.Tag as tag;
 ghost use Rattle.der.specs.Header as header;
 ghost use Rattle.der.specs.Contents as contents;
@@ -11,6 +11,13 @@ ghost use Rattle.der.specs.Time as time;
 ghost use Rattle.der.specs.Meaning as meaning;
 ghost use Rattle.der.specs.Order.{notAbove};
 ghost use Rattle.der.specs.Answers.{toldInteger, toldSub, Forward};
+
+// A tag octet in parts: its class, whether it is constructed (1 or 0), its number.
+struct Tag {
+    class: u8,
+    constructed: u8,
+    number: u8,
+}
 
 // A length: its value and the place after it.
 pub enum Length {
@@ -50,40 +57,27 @@ pub struct Time {
 }
 
 // ---- tags
-// The tag octet's parts: two top bits, the next, five.
-pub fn class(o: u8) -> u8
-    ensures { λ r. ⌜ r ≡ tag.class o ⌝ }
+// The parts of a tag octet: two top bits class, the next constructed, five the tag number.
+fn split(o: u8) -> Tag
+    ensures { λ r. ⌜ r ≡ tag.split o ⌝ }
 {
-    o >> 6
-}
-
-pub fn constructed(o: u8) -> u8
-    ensures { λ r. ⌜ r ≡ tag.constructed o ⌝ }
-{
-    (o >> 5) & 1
-}
-
-pub fn number(o: u8) -> u8
-    ensures { λ r. ⌜ r ≡ tag.number o ⌝ }
-{
-    o & 31
-}
-
-fn context_of(o: u8) -> u8
-    ensures { λ r. ⌜ r ≡ tag.context (tag.number o) ⌝ }
-{
-    32 + number(o)
+    Tag {
+        class: o >> 6,
+        constructed: (o >> 5) & 1,
+        number: o & 31,
+    }
 }
 
 // A tag by class and number, as one number.
 pub fn tag_of(o: u8) -> u8
     ensures { λ r. ⌜ r ≡ tag.tagOf o ⌝ }
 {
-    if class(o) == 0 {
-        return number(o);
+    let tag = split(o);
+    if tag.class == 0 {
+        return tag.number;
     }
-    if class(o) == 2 {
-        return context_of(o);
+    if tag.class == 2 {
+        return 32 + tag.number;
     }
     31
 }
@@ -138,7 +132,7 @@ pub fn universal(kind: u8) -> u8
 }
 
 // The constructed bit of a kind's tag octet.
-pub fn form(kind: u8) -> u8
+fn form(kind: u8) -> u8
     ensures { λ r. ⌜ r ≡ tag.form kind ⌝ }
 {
     if kind == 12 {
@@ -186,7 +180,7 @@ fn long_length(n: usize, least: usize, next: usize, end: usize) -> Length
 }
 
 // The length at a place, whose octets lie before end.
-pub fn read_length(s: &[u8], at: usize, end: usize) -> Length
+fn read_length(s: &[u8], at: usize, end: usize) -> Length
     ensures { λ r. ⌜ r ≡ header.lengthAt (now (s .entry)) at end ⌝ }
 {
     if end <= at {
@@ -237,7 +231,8 @@ pub fn read_header(s: &[u8], at: usize, end: usize) -> Header
         return Header::Misfit;
     }
     let first = octets::octet(s, at);
-    if number(first) == 31 {
+    let tag = split(first);
+    if tag.number == 31 {
         return Header::Misfit;
     }
     let Length::Of(n, next) = read_length(s, at + 1, end) else {
@@ -273,7 +268,7 @@ pub fn open_any(s: &[u8], at: usize, end: usize) -> Inside
 }
 
 // ---- contents of the basic kinds
-pub fn legal_boolean(c: &[u8]) -> bool
+fn legal_boolean(c: &[u8]) -> bool
     ensures { λ r. ⌜ r ≡ contents.legalBoolean (now (c .entry)) ⌝ }
 {
     if c.len() != 1 {
@@ -297,7 +292,7 @@ fn shortest(a: u8, b: u8) -> bool
     true
 }
 
-pub fn legal_integer(c: &[u8]) -> bool
+fn legal_integer(c: &[u8]) -> bool
     ensures { λ r. ⌜ r ≡ contents.legalInteger (now (c .entry)) ⌝ }
 {
     if c.len() < 1 {
@@ -312,7 +307,7 @@ pub fn legal_integer(c: &[u8]) -> bool
     shortest(c[0], c[1])
 }
 
-pub fn legal_null(c: &[u8]) -> bool
+fn legal_null(c: &[u8]) -> bool
     ensures { λ r. ⌜ r ≡ contents.legalNull (now (c .entry)) ⌝ }
 {
     c.len() == 0
@@ -345,7 +340,7 @@ pub fn read_sub(c: &[u8], at: usize) -> Sub
     Sub::Broken
 }
 
-pub fn legal_oid(c: &[u8]) -> bool
+fn legal_oid(c: &[u8]) -> bool
     ensures { λ r. ⌜ r ≡ contents.legalOid (now (c .entry)) ⌝ }
 {
     let mut i = 0;
@@ -378,7 +373,7 @@ fn unused_clear(u: u8, last: u8) -> bool
     last % (1u8 << u) == 0
 }
 
-pub fn legal_bits(c: &[u8]) -> bool
+fn legal_bits(c: &[u8]) -> bool
     ensures { λ r. ⌜ r ≡ contents.legalBits (now (c .entry)) ⌝ }
 {
     if c.len() < 1 {
@@ -430,7 +425,7 @@ fn is_printable(b: u8) -> bool
     is_mark(b)
 }
 
-pub fn legal_printable(c: &[u8]) -> bool
+fn legal_printable(c: &[u8]) -> bool
     ensures { λ r. ⌜ r ≡ contents.legalPrintable (now (c .entry)) ⌝ }
 {
     let mut i = 0;
@@ -443,7 +438,7 @@ pub fn legal_printable(c: &[u8]) -> bool
     true
 }
 
-pub fn legal_ia5(c: &[u8]) -> bool
+fn legal_ia5(c: &[u8]) -> bool
     ensures { λ r. ⌜ r ≡ contents.legalIa5 (now (c .entry)) ⌝ }
 {
     let mut i = 0;
@@ -704,12 +699,9 @@ fn legal_text(kind: u8, c: &[u8]) -> bool
 
 // The same of the octets from start up to end.
 pub fn legal(kind: u8, s: &[u8], start: usize, end: usize) -> bool
-    ensures { λ r. ⌜ r ≡ contents.legal kind (part (now (s .entry)) start (end - start)) ⌝ }
+    ensures { λ r. ⌜ r ≡ contents.legal kind (between (now (s .entry)) start end) ⌝ }
 {
-    if end <= start {
-        return legal_contents(kind, octets::part(s, start, 0));
-    }
-    legal_contents(kind, octets::part(s, start, end - start))
+    legal_contents(kind, octets::between(s, start, end))
 }
 
 // ---- what contents mean

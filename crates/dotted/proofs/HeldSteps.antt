@@ -14,6 +14,7 @@ use Rattle.octets.specs.Text.{decimalFrom}
 use Rattle.octets.specs.Answers.{clip}
 use Rattle.octets.specs.declared.Size.{Size}
 use Rattle.octets.proofs.TextLaws.{same-nil, same-shorter, same-longer, same-cons}
+use Rattle.octets.proofs.Laws.{never}
 use Rattle.der.specs.Contents.{subidentifiers}
 use Rattle.der.specs.Meaning.{arcsFrom, arcsOf}
 use Rattle.der.specs.Dotted.{dottedArcs}
@@ -135,11 +136,7 @@ over-matches c (HeldStep.Next n h) = go (restHeld c h)
     go (some l) = sym (same-longer n l)
 
 matches-cons : (n k : ℕ) (o : Option (List ℕ)) (l : List ℕ) → matches (consed n o) (k ∷ l) ≡ both (eqb n k) (matches o l)
-matches-cons n k none l = never (eqb n k)
-  where
-    never : (x : Bool) → false ≡ both x false
-    never true = refl
-    never false = refl
+matches-cons n k none l = sym (never (eqb n k))
 matches-cons n k (some s) l = same-cons n k s l
 
 module _ (t c : List ℕ) (a : Dots) (h : Held) (step : HeldStep) (m : Bool)

@@ -11,6 +11,7 @@ use Rattle.octets.specs.Pick.{pick, both, either}
 use Rattle.octets.specs.Text.{decimalFrom, pieces}
 use Rattle.octets.specs.Answers.{clip}
 use Rattle.octets.specs.declared.Size.{Size}
+use Rattle.octets.proofs.Laws.{never}
 use Rattle.der.specs.Dotted.{everyNumber, rooted, isDotted}
 use Rattle.der.proofs.DottedLaws.{numbers-nil, numbers-cons, dotted-pieces}
 use Rattle.dotted.specs.Arcs.{arcAt, restPieces, areRoots, underRoot, dottedUnder}
@@ -97,10 +98,6 @@ module _ (t : List ℕ) (i : ℕ) (arc : Arc) (read : arc ≡ arcAt t i) where
     under-bad h = sym (under a ∙ rw (not-true (arc .formed) h))
 
     module _ (h : not (arc .formed) ≡ false) (u : Bool) (told : u ≡ areRoots a (arc .size)) where
-      never : (x : Bool) → both x false ≡ false
-      never true = refl
-      never false = refl
-
       always : (x : Bool) → both x true ≡ x
       always true = refl
       always false = refl

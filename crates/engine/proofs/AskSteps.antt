@@ -25,6 +25,7 @@ use Rattle.filter.specs.Filter.{Filter}
 use Rattle.filter.specs.Parse.{filterFits, filterAt, parse}
 use Rattle.filter.specs.Paper.{filterLimits}
 use Rattle.filter.specs.Answers as filter
+use Rattle.filter.specs.Paper.{filterLimits}
 use Rattle.filter.specs.declared.Filter as declared
 use Rattle.filter.specs.declared.Reading.{Reading}
 use Rattle.filter.proofs.Laws.{parse-read, counted-some, counted-none}

@@ -22,7 +22,7 @@ use Rattle.value.specs.Paper.{valueLimits}
 use Rattle.value.specs.Decode.{storedValue}
 use Rattle.value.specs.Check.{valueFits}
 use Rattle.value.proofs.EntrySteps.{not-admitted, is-admitted, rows-are}
-use Rattle.reference.specs.Reference.{Id, readReference}
+use Rattle.reference.specs.Reference.{Id, readReference, givenIds}
 use Rattle.reference.specs.Allowed.{allowed}
 use Rattle.reference.specs.Work.{targetTold, leadsTo}
 use Rattle.reference.specs.declared.Target.{Target}
@@ -32,7 +32,7 @@ use Rattle.walk.specs.declared.State.{State}
 use Rattle.walk.specs.declared.Task.{Task}
 use Rattle.walk.proofs.State as state
 use Rattle.walk.proofs.ListLaws.{count-run, list-run}
-use Rattle.engine.specs.Listing.{Listing, refusedList, lists, report, written, listed, walked, referenceFits, listingFits, givenIds, withIds, listingOf, listReport, listing}
+use Rattle.engine.specs.Listing.{Listing, refusedList, lists, report, written, listed, walked, referenceFits, listingFits, withIds, listingOf, listReport, listing}
 use Rattle.engine.specs.Paper.{limits}
 use Rattle.engine.specs.declared.Listed.{Listed}
 

@@ -11,7 +11,7 @@ use Rattle.table.specs.Types.{Ty, typeAt}
 use Rattle.table.specs.Admitted.{admitted}
 use Rattle.value.specs.Decode.{storedValue}
 use Rattle.value.specs.Check.{valueFits}
-use Rattle.reference.specs.Reference.{Id, readReference}
+use Rattle.reference.specs.Reference.{Id, givenIds}
 use Rattle.reference.specs.Allowed.{allowed}
 use Rattle.reference.specs.Numbers.{Component, threes}
 use Rattle.engine.specs.Limits.{Limits}
@@ -60,9 +60,6 @@ unfoldable pub listingFits : Limits → List ℕ → List ℕ → Bool → List 
 listingFits l t v given r = both (tableFits (l .table) t) (both (valueFits (l .value) v) (referenceFits l given r))
 
 -- "The listing may be given no reference; an empty one is refused 3."
-abbrev pub givenIds : Bool → List ℕ → Option (List Id)
-givenIds given r = pick given (readReference r) (some [])
-
 -- 3: "reference malformed or not allowed"; then 4: "value not as above", by the type of row 0
 unfoldable pub withIds : Ty → List ℕ → Bool → List ℕ → Option (List Id) → Listing
 withIds ty v defaults room none = refusedList 3 room

@@ -1,4 +1,5 @@
 // The answers of the engine: the listing, and the answer to a filter.
+use filter::Filter;
 use filter::Reading;
 use judge::Judged;
 use judge::Verdict;
@@ -15,7 +16,7 @@ ghost use Prim.Native.Nat.{_≤_, _<_, _+_, _/_};
 ghost use lib.ListN.{length};
 ghost use Rattle.octets.specs.Pick.{pick, isSome};
 ghost use Rattle.table.specs.Work.{Sound};
-ghost use Rattle.reference.specs.Reference.{readReference};
+ghost use Rattle.reference.specs.Reference.{readReference, givenIds};
 ghost use Rattle.reference.specs.Work.{leadsTo};
 ghost use Rattle.trail.specs.Trail.{trail};
 ghost use Rattle.walk.specs.Run.{idsOr};
@@ -24,7 +25,7 @@ ghost use Rattle.filter.specs.Paper.{filterLimits};
 ghost use Rattle.judge.specs.Assertion.{outcome};
 ghost use Rattle.judge.specs.Work.{NamesDiffer, Ready, judgedText};
 ghost use Rattle.engine.specs.Answer as answer;
-ghost use Rattle.engine.specs.Listing.{report, lists, walked, referenceFits, listingFits, givenIds, withIds, listingOf, listReport, listing};
+ghost use Rattle.engine.specs.Listing.{report, lists, walked, referenceFits, listingFits, withIds, listingOf, listReport, listing};
 ghost use Rattle.engine.specs.Paper.{limits};
 ghost use Rattle.rows.specs.Paper.{tableLimits};
 ghost use Rattle.table.specs.Rows.{rowType};
@@ -240,7 +241,7 @@ fn question_fits(table: &[u8], value: &[u8], filter: &[u8], budget: u64) -> bool
     if !Value::fits(value) {
         return false;
     }
-    if !filter::fits(filter) {
+    if !Filter::fits(filter) {
         return false;
     }
     budget <= Answer::MAX_BUDGET

@@ -6,12 +6,14 @@ use mathlib.Core.Option.{Option, none, some}
 use Prim.Native.Nat.{ℕ, _+_, _-_, _<_, _≤_}
 use native.Mathlib.Omega.{arith}
 use native.Mathlib.Nat.{sub-zero}
-use borrow.Author.Tests.{le-leb, lt-leb, leb-true, leb-false, ltb-true, ltb-false}
-use lib.Dec.{leb, ltb}
+use borrow.Author.Tests.{le-leb, lt-leb, leb-true, leb-false}
+use lib.Dec.{leb}
 use Rattle.octets.specs.Pick.{pick, both, bind}
+use Rattle.octets.specs.Octets.{larger}
+use Rattle.octets.proofs.TextLaws.{larger-least, larger-most}
 use Rattle.assertion.specs.Item.{Item}
 use Rattle.assertion.specs.Assertion.{Read, readTo}
-use Rattle.filter.specs.Filter.{Join, Filter, Filters, item, list, inverse, endFilters, next, larger, depth, depthIn, items, itemsIn}
+use Rattle.filter.specs.Filter.{Join, Filter, Filters, item, list, inverse, endFilters, next, depth, depthIn, items, itemsIn}
 use Rattle.filter.specs.Parse.{made, byTail, another, closed, noTail, Tail, afterFirst, tailAt}
 use Rattle.filter.specs.Answers.{fitting, bounded, boundedIn}
 use Rattle.filter.specs.declared.Span.{Span}
@@ -25,29 +27,6 @@ leb-same a b c d f g = go (leb a b) refl (leb c d) refl
     go true e false q = let h = f (leb-true a b e) in absurd (omega (arith, leb-false c d q))
     go false e true q = let h = g (leb-true c d q) in absurd (omega (arith, leb-false a b e))
     go false e false q = e ∙ sym q
-
--- ---- the larger of two
-module _ (a b : ℕ) where
-  first-le : a ≤ larger a b
-  first-le = go (ltb a b) refl
-    where
-      go : (t : Bool) → ltb a b ≡ t → a ≤ pick t b a
-      go true e = let h = ltb-true a b e in omega arith
-      go false e = omega arith
-
-  second-le : b ≤ larger a b
-  second-le = go (ltb a b) refl
-    where
-      go : (t : Bool) → ltb a b ≡ t → b ≤ pick t b a
-      go true e = omega arith
-      go false e = let h = ltb-false a b e in omega arith
-
-  larger-le : (d : ℕ) → a ≤ d → b ≤ d → larger a b ≤ d
-  larger-le d f g = go (ltb a b)
-    where
-      go : (t : Bool) → pick t b a ≤ d
-      go true = g
-      go false = f
 
 -- ---- what fits
 fit-is : (d room deep used after : ℕ) → deep ≤ d → used ≤ room → fitting d room deep used after ≡ Span.Of after (room - used)
@@ -81,7 +60,7 @@ module _ (d room deep used after : ℕ) where
 fit-both : (d room deep used more deeper end : ℕ) → deep ≤ d → used ≤ room
     → fitting d (room - used) deeper more end ≡ fitting d room (larger deep deeper) (used + more) end
 fit-both d room deep used more deeper end h g =
-    let a : leb deeper d ≡ leb (larger deep deeper) d = leb-same deeper d (larger deep deeper) d (λ x. larger-le deep deeper d h x) (λ x. let y = second-le deep deeper in omega arith) in
+    let a : leb deeper d ≡ leb (larger deep deeper) d = leb-same deeper d (larger deep deeper) d (λ x. larger-most deep deeper d h x) (λ x. let y = larger-least deep deeper .1 in omega arith) in
     let b : leb more (room - used) ≡ leb (used + more) room = leb-same more (room - used) (used + more) room (λ x. omega arith) (λ x. omega arith) in
     let e : room - used - more ≡ room - (used + more) = omega arith in
     rw (a, b, e)
@@ -140,9 +119,9 @@ module _ (d room : ℕ) where
       go none = refl
       go (some l) =
           bad-fits d room (depth (f .is)) (items (f .is)) (f .after) (larger (depth (f .is)) (depthIn (l .is))) (items (f .is) + itemsIn (l .is)) (l .after)
-          (first-le (depth (f .is)) (depthIn (l .is))) (omega arith) e
+          (larger-least (depth (f .is)) (depthIn (l .is)) .0) (omega arith) e
   bad-tail f lists (closed p) e =
-      bad-fits d room (depth (f .is)) (items (f .is)) (f .after) (larger (depth (f .is)) 0) (items (f .is) + 0) p (first-le (depth (f .is)) 0) (omega arith) e
+      bad-fits d room (depth (f .is)) (items (f .is)) (f .after) (larger (depth (f .is)) 0) (items (f .is) + 0) p (larger-least (depth (f .is)) 0 .0) (omega arith) e
   bad-tail f lists noTail e = refl
 
   pub bad-first : (s : List ℕ) (lists : ℕ → Option (Read Filters)) (x : Option (Read Filter)) → Span.Bad ≡ bounded d room x → Span.Bad ≡ boundedIn d room (bind x (afterFirst s lists))
@@ -159,7 +138,7 @@ module _ (d room : ℕ) where
     pub bounded-last : (p : ℕ) → Span.Of p (room - items f) ≡ boundedIn d room (readTo (next f endFilters) p)
     unfolding boundedIn depth items
     bounded-last p =
-        let a : larger (depth f) 0 ≤ d = larger-le (depth f) 0 d h (omega arith) in
+        let a : larger (depth f) 0 ≤ d = larger-most (depth f) 0 d h (omega arith) in
         let b : items f + 0 ≤ room = omega arith in
         let e : room - items f ≡ room - (items f + 0) = omega arith in
         ap (Span.Of p) e ∙ sym (fit-is d room (larger (depth f) 0) (items f + 0) p a b)

@@ -12,15 +12,14 @@ use lib.ListN.{length}
 use Rattle.octets.specs.Pick.{pick, both, bind}
 use Rattle.octets.specs.Utf8.{utf8}
 use Rattle.octets.proofs.Laws.{both-true}
-use Rattle.assertion.specs.Item.{Item}
-use Rattle.assertion.specs.Assertion.{Read, readTo, assertionAt}
+use Rattle.assertion.specs.Assertion.{Read, readTo}
 use Rattle.assertion.proofs.Laws.{some-is, none-not, if-some, bind-some}
 use Rattle.assertion.proofs.Progress.{Further}
 use Rattle.filter.specs.Limits.{Limits}
-use Rattle.filter.specs.Filter.{Join, Filter, Filters, item, list, inverse, endFilters, next, depth, items}
-use Rattle.filter.specs.Parse.{Head, assertion, emptyList, openList, negation, noHead, headAt, Tail, another, closed, noTail, tailAt, made, byHead, byTail, afterFirst, filterFrom, filtersFrom, filterAt, filtersAt, ifWhole, withinLimits, whole, parse, parseWithin}
+use Rattle.filter.specs.Filter.{Filter, Filters, endFilters, next, depth, items}
+use Rattle.filter.specs.Parse.{Head, headAt, Tail, another, closed, noTail, tailAt, made, byHead, byTail, afterFirst, filterFrom, filtersFrom, filterAt, filtersAt, ifWhole, withinLimits, whole, parse, parseWithin}
 use Rattle.filter.specs.Answers.{counted}
-use Rattle.filter.proofs.Progress.{read-on, from-on, list-on, head-on, same-head, same-first, same-filter, same-filters}
+use Rattle.filter.proofs.Progress.{read-on, from-on, head-on, same-head, same-first, same-filter, same-filters}
 
 -- ---- equations
 pub filter-step : (s : List ℕ) (at : ℕ) → filterAt s at ≡ byHead s (filtersAt s) (filterAt s) (headAt s at)
@@ -48,10 +47,6 @@ module _ (s : List ℕ) (at : ℕ) where
   unfolding filterAt
   filter-further r e = read-on (length s) at (filterAt s at) r (from-on (length s + 1) s at) e
 
-  pub filters-further : (r : Read Filters) → filtersAt s at ≡ some r → Further (length s) at (r .after)
-  unfolding filtersAt
-  filters-further r e = read-on (length s) at (filtersAt s at) r (list-on (length s + 2) s at) e
-
   -- ---- a filter by its head
   module _ {h : Head} (e : headAt s at ≡ h) where
     pub filter-by : filterAt s at ≡ byHead s (filtersAt s) (filterAt s) h
@@ -62,29 +57,8 @@ pub made-some : {A B : Type 0} (f : A → B) (x : Option (Read A)) (r : Read B) 
 made-some f none r e = absurd (none-not e)
 made-some f (some a) r e = (a, (refl, (ap (λ (q : Read _). q .is) (some-is e), ap (λ (q : Read _). q .after) (some-is e))))
 
-module _ (s : List ℕ) (at : ℕ) (r : Read Filter) (read : filterAt s at ≡ some r) where
-  pub read-item : (p : ℕ) → headAt s at ≡ assertion p → (i : Read Item) × ((assertionAt s p ≡ some i) × ((item (i .is) ≡ r .is) × (i .after ≡ r .after)))
-  read-item p e = made-some item (assertionAt s p) r (sym (filter-by s at e) ∙ read)
-
-  pub read-empty : (j : Join) (p : ℕ) → headAt s at ≡ emptyList j p → (list j endFilters ≡ r .is) × (p ≡ r .after)
-  read-empty j p e =
-      let z = some-is (sym (filter-by s at e) ∙ read) in
-      (ap (λ (q : Read Filter). q .is) z, ap (λ (q : Read Filter). q .after) z)
-
-  pub read-list : (j : Join) (p : ℕ) → headAt s at ≡ openList j p → (l : Read Filters) × ((filtersAt s p ≡ some l) × ((list j (l .is) ≡ r .is) × (l .after ≡ r .after)))
-  read-list j p e = made-some (list j) (filtersAt s p) r (sym (filter-by s at e) ∙ read)
-
-  pub read-negation : (p : ℕ) → headAt s at ≡ negation p → (f : Read Filter) × ((filterAt s p ≡ some f) × ((inverse (f .is) ≡ r .is) × (f .after ≡ r .after)))
-  read-negation p e = made-some inverse (filterAt s p) r (sym (filter-by s at e) ∙ read)
-
-  pub read-head : headAt s at ≡ noHead → ⊥
-  read-head e = none-not (sym (filter-by s at e) ∙ read)
-
 -- ---- the filters of a list by the first of them, and by what follows it
 module _ (s : List ℕ) (at : ℕ) where
-  pub filters-none : filterAt s at ≡ none → filtersAt s at ≡ none
-  filters-none e = filters-step s at ∙ ap (λ (x : Option (Read Filter)). bind x (afterFirst s (filtersAt s))) e
-
   pub filters-by : (f : Read Filter) {t : Tail} → filterAt s at ≡ some f → tailAt s (f .after) ≡ t → filtersAt s at ≡ byTail (filtersAt s) (f .is) t
   filters-by f e q = filters-step s at ∙ ap (λ (x : Option (Read Filter)). bind x (afterFirst s (filtersAt s))) e ∙ ap (byTail (filtersAt s) (f .is)) q
 

@@ -25,7 +25,8 @@ use Rattle.filter.specs.Filter as filter
 use Rattle.filter.specs.Filter.{Filter, item, depth, items}
 use Rattle.filter.specs.Parse.{inBraces, headAt, tailAt, made, byTail, filterAt, filtersAt, ifWhole, withinLimits, whole, parse, parseWithin, assertion, emptyList, openList, negation, noHead, another, closed, noTail}
 use Rattle.filter.specs.Limits.{Limits}
-use Rattle.filter.specs.Answers.{joinOf, headOf, tailOf, bounded, boundedIn, limits, counted}
+use Rattle.filter.specs.Paper.{filterLimits}
+use Rattle.filter.specs.Answers.{joinOf, headOf, tailOf, bounded, boundedIn, counted}
 use Rattle.filter.proofs.Progress.{TailOn, tail-on}
 use Rattle.filter.proofs.Laws.{filters-step, filter-further, filter-by, filters-by}
 use Rattle.filter.proofs.Bounds.{bounded-none, bounded-item, bounded-empty, bounded-list, bounded-negation, bounded-of, bad-first, bounded-more, bounded-last}
@@ -212,30 +213,30 @@ read-left d room x y end left e q =
     let z : left ≡ room - items (f .0 .is) = f .1 .1 .1 .1 in
     omega arith
 
-module _ (s : List ℕ) (most deepest many : ℕ) (u : Bool) (valid : u ≡ utf8 s) where
-  pub read-other : not u ≡ true → none ≡ counted (parse (limits most deepest many) s)
+module _ (s : List ℕ) (u : Bool) (valid : u ≡ utf8 s) where
+  pub read-other : not u ≡ true → none ≡ counted (parse filterLimits s)
   unfolding parseWithin whole
   read-other h = rw (sym valid ∙ not-true u h)
 
-  module _ (h : not u ≡ false) (x : Span) (e : x ≡ bounded deepest many (filterAt s 0)) where
-    parsed : parse (limits most deepest many) s ≡ ofWhole s (limits most deepest many) (filterAt s 0)
+  module _ (h : not u ≡ false) (x : Span) (e : x ≡ bounded (filterLimits .depth) (filterLimits .items) (filterAt s 0)) where
+    parsed : parse filterLimits s ≡ ofWhole s filterLimits (filterAt s 0)
     unfolding parseWithin whole
     parsed = rw (sym valid ∙ not-false u h)
 
-    pub read-bad : x ≡ Span.Bad → none ≡ counted (parse (limits most deepest many) s)
-    read-bad q = whole-bad s (limits most deepest many) (filterAt s 0) (sym q ∙ e) ∙ ap counted (sym parsed)
+    pub read-bad : x ≡ Span.Bad → none ≡ counted (parse filterLimits s)
+    read-bad q = whole-bad s filterLimits (filterAt s 0) (sym q ∙ e) ∙ ap counted (sym parsed)
 
     module _ (end left : ℕ) (q : x ≡ Span.Of end left) where
-      found : (f : Read Filter) × ((filterAt s 0 ≡ some f) × (((depth (f .is) ≤ deepest) × (items (f .is) ≤ many)) × ((end ≡ f .after) × (left ≡ many - items (f .is)))))
-      found = bounded-of deepest many (filterAt s 0) end left (sym q ∙ e)
+      found : (f : Read Filter) × ((filterAt s 0 ≡ some f) × (((depth (f .is) ≤ filterLimits .depth) × (items (f .is) ≤ filterLimits .items)) × ((end ≡ f .after) × (left ≡ filterLimits .items - items (f .is)))))
+      found = bounded-of (filterLimits .depth) (filterLimits .items) (filterAt s 0) end left (sym q ∙ e)
 
-      pub read-trailing : (end ≡ length s → ⊥) → none ≡ counted (parse (limits most deepest many) s)
+      pub read-trailing : (end ≡ length s → ⊥) → none ≡ counted (parse filterLimits s)
       read-trailing n = rw (parsed, found .1 .0, ← found .1 .1 .1 .0, ne-eqb end (length s) n)
 
-      pub read-whole : (k : ℕ) → end ≡ length s → k ≡ many - left → some k ≡ counted (parse (limits most deepest many) s)
+      pub read-whole : (k : ℕ) → end ≡ length s → k ≡ filterLimits .items - left → some k ≡ counted (parse filterLimits s)
       read-whole k w g =
           let f = found .0 .is in
-          let a : items f ≤ many = found .1 .1 .0 .1 in
-          let z : left ≡ many - items f = found .1 .1 .1 .1 in
+          let a : items f ≤ filterLimits .items = found .1 .1 .0 .1 in
+          let z : left ≡ filterLimits .items - items f = found .1 .1 .1 .1 in
           let c : k ≡ items f = omega arith in
-          rw (parsed, found .1 .0, ← found .1 .1 .1 .0, eq-eqb end (length s) w, le-leb (depth f) deepest (found .1 .1 .0 .0), le-leb (items f) many a, c)
+          rw (parsed, found .1 .0, ← found .1 .1 .1 .0, eq-eqb end (length s) w, le-leb (depth f) (filterLimits .depth) (found .1 .1 .0 .0), le-leb (items f) (filterLimits .items) a, c)

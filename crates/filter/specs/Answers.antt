@@ -4,7 +4,6 @@ use mathlib.Core.Option.{Option, none, some}
 use lib.Dec.{leb}
 use Rattle.octets.specs.Pick.{pick, both}
 use Rattle.assertion.specs.Assertion.{Read}
-use Rattle.filter.specs.Limits.{Limits}
 use Rattle.filter.specs.Filter as filter
 use Rattle.filter.specs.Filter.{Filter, Filters, depth, depthIn, items, itemsIn}
 use Rattle.filter.specs.Parse as parsing
@@ -44,9 +43,6 @@ boundedIn d room none = Span.Bad
 boundedIn d room (some r) = fitting d room (depthIn (r .is)) (itemsIn (r .is)) (r .after)
 
 -- ---- the whole text
-abbrev pub limits : ℕ → ℕ → ℕ → Limits
-limits most deepest many = record { bytes = most; depth = deepest; items = many }
-
 -- the items of a filter that was read, or a refusal
 abbrev pub report : Reading → Option ℕ
 report (Reading.Good f) = some (f .items)

@@ -1,8 +1,7 @@
 -- Filters. "`item:` before a braced assertion, `and:` and `or:` before a braced list, `not:` before a filter. So a list holds filters and a
 -- filter may hold a list."
 use Prim.Native.Nat.{ℕ, _+_}
-use lib.Dec.{ltb}
-use Rattle.octets.specs.Pick.{pick}
+use Rattle.octets.specs.Octets.{larger}
 pub use Rattle.assertion.specs.Item.{Item}
 
 pub data Join : Type 0 where
@@ -18,9 +17,6 @@ mutual
   pub data Filters : Type 0 where
     endFilters : Filters
     next : Filter → Filters → Filters
-
-abbrev pub larger : ℕ → ℕ → ℕ
-larger a b = pick (ltb a b) b a
 
 -- "an item or empty list is 1; `not` and a list add 1 to their deepest"
 unfoldable mutual

@@ -1,4 +1,4 @@
--- Document 01's numbers, for computed examples.
+-- Document 01's limits of a filter.
 use Rattle.filter.specs.Limits.{Limits}
 
 abbrev pub filterLimits : Limits

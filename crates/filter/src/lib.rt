@@ -7,6 +7,7 @@ ghost use Rattle.assertion.specs.Assertion.{assertionAt};
 ghost use Rattle.filter.specs.Filter.{item};
 ghost use Rattle.filter.specs.Parse as parsing;
 ghost use Rattle.filter.specs.Answers as answers;
+ghost use Rattle.filter.specs.Paper.{filterLimits};
 
 // A filter: how many items it has, and the limits of every filter.
 pub struct Filter {
@@ -14,16 +15,28 @@ pub struct Filter {
 }
 
 impl Filter {
+    pub const MIN_BYTES: usize = 1;
+
     pub const MAX_BYTES: usize = 2048;
 
     pub const MAX_DEPTH: usize = 16;
 
     pub const MAX_ITEMS: usize = 64;
 
-    pub fn of(items: usize) -> Self
+    fn of(items: usize) -> Self
         ensures { λ r. ⌜ r .items ≡ items ⌝ }
     {
         Self { items }
+    }
+
+    // Whether a text has a filter's size.
+    pub fn fits(text: &[u8]) -> bool
+        ensures { λ r. ⌜ r ≡ parsing.filterFits filterLimits (now (text .entry)) ⌝ }
+    {
+        if text.len() < Self::MIN_BYTES {
+            return false;
+        }
+        text.len() <= Self::MAX_BYTES
     }
 }
 
@@ -164,19 +177,9 @@ fn read_list(s: &[u8], at: usize, depth: usize, room: usize) -> Span
 }
 
 // ---- the whole text
-// Whether a text has a filter's size.
-pub fn fits(text: &[u8]) -> bool
-    ensures { λ r. do ⌜ r ≡ parsing.filterFits (answers.limits (← ⟦Filter::MAX_BYTES⟧ .entry) (← ⟦Filter::MAX_DEPTH⟧ .entry) (← ⟦Filter::MAX_ITEMS⟧ .entry)) (now (text .entry)) ⌝ }
-{
-    if text.len() < 1 {
-        return false;
-    }
-    text.len() <= Filter::MAX_BYTES
-}
-
 // The filter that a text is; malformed, too deep and too many items are one refusal.
 pub fn read(text: &[u8]) -> Reading
-    ensures { λ r. do ⌜ answers.report r ≡ answers.counted (parsing.parse (answers.limits (← ⟦Filter::MAX_BYTES⟧ .entry) (← ⟦Filter::MAX_DEPTH⟧ .entry) (← ⟦Filter::MAX_ITEMS⟧ .entry)) (now (text .entry))) ⌝ }
+    ensures { λ r. ⌜ answers.report r ≡ answers.counted (parsing.parse filterLimits (now (text .entry))) ⌝ }
 {
     if !octets::utf8(text) {
         return Reading::Bad;

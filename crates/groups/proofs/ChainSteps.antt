@@ -12,11 +12,11 @@ use lib.ListN.{length, set, length-set}
 use lib.Seq.{getD-set-same, getD-set-other}
 use lib.Dec.{ltb, leb, leb·suc-suc}
 use Rattle.octets.specs.Pick.{pick, both, all}
-use Rattle.octets.specs.Octets.{octet, two}
+use Rattle.octets.specs.Octets.{octet, two, larger}
 use Rattle.octets.proofs.Laws.{all-cong, all-is, all-not}
 use Rattle.rows.specs.Row.{kindAt, rowAt, isList, elementAt, membersAt}
 use Rattle.groups.specs.Clauses.{everyRow, pointsLater, membersStand, memberPlace, ofMember, chainFits}
-use Rattle.groups.specs.Work.{memberType, larger, memberDepth, tallest, deepest, Later}
+use Rattle.groups.specs.Work.{memberType, memberDepth, tallest, deepest, Later}
 use Rattle.groups.proofs.LaterSteps.{is-later}
 use Rattle.rows.specs.Paper.{tableLimits}
 

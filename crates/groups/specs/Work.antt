@@ -4,8 +4,8 @@ use mathlib.Core.Path.{_≡_}
 use mathlib.Core.Bool.{Bool, true}
 use lib.ListN.{length}
 use mathlib.Core.List.{List}
-use lib.Dec.{ltb}
 use Rattle.octets.specs.Pick.{pick, both}
+use Rattle.octets.specs.Octets.{larger}
 use Rattle.rows.specs.Row.{kindAt, elementAt, typeRowAt, isList, rowAt, membersAt}
 use Rattle.groups.specs.Clauses.{bodyFormed, pointsLater, memberPlace, namesDiffer, alternativesMandatory, noImplicitChoice, defaultLegal}
 
@@ -19,9 +19,6 @@ rowAgrees most name t s i = both (bodyFormed most name t s i) (both (pointsLater
 -- ---- from the last row to the first, by the array d that the pass fills: the longest chain from each row on
 abbrev pub memberType : List ℕ → List ℕ → ℕ → ℕ → ℕ
 memberType t s i j = typeRowAt t (memberPlace s i j)
-
-unfoldable pub larger : ℕ → ℕ → ℕ
-larger a b = pick (ltb a b) b a
 
 unfoldable pub memberDepth : List ℕ → List ℕ → List ℕ → ℕ → ℕ → ℕ
 memberDepth d t s i j = rowAt d (memberType t s i j)

@@ -4,6 +4,7 @@ ghost use mathlib.Core.Bool.{true};
 ghost use Prim.Native.Nat.{_≤_};
 ghost use lib.ListN.{length};
 ghost use Rattle.octets.specs.Pick.{all};
+ghost use Rattle.octets.specs.Octets.{larger};
 ghost use Rattle.rows.specs.Row as row;
 ghost use Rattle.groups.specs.Clauses as clause;
 ghost use Rattle.groups.specs.Work as work;
@@ -249,7 +250,7 @@ pub fn rows_agree(t: &[u8], s: &[usize]) -> bool
 
 // ---- chains: the longest chain from each row on, in an array that is filled from the last row to the first
 fn larger(a: usize, b: usize) -> usize
-    ensures { λ r. ⌜ r ≡ work.larger a b ⌝ }
+    ensures { λ r. ⌜ r ≡ larger a b ⌝ }
 {
     if a < b {
         return b;

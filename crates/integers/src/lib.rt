@@ -8,7 +8,7 @@ ghost use lib.Dec.{leb};
 ghost use Rattle.octets.specs.Pick.{both, no};
 ghost use Rattle.octets.specs.Octets.{same, bytes};
 ghost use Rattle.octets.specs.Text.{isNumber};
-ghost use Rattle.der.specs.Meaning.{plus, sameWhole, lessWhole, integerOf};
+ghost use Rattle.der.specs.Meaning.{sameWhole, lessWhole, integerOf};
 ghost use Rattle.integers.specs.Asserted as asserted;
 ghost use Rattle.integers.specs.Answers as answers;
 

@@ -1,19 +1,19 @@
 -- One assertion: one lemma for each return; its premises are the facts as the code has them.
-use mathlib.Core.Path.{_≡_, refl, sym, ap, _∙_, subst}
+use mathlib.Core.Path.{_≡_, refl, sym, ap, _∙_}
 use mathlib.Core.Bool.{Bool, true, false, not, false≢true}
 use mathlib.Core.Option.{Option, none, some}
-use mathlib.Core.List.{List, []}
+use mathlib.Core.List.{List}
 use Prim.Native.Nat.{ℕ, _≤_, _<_, _+_}
 use native.Mathlib.Omega.{arith}
 use borrow.Author.Tests.{not-true, not-false, le-leb}
 use lib.ListN.{length}
 use Rattle.octets.specs.Pick.{pick, both, bind, isSome}
-use Rattle.octets.proofs.Laws.{both-true}
+use Rattle.octets.specs.Octets.{between}
 use Rattle.table.specs.Types.{Ty, typeFrom}
 use Rattle.table.specs.Work.{Sound}
 use Rattle.value.specs.Decode.{storedValue}
-use Rattle.value.proofs.Views.{none-some, bind-view, pick-view}
-use Rattle.reference.specs.Reference.{Id, readReference}
+use Rattle.value.proofs.Views.{none-some}
+use Rattle.reference.specs.Reference.{Id, identifiers, givenIds}
 use Rattle.reference.specs.Allowed as allowed
 use Rattle.reference.specs.Allowed.{ofCount}
 use Rattle.reference.specs.Work.{targetTold, rowWithin, leadsTo}
@@ -23,23 +23,24 @@ use Rattle.rules.specs.Rule as rule
 use Rattle.rules.specs.Rule.{ruleOf}
 use Rattle.rules.specs.Suits.{suits}
 use Rattle.rules.specs.Asserted.{conforms}
+use Rattle.rules.specs.RuleFor.{ruleFor}
 use Rattle.rules.specs.Answers.{meant, toldRule, ruleSuitsRow}
 use Rattle.rules.specs.declared.Rule.{Rule}
 use Rattle.rules.specs.declared.Named.{Named}
-use Rattle.rules.proofs.Laws.{suits-row}
+use Rattle.rules.proofs.Laws.{suits-row, rule-for-view}
 use Rattle.filter.specs.Filter.{Item}
 use Rattle.octets.specs.Quoted.{undoubled, characters}
 use Rattle.reference.proofs.Laws.{undoubled-reference}
 use Rattle.rules.specs.Accepts.{accepts}
 use Rattle.trail.specs.Trail.{trail}
 use Rattle.walk.specs.Run.{acceptsRead, idsOr}
-use Rattle.assertion.specs.Places.{between, withinQuotes, itemOf}
+use Rattle.assertion.specs.Places.{withinQuotes, itemOf}
 use Rattle.assertion.specs.declared.Component.{Component}
 use Rattle.assertion.specs.declared.Parts.{Parts}
-use Rattle.judge.specs.Assertion.{identifiers, Asked, asked, testing, outcomeOf, outcome}
+use Rattle.judge.specs.Assertion.{Asked, asked, testing, outcomeOf, outcome}
 use Rattle.judge.proofs.Typed.{fine-type}
 use Rattle.judge.proofs.Fits.{trail-tests}
-use Rattle.judge.specs.Work.{Ready, opposed, placed, inverse, suitsAny, ifAsked, askedRule, itemGiven, itemAt, charged}
+use Rattle.judge.specs.Work.{Ready, opposed, placed, inverse, suitsAny, askedRule, itemGiven, itemAt, charged}
 use Rattle.judge.specs.declared.Judged.{Judged}
 use Rattle.judge.specs.declared.Judging.{Judging}
 use Rattle.judge.specs.declared.Verdict.{Verdict}
@@ -86,59 +87,66 @@ module _ (g o : Option allowed.Target) (told : o ≡ g) (r : rule.Rule) (text : 
 -- ---- the rule of an assertion
 module _ (g : Option allowed.Target) (name text : List ℕ) (w : Named) (e : toldRule w ≡ ruleOf name) where
   pub rule-unknown : w ≡ Named.Unknown → none ≡ askedRule g name text
-  unfolding askedRule
-  rule-unknown q = let z : ruleOf name ≡ none = sym e ∙ ap toldRule q in rw z
+  unfolding askedRule ruleFor
+  rule-unknown q = go g
+    where
+      unknown : ruleOf name ≡ none
+      unknown = sym e ∙ ap toldRule q
+
+      go : (o : Option allowed.Target) → none ≡ bind o (λ y. ruleFor y name text)
+      go none = refl
+      go (some y) = rw unknown
 
   module _ (r : Rule) (q : w ≡ Named.Known r) (b : Bool) (h : b ≡ both (suitsAny (meant r) g) (conforms (meant r) text)) where
     known : ruleOf name ≡ some (meant r)
     known = sym e ∙ ap toldRule q
 
     pub rule-unsuited : not b ≡ true → none ≡ askedRule g name text
-    unfolding askedRule
-    rule-unsuited n = rw (known, sym h ∙ not-true b n)
+    unfolding askedRule ruleFor
+    rule-unsuited n = go g h
+      where
+        go : (o : Option allowed.Target) → b ≡ both (suitsAny (meant r) o) (conforms (meant r) text) → none ≡ bind o (λ y. ruleFor y name text)
+        go none k = refl
+        go (some y) k = rw (known, sym k ∙ not-true b n)
 
     pub rule-asked : not b ≡ false → some (meant r) ≡ askedRule g name text
-    unfolding askedRule
-    rule-asked n = rw (known, sym h ∙ not-false b n)
+    unfolding askedRule ruleFor
+    rule-asked n = go g h
+      where
+        go : (o : Option allowed.Target) → b ≡ both (suitsAny (meant r) o) (conforms (meant r) text) → some (meant r) ≡ bind o (λ y. ruleFor y name text)
+        go none k = absurd (false≢true (sym k ∙ not-false b n))
+        go (some y) k = rw (known, sym k ∙ not-false b n)
 
 -- ---- the assertion
 -- what `asked` asks, by the rule that the code finds
 module _ (ty : Ty) (given : Bool) (r : List ℕ) (defaults : Bool) (name text : List ℕ) where
   abbrev read : Option (List Id)
-  read = pick given (readReference r) (some [])
+  read = givenIds given r
 
   abbrev i : Item
   i = itemGiven given r defaults name text
 
-  given-ids : (b : Bool) → identifiers (pick b (some r) none) ≡ pick b (readReference r) (some [])
+  given-ids : (b : Bool) → identifiers (pick b (some r) none) ≡ givenIds b r
   given-ids true = refl
   given-ids false = refl
 
-  byTarget : List Id → allowed.Target → Option Asked
-  byTarget is g = bind (ruleOf name) (λ x. pick (both (suits x g) (conforms x text)) (some (record { ids = is; rule = x })) none)
+  abbrev byTarget : List Id → allowed.Target → Option Asked
+  byTarget is g = bind (ruleFor g name text) (λ x. some (record { ids = is; rule = x }))
 
   asked-by : asked ty i ≡ bind read (λ is. bind (allowed.allowed is ty) (byTarget is))
-  unfolding asked byTarget
+  unfolding asked
   asked-by = ap (λ (o : Option (List Id)). bind o (λ is. bind (allowed.allowed is ty) (byTarget is))) (given-ids given)
 
   -- where no rule is found, nothing is asked
   asked-none : none ≡ askedRule (leadsTo given r ty) name text → asked ty i ≡ none
-  unfolding askedRule byTarget
+  unfolding askedRule
   asked-none e = asked-by ∙ go read e
     where
-      rule-none : (is : List Id) (g : allowed.Target) (o : Option rule.Rule) → none ≡ bind o (ifAsked (some g) text) → bind {B = Asked} o (λ x. pick (both (suits x g) (conforms x text)) (some (record { ids = is; rule = x })) none) ≡ none
-      rule-none is g none q = refl
-      rule-none is g (some x) q = test (both (suits x g) (conforms x text)) q
-        where
-          test : (b : Bool) → none ≡ pick b (some x) none → pick {A = Option Asked} b (some (record { ids = is; rule = x })) none ≡ none
-          test true q = none-some x q
-          test false q = refl
-
-      at : (is : List Id) (o : Option allowed.Target) → none ≡ bind (ruleOf name) (ifAsked o text) → bind o (byTarget is) ≡ none
+      at : (is : List Id) (o : Option allowed.Target) → none ≡ bind o (λ g. ruleFor g name text) → bind o (byTarget is) ≡ none
       at is none q = refl
-      at is (some g) q = rule-none is g (ruleOf name) q
+      at is (some g) q = rw (← q)
 
-      go : (o : Option (List Id)) → none ≡ bind (ruleOf name) (ifAsked (bind o (λ is. allowed.allowed is ty)) text) → bind o (λ is. bind (allowed.allowed is ty) (byTarget is)) ≡ none
+      go : (o : Option (List Id)) → none ≡ bind (bind o (λ is. allowed.allowed is ty)) (λ g. ruleFor g name text) → bind o (λ is. bind (allowed.allowed is ty) (byTarget is)) ≡ none
       go none q = refl
       go (some is) q = at is (allowed.allowed is ty) q
 
@@ -147,28 +155,15 @@ module _ (ty : Ty) (given : Bool) (r : List ℕ) (defaults : Bool) (name text : 
   Found x = (is : List Id) × (read ≡ some is) × (g : allowed.Target) × (allowed.allowed is ty ≡ some g) × (suits x g ≡ true) × (conforms x text ≡ true) × (asked ty i ≡ some (record { ids = is; rule = x }))
 
   asked-some : (x : rule.Rule) → some x ≡ askedRule (leadsTo given r ty) name text → Found x
-  unfolding askedRule byTarget
+  unfolding askedRule
   asked-some x e = go read refl (sym e)
     where
-      no-target : (o : Option rule.Rule) → bind o (ifAsked none text) ≡ some x → Found x
-      no-target none q = none-some x q
-      no-target (some y) q = none-some x q
+      at : (is : List Id) → read ≡ some is → (o : Option allowed.Target) → allowed.allowed is ty ≡ o → bind o (λ g. ruleFor g name text) ≡ some x → Found x
+      at is p none h q = none-some x q
+      at is p (some g) h q = let u = rule-for-view g name text x q in (is, p, g, h, u .0, u .1, asked-by ∙ rw (p, h, q))
 
-      ruled : (is : List Id) (g : allowed.Target) → read ≡ some is → allowed.allowed is ty ≡ some g → bind (ruleOf name) (ifAsked (some g) text) ≡ some x → Found x
-      ruled is g p h q =
-          let b = bind-view (ruleOf name) (ifAsked (some g) text) x q in
-          let c = pick-view (both (suits (b .0) g) (conforms (b .0) text)) (b .0) x (b .2) in
-          let z : ruleOf name ≡ some x = b .1 ∙ ap some (c .1) in
-          let y : both (suits x g) (conforms x text) ≡ true = subst (λ (k : rule.Rule). both (suits k g) (conforms k text) ≡ true) (c .1) (c .0) in
-          let u = both-true (suits x g) (conforms x text) y in
-          (is, p, g, h, u .0, u .1, asked-by ∙ rw (p, h, z, y))
-
-      at : (is : List Id) → read ≡ some is → (o : Option allowed.Target) → allowed.allowed is ty ≡ o → bind (ruleOf name) (ifAsked o text) ≡ some x → Found x
-      at is p none h q = no-target (ruleOf name) q
-      at is p (some g) h q = ruled is g p h q
-
-      go : (o : Option (List Id)) → read ≡ o → bind (ruleOf name) (ifAsked (bind o (λ is. allowed.allowed is ty)) text) ≡ some x → Found x
-      go none p q = no-target (ruleOf name) q
+      go : (o : Option (List Id)) → read ≡ o → bind (bind o (λ is. allowed.allowed is ty)) (λ g. ruleFor g name text) ≡ some x → Found x
+      go none p q = none-some x q
       go (some is) p q = at is p (allowed.allowed is ty) refl q
 
   module _ (budget n : ℕ) (v : List ℕ) (w : Named) (told : toldRule w ≡ askedRule (leadsTo given r ty) name text) where
@@ -177,7 +172,7 @@ module _ (ty : Ty) (given : Bool) (r : List ℕ) (defaults : Bool) (name text : 
     unfolding outcome charged
     item-undefined q h = let z : n + 0 ≡ n = omega arith in rw (asked-none (sym (ap toldRule q) ∙ told), z, le-leb n budget h)
 
-    pub item-read : (x : Rule) → w ≡ Named.Known x → isSome (pick given (readReference r) (some [])) ≡ true
+    pub item-read : (x : Rule) → w ≡ Named.Known x → isSome (givenIds given r) ≡ true
     item-read x q = let f = asked-some (meant x) (sym (ap toldRule q) ∙ told) in rw (f .1)
 
 -- something that is there
@@ -187,7 +182,7 @@ some-there (some a) e = (a, refl)
 
 module _ (chain : ℕ) (t s m v : List ℕ) (ready : Ready chain t s m v) (given : Bool) (r : List ℕ) (defaults : Bool) (name text : List ℕ) (budget n : ℕ) (w : Named) (told : toldRule w ≡ askedRule (leadsTo given r (typeFrom chain t s 0)) name text) where
   -- the tests of an assertion that isn't Undefined
-  pub item-tested : (x : Rule) (j : Judged) → w ≡ Named.Known x → j ≡ charged budget n (testing (acceptsRead (meant x) text) 0 (trail defaults (idsOr (pick given (readReference r) (some []))) (typeFrom chain t s 0) v))
+  pub item-tested : (x : Rule) (j : Judged) → w ≡ Named.Known x → j ≡ charged budget n (testing (acceptsRead (meant x) text) 0 (trail defaults (idsOr (givenIds given r)) (typeFrom chain t s 0) v))
       → j ≡ charged budget n (outcome (typeFrom chain t s 0) v (itemGiven given r defaults name text))
   unfolding outcome
   item-tested x j q e =

@@ -3,25 +3,19 @@
 use Prim.Native.Nat.{ℕ, _+_}
 use mathlib.Core.Bool.{Bool}
 use mathlib.Core.Option.{Option, none, some}
-use mathlib.Core.List.{List, []}
-use Rattle.octets.specs.Pick.{pick, both, _>>=_}
+use mathlib.Core.List.{List}
+use Rattle.octets.specs.Pick.{pick, _>>=_}
 use Rattle.table.specs.Types.{Ty}
-use Rattle.reference.specs.Reference.{Id, readReference}
+use Rattle.reference.specs.Reference.{Id, identifiers}
 use Rattle.reference.specs.Allowed.{allowed}
 use Rattle.reference.specs.Numbers.{Component}
-use Rattle.rules.specs.Rule.{Rule, ruleOf}
-use Rattle.rules.specs.Suits.{suits}
-use Rattle.rules.specs.Asserted.{conforms}
+use Rattle.rules.specs.Rule.{Rule}
+use Rattle.rules.specs.RuleFor.{ruleFor}
 use Rattle.rules.specs.Accepts.{accepts}
 use Rattle.filter.specs.Filter.{Item}
 use Rattle.trail.specs.Trail.{Trail, done, fault, reach, trail}
 use Rattle.judge.specs.Truth.{TRUE, FALSE, UNDEFINED}
 use Rattle.judge.specs.Reading.{Outcome, settled, faulted}
-
--- the identifiers of a reference; a missing one has none
-abbrev pub identifiers : Option (List ℕ) → Option (List Id)
-identifiers none = some []
-identifiers (some s) = readReference s
 
 -- what an assertion asks of a type, where it isn't Undefined: the identifiers of its reference, and its rule
 pub record Asked : Type 0 where
@@ -32,8 +26,8 @@ unfoldable pub asked : Ty → Item → Option Asked
 asked ty i = do
   is ← identifiers (i .component)
   target ← allowed is ty
-  r ← ruleOf (i .rule)
-  pick (both (suits r target) (conforms r (i .value))) (some (record { ids = is; rule = r })) none
+  r ← ruleFor target (i .rule) (i .value)
+  some (record { ids = is; rule = r })
 
 -- "one [test] per value a rule is applied to. An assertion stops at its first accepted value": after n tests
 unfoldable pub testing : (Component → Bool) → ℕ → Trail → Outcome

@@ -6,7 +6,7 @@ use mathlib.Core.Option.{Option, none, some}
 use mathlib.Core.List.{List}
 use lib.ListN.{length}
 use lib.Dec.{leb}
-use Rattle.octets.specs.Pick.{pick, both, bind, isSome}
+use Rattle.octets.specs.Pick.{pick, bind, isSome}
 use Rattle.octets.specs.Octets.{same}
 use Rattle.rows.specs.Row.{nameAt, rowAt, membersAt}
 use Rattle.groups.specs.Clauses.{memberPlace}
@@ -14,9 +14,9 @@ use Rattle.table.specs.Types.{unfilled, typeFrom}
 use Rattle.table.specs.Work.{Sound}
 use Rattle.value.specs.Decode.{storedValue}
 use Rattle.reference.specs.Allowed.{Target}
-use Rattle.rules.specs.Rule.{Rule, ruleOf}
+use Rattle.rules.specs.Rule.{Rule}
 use Rattle.rules.specs.Suits.{suits}
-use Rattle.rules.specs.Asserted.{conforms}
+use Rattle.rules.specs.RuleFor.{ruleFor}
 use Rattle.assertion.specs.Assertion.{Read}
 use Rattle.assertion.specs.Places.{componentOf}
 use Rattle.assertion.specs.declared.Component.{Component}
@@ -59,11 +59,8 @@ abbrev pub suitsAny : Rule → Option Target → Bool
 suitsAny r none = false
 suitsAny r (some g) = suits r g
 
-abbrev pub ifAsked : Option Target → List ℕ → Rule → Option Rule
-ifAsked g value r = pick (both (suitsAny r g) (conforms r value)) (some r) none
-
 unfoldable pub askedRule : Option Target → List ℕ → List ℕ → Option Rule
-askedRule g rule value = bind (ruleOf rule) (ifAsked g value)
+askedRule g rule value = bind g (λ target. ruleFor target rule value)
 
 -- an assertion by its parts; its reference is r where one is given
 abbrev pub itemGiven : Bool → List ℕ → Bool → List ℕ → List ℕ → Item

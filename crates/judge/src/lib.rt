@@ -240,8 +240,8 @@ fn judge_parts(
     requires within { ⌜ n ≤ budget ⌝ }
     ensures { λ w. ⌜ w ≡ work.charged budget n (outcome (rowType (now (t .entry)) (now (s .entry)) 0) (now (v .entry)) (itemOf (now (f .entry)) p)) ⌝ }
 {
-    let name = assertion::between(f, p.rule, p.rule_end);
-    let text = assertion::between(f, p.value, p.value_end);
+    let name = octets::between(f, p.rule, p.rule_end);
+    let text = octets::between(f, p.value, p.value_end);
     let component = p.component;
     judge_component(t, s, m, v, f, component, p.defaults, name, text, budget, n)
 }

@@ -19,6 +19,10 @@ pub pick-cases : {A : Type 0} (P : A → Type 0) (t : Bool) (a b : A) → (t ≡
 pick-cases P true a b f g = f refl
 pick-cases P false a b f g = g refl
 
+pub never : (x : Bool) → both x false ≡ false
+never true = refl
+never false = refl
+
 -- ---- octets by place
 pub octet-past : (s : List ℕ) (i : ℕ) → length s ≤ i → 0 ≡ octet s i
 octet-past s i h = sym (List·getD-eq-default s 0 h)
@@ -38,13 +42,6 @@ rest-none s i h = drop-of-length-le s h
 
 pub rest-length : (s : List ℕ) (i : ℕ) → length (drop i s) ≡ length s - i
 rest-length s i = length-drop i s
-
--- the octet at a place is the head of the rest from there
-pub head-of : (s : List ℕ) (i c : ℕ) (l : List ℕ) → drop i s ≡ c ∷ l → octet s i ≡ c
-head-of [] zero c l e = cc
-head-of [] (suc i) c l e = cc
-head-of (b ∷ s) zero c l e = cc
-head-of (b ∷ s) (suc i) c l e = head-of s i c l e
 
 -- ---- parts
 pub part-past : (s : List ℕ) (at n : ℕ) → length s ≤ at → part s at n ≡ []
@@ -85,12 +82,6 @@ either-first r p q e h = rw (sym e ∙ h)
 pub either-second : (r p q u : Bool) → r ≡ p → r ≡ false → u ≡ q → u ≡ pick p true q
 either-second r p q u e h f = rw (sym e ∙ h) f
 
-pub both-first : (r p q : Bool) → r ≡ p → r ≡ false → false ≡ pick p q false
-both-first r p q e h = rw (sym e ∙ h)
-
-pub both-second : (r p q u : Bool) → r ≡ p → r ≡ true → u ≡ q → u ≡ pick p q false
-both-second r p q u e h f = rw (sym e ∙ h) f
-
 -- ---- a test of all numbers below one
 last-or : (n i : ℕ) → i < suc n → (i ≡ n) ⊎ (i < n)
 last-or n i h = eq-or-lt-of-le (omega arith)
@@ -120,10 +111,6 @@ pub all-not : (f : ℕ → Bool) (n i : ℕ) → i < n → f i ≡ false → all
 unfolding all
 all-not f zero i h e = absurd (omega arith)
 all-not f (suc n) i h e = ⊎-elim (λ q. rw (← q, e)) (λ l. rw (all-not f n i l e) (never (f n))) (last-or n i h)
-  where
-    never : (b : Bool) → pick b false false ≡ false
-    never true = refl
-    never false = refl
 
 -- in a loop that counts up: r is what the code found of i
 pub all-none : (f : ℕ → Bool) → all f 0 ≡ true

@@ -6,13 +6,13 @@ use mathlib.Core.List.{List, [], _∷_}
 use Prim.Native.Nat.{ℕ, suc, _≤_, _<_, _+_, _-_, _*_}
 use native.Mathlib.Omega.{arith}
 use native.Mathlib.Nat.{add-zero}
-use borrow.Author.Tests.{eq-eqb, ne-eqb, lt-ltb, le-ltb, lt-leb, le-leb, ltb-true, ltb-false}
+use borrow.Author.Tests.{eq-eqb, ne-eqb, lt-ltb, le-ltb, lt-leb, le-leb, ltb-false}
 use lib.Dec.{ltb, eqb, eqb·suc-suc}
 use lib.ListN.{length, take, drop}
 use lib.Seq.{take-nil}
 use Rattle.octets.specs.Pick.{pick}
-use Rattle.octets.specs.Octets.{octet, part, every, larger, highestFrom, highest, same, below}
-use Rattle.octets.specs.Text.{isDigit, isNumber, starts, lead, skip, decimalFrom, decimal}
+use Rattle.octets.specs.Octets.{octet, part, between, every, larger, highestFrom, highest, same}
+use Rattle.octets.specs.Text.{isDigit, isAlnum, mayFollow, isNumber, starts, lead, skip, decimalFrom, decimal}
 use Rattle.octets.specs.Utf8.{afterFirst, after, utf8From, utf8, mayEnd, awaits}
 use Rattle.octets.specs.Quoted.{closing, closingAt}
 use Rattle.octets.specs.Answers.{clip, growOf, told}
@@ -31,6 +31,29 @@ part-most s at n h = part-rest s at (length s - at) (omega arith) ∙ sym (part-
 
 pub part-exact : (s : List ℕ) (at n : ℕ) → take (at + n - at) (drop at s) ≡ part s at n
 part-exact s at n = let e : at + n - at ≡ n = omega arith in rw e
+
+pub between-none : (s t : List ℕ) (a b : ℕ) → t ≡ part s a 0 → b ≤ a → t ≡ between s a b
+between-none s t a b e h = let z : 0 ≡ b - a = omega arith in e ∙ ap (part s a) z
+
+-- ---- names: an octet after another
+module _ (a b : ℕ) (u : Bool) (told : u ≡ isAlnum b) where
+  pub follow-alnum : u ≡ true → true ≡ mayFollow a b
+  unfolding mayFollow
+  follow-alnum h = rw (sym told ∙ h)
+
+  module _ (h : u ≡ false) where
+    pub follow-other : (b ≡ 45 → ⊥) → false ≡ mayFollow a b
+    unfolding mayFollow
+    follow-other e = rw (sym told ∙ h, ne-eqb b 45 e)
+
+    module _ (e : b ≡ 45) where
+      pub follow-double : a ≡ 45 → false ≡ mayFollow a b
+      unfolding mayFollow
+      follow-double f = rw (sym told ∙ h, eq-eqb b 45 e, eq-eqb a 45 f)
+
+      pub follow-hyphen : (a ≡ 45 → ⊥) → true ≡ mayFollow a b
+      unfolding mayFollow
+      follow-hyphen f = rw (sym told ∙ h, eq-eqb b 45 e, ne-eqb a 45 f)
 
 -- ---- skip
 module _ (s : List ℕ) (at i : ℕ) (inv : skip s at ≡ skip s i) where
@@ -275,33 +298,3 @@ same-lengths (a ∷ l) (b ∷ bs) n = go (eqb a b) (same-lengths l bs (λ e. n (
     go : (t : Bool) → false ≡ same l bs → false ≡ pick t (same l bs) false
     go true h = h
     go false h = refl
-
-module _ (a b : List ℕ) (i : ℕ) (inv : below (drop i a) (drop i b) ≡ below a b) where
-  pub below-done : (u : Bool) → length a ≤ i → u ≡ ltb i (length b) → u ≡ below a b
-  unfolding below
-  below-done u h e = e ∙ go (ltb i (length b)) refl ∙ (rw (rest-none a i h) at inv)
-    where
-      go : (t : Bool) → ltb i (length b) ≡ t → t ≡ below [] (drop i b)
-      go true q = let g : i < length b = ltb-true _ _ q in rw (rest-cons b i g)
-      go false q = let g : length b ≤ i = ltb-false _ _ q in rw (rest-none b i g)
-
-  module _ (h : i < length a) where
-    pub below-longer : length b ≤ i → false ≡ below a b
-    unfolding below
-    below-longer g = sym (ap₂ below (rest-cons a i h) (rest-none b i g)) ∙ inv
-
-    module _ (g : i < length b) where
-      heads : below (octet a i ∷ drop (i + 1) a) (octet b i ∷ drop (i + 1) b) ≡ below a b
-      heads = sym (ap₂ below (rest-cons a i h) (rest-cons b i g)) ∙ inv
-
-      pub below-less : octet a i < octet b i → true ≡ below a b
-      unfolding below
-      below-less e = rw (lt-ltb _ _ e) at heads
-
-      pub below-more : octet b i ≤ octet a i → octet b i < octet a i → false ≡ below a b
-      unfolding below
-      below-more n e = rw (le-ltb _ _ n, lt-ltb _ _ e) at heads
-
-      pub below-on : octet b i ≤ octet a i → octet a i ≤ octet b i → below (drop (i + 1) a) (drop (i + 1) b) ≡ below a b
-      unfolding below
-      below-on n e = rw (le-ltb _ _ n, le-ltb _ _ e) at heads

@@ -107,11 +107,15 @@ unfolding paired
 paired-two a b s = refl
 
 -- ---- the largest octet
-larger-least : (a b : ℕ) → (a ≤ larger a b) × (b ≤ larger a b)
+pub larger-least : (a b : ℕ) → (a ≤ larger a b) × (b ≤ larger a b)
 unfolding larger
 larger-least a b = pick-cases (λ (x : ℕ). (a ≤ x) × (b ≤ x)) (ltb a b) b a
     (λ e. (omega (arith, ltb-true), omega arith))
     (λ e. (omega arith, omega (arith, ltb-false)))
+
+pub larger-most : (a b n : ℕ) → a ≤ n → b ≤ n → larger a b ≤ n
+unfolding larger
+larger-most a b n f g = pick-cases (λ (x : ℕ). x ≤ n) (ltb a b) b a (λ e. g) (λ e. f)
 
 pub highest-least : (n : ℕ) (s : List ℕ) → n ≤ highestFrom n s
 unfolding highestFrom

@@ -4,7 +4,7 @@ use mathlib.Core.Bool.{true, false}
 use mathlib.Core.Option.{none, some}
 use mathlib.Core.List.{[], _∷_, map}
 use Rattle.octets.specs.Octets.{bytes, hex, below}
-use Rattle.octets.specs.Text.{isNumber, trimmed, decimal, skip, pieces, lower, starts}
+use Rattle.octets.specs.Text.{isName, isNumber, trimmed, decimal, skip, pieces, lower, starts}
 use Rattle.octets.specs.Utf8.{utf8}
 use Rattle.octets.specs.Quoted.{unquoted}
 use Rattle.octets.specs.Computing.{octetsCompute}
@@ -21,6 +21,12 @@ utf8-edges = refl
 utf8-texts : map utf8 ([] ∷ hex "00" ∷ hex "EFBFBF" ∷ hex "41C3A9E282ACF09F8EB5" ∷ []) ≡ true ∷ true ∷ true ∷ true ∷ []
 unfolding octetsCompute
 utf8-texts = refl
+
+-- names: nothing; a capital, a digit and a hyphen first; a hyphen last, two of them; another character
+names : map isName (bytes "a" ∷ bytes "aB9-c-d" ∷ bytes "" ∷ bytes "Ab" ∷ bytes "1a" ∷ bytes "-a" ∷ bytes "a-" ∷ bytes "a--b" ∷ bytes "a_b" ∷ [])
+    ≡ true ∷ true ∷ false ∷ false ∷ false ∷ false ∷ false ∷ false ∷ false ∷ []
+unfolding octetsCompute
+names = refl
 
 numbers : map isNumber (bytes "0" ∷ bytes "7" ∷ bytes "10" ∷ bytes "07" ∷ bytes "00" ∷ bytes "" ∷ bytes "1a" ∷ bytes "18446744073709551616" ∷ [])
     ≡ true ∷ true ∷ true ∷ false ∷ false ∷ false ∷ false ∷ true ∷ []
@@ -60,6 +66,7 @@ unfolding octetsCompute
 words = refl
 
 -- a proper prefix is less
-order : below (hex "01") (hex "0100") ∷ below (hex "0100") (hex "01") ∷ below (hex "02") (hex "0100") ∷ below (hex "01") (hex "01") ∷ [] ≡ true ∷ false ∷ false ∷ false ∷ []
+order : below (hex "01") (hex "0100") ∷ below (hex "0100") (hex "01") ∷ below (hex "02") (hex "0100") ∷ below (hex "01") (hex "01") ∷ []
+    ≡ true ∷ false ∷ false ∷ false ∷ []
 unfolding octetsCompute
 order = refl

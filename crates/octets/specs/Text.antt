@@ -4,7 +4,7 @@ use mathlib.Core.Bool.{Bool, true, false}
 use mathlib.Core.List.{List, [], _∷_}
 use lib.ListN.{length, drop}
 use lib.Dec.{leb, eqb}
-use Rattle.octets.specs.Pick.{pick, both, either}
+use Rattle.octets.specs.Pick.{pick, both, either, no}
 use Rattle.octets.specs.Octets.{every}
 
 -- from a to b, both included
@@ -25,6 +25,23 @@ isLetter b = either (isLower b) (isUpper b)
 
 unfoldable pub isAlnum : ℕ → Bool
 isAlnum b = either (isLetter b) (isDigit b)
+
+-- "A name is a lowercase letter, then letters, digits and single hyphens, no hyphen last": octet b may stand after octet a in one
+unfoldable pub mayFollow : ℕ → ℕ → Bool
+mayFollow a b = either (isAlnum b) (both (eqb b 45) (no (eqb a 45)))
+
+-- octet a may be its last
+abbrev pub mayBeLast : ℕ → Bool
+mayBeLast a = no (eqb a 45)
+
+-- the rest of one after octet a
+unfoldable pub nameFrom : ℕ → List ℕ → Bool
+nameFrom a [] = mayBeLast a
+nameFrom a (b ∷ s) = let r = nameFrom b s in both (mayFollow a b) r
+
+unfoldable pub isName : List ℕ → Bool
+isName [] = false
+isName (b ∷ s) = both (isLower b) (nameFrom b s)
 
 -- A to Z turned into a to z; any other octet as it is
 unfoldable pub lower : ℕ → ℕ

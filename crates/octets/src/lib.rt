@@ -71,6 +71,16 @@ pub fn part(s: &[u8], at: usize, n: usize) -> &[u8]
     &s[at..end]
 }
 
+// From place a up to place b; nothing where b is not further on.
+pub fn between(s: &[u8], a: usize, b: usize) -> &[u8]
+    ensures { λ r. ⌜ now r ≡ octets.between (now (s .entry)) a b ⌝ }
+{
+    if b <= a {
+        return part(s, a, 0);
+    }
+    part(s, a, b - a)
+}
+
 // ---- the largest octet
 fn larger(a: u8, b: u8) -> u8
     ensures { λ r. ⌜ r ≡ octets.larger a b ⌝ }
@@ -123,7 +133,7 @@ pub fn is_lower(b: u8) -> bool
     b <= 122
 }
 
-pub fn is_upper(b: u8) -> bool
+fn is_upper(b: u8) -> bool
     ensures { λ r. ⌜ r ≡ text.isUpper b ⌝ }
 {
     if b < 65 {
@@ -148,6 +158,22 @@ pub fn is_alnum(b: u8) -> bool
         return true;
     }
     is_digit(b)
+}
+
+// Whether octet b may stand after another in a name.
+pub fn may_follow(before: u8, b: u8) -> bool
+    ensures { λ r. ⌜ r ≡ text.mayFollow before b ⌝ }
+{
+    if is_alnum(b) {
+        return true;
+    }
+    if b != 45 {
+        return false;
+    }
+    if before == 45 {
+        return false;
+    }
+    true
 }
 
 // A to Z turned into a to z.
@@ -392,24 +418,4 @@ pub fn same(a: &[u8], b: &[u8]) -> bool
         i += 1;
     }
     true
-}
-
-// Whether a is less than b, from the first octet on; a proper prefix is less.
-pub fn below(a: &[u8], b: &[u8]) -> bool
-    ensures { λ r. ⌜ r ≡ octets.below (now (a .entry)) (now (b .entry)) ⌝ }
-{
-    let mut i = 0;
-    while i < a.len() {
-        if b.len() <= i {
-            return false;
-        }
-        if a[i] < b[i] {
-            return true;
-        }
-        if b[i] < a[i] {
-            return false;
-        }
-        i += 1;
-    }
-    i < b.len()
 }

@@ -24,7 +24,8 @@ unfolding readerComputes
 nexts = refl
 
 -- P11's stored value, 0,20,3, is 80 01 03
-values : map (valueThere licenceRecord) (0 ∷ 2 ∷ 14 ∷ 20 ∷ 4 ∷ 23 ∷ []) ≡ licenceRecord ∷ hex "0C026531" ∷ hex "300713025661800103" ∷ hex "800103" ∷ [] ∷ [] ∷ []
+values : map (valueThere licenceRecord) (0 ∷ 2 ∷ 14 ∷ 20 ∷ 4 ∷ 23 ∷ [])
+    ≡ licenceRecord ∷ hex "0C026531" ∷ hex "300713025661800103" ∷ hex "800103" ∷ [] ∷ [] ∷ []
 unfolding readerComputes
 values = refl
 

@@ -12,79 +12,59 @@ use lib.ListN.{length, take, drop}
 use lib.Seq.{drop-drop}
 use Rattle.octets.specs.Pick.{pick, both, no, bind, consed}
 use Rattle.octets.specs.Octets.{octet, part, same, every, bytes}
-use Rattle.octets.specs.Text.{isLower, isAlnum, isDigit, isNumber, decimal, ontoFirst, pieces}
+use Rattle.octets.specs.Text.{isLower, isDigit, mayFollow, nameFrom, isName, isNumber, decimal, ontoFirst, pieces}
 use Rattle.octets.specs.Answers.{clip}
 use Rattle.octets.specs.declared.Size.{Size}
 use Rattle.octets.proofs.Laws.{rest-cons, rest-none, rest-length, part-rest}
 use Rattle.octets.proofs.TextLaws.{every-cons, number-nil, number-cons, pieces-nil, pieces-cons, same-nil, same-cons}
-use Rattle.reference.specs.Reference.{Id, index, position, fromEnd, identifierFrom, isIdentifier, isPosition, idOf, idsOf, readReference}
-use Rattle.reference.specs.Work.{cap, headCapped, idsAt, dotless, endAt, mayFollow, wordId, otherId, numberId, cappedId, pieceTold, stepTold, rises, advances, stepOf}
+use Rattle.reference.specs.Reference.{Id, index, position, fromEnd, isPosition, idOf, idsOf, readReference}
+use Rattle.reference.specs.Work.{cap, headCapped, idsAt, dotless, endAt, wordId, otherId, numberId, cappedId, pieceTold, stepTold, rises, advances, stepOf}
 use Rattle.reference.specs.declared.Piece.{Piece}
 use Rattle.reference.specs.declared.Step.{Step}
 
--- ---- an octet after another
-module _ (a b : ℕ) (u : Bool) (told : u ≡ isAlnum b) where
-  pub follow-alnum : u ≡ true → true ≡ mayFollow a b
-  unfolding mayFollow
-  follow-alnum h = rw (sym told ∙ h)
-
-  module _ (h : u ≡ false) where
-    pub follow-other : (b ≡ 45 → ⊥) → false ≡ mayFollow a b
-    unfolding mayFollow
-    follow-other e = rw (sym told ∙ h, ne-eqb b 45 e)
-
-    module _ (e : b ≡ 45) where
-      pub follow-double : a ≡ 45 → false ≡ mayFollow a b
-      unfolding mayFollow
-      follow-double f = rw (sym told ∙ h, eq-eqb b 45 e, eq-eqb a 45 f)
-
-      pub follow-hyphen : (a ≡ 45 → ⊥) → true ≡ mayFollow a b
-      unfolding mayFollow
-      follow-hyphen f = rw (sym told ∙ h, eq-eqb b 45 e, ne-eqb a 45 f)
-
--- ---- identifiers
+-- ---- names
 module _ (p : List ℕ) (a : ℕ) (u : Bool) (read : a ≡ octet p 0) (told : u ≡ isLower a) where
   lowered : u ≡ isLower (octet p 0)
   lowered = told ∙ ap isLower read
 
-  pub identifier-other : not u ≡ true → false ≡ isIdentifier p
-  unfolding isIdentifier
-  identifier-other h = go p (sym lowered ∙ not-true u h)
+  pub name-other : not u ≡ true → false ≡ isName p
+  unfolding isName
+  name-other h = go p (sym lowered ∙ not-true u h)
     where
-      go : (p : List ℕ) → isLower (octet p 0) ≡ false → false ≡ isIdentifier p
+      go : (p : List ℕ) → isLower (octet p 0) ≡ false → false ≡ isName p
       go [] e = refl
       go (b ∷ s) e = rw e
 
-  pub identifier-start : not u ≡ false → identifierFrom a (drop 1 p) ≡ isIdentifier p
-  unfolding isIdentifier isLower
-  identifier-start h = ap (λ (x : ℕ). identifierFrom x (drop 1 p)) read ∙ go p (sym lowered ∙ not-false u h)
+  pub name-start : not u ≡ false → nameFrom a (drop 1 p) ≡ isName p
+  unfolding isName isLower
+  name-start h = ap (λ (x : ℕ). nameFrom x (drop 1 p)) read ∙ go p (sym lowered ∙ not-false u h)
     where
-      go : (p : List ℕ) → isLower (octet p 0) ≡ true → identifierFrom (octet p 0) (drop 1 p) ≡ isIdentifier p
+      go : (p : List ℕ) → isLower (octet p 0) ≡ true → nameFrom (octet p 0) (drop 1 p) ≡ isName p
       go [] e = absurd (false≢true e)
       go (b ∷ s) e = rw e
 
-module _ (p : List ℕ) (a i : ℕ) (m : Bool) (inv : identifierFrom a (drop i p) ≡ m) where
+module _ (p : List ℕ) (a i : ℕ) (m : Bool) (inv : nameFrom a (drop i p) ≡ m) where
   module _ (h : i < length p) (u : Bool) (told : u ≡ mayFollow a (octet p i)) where
-    identifier-here : both u (identifierFrom (octet p i) (drop (i + 1) p)) ≡ m
-    unfolding identifierFrom mayFollow
-    identifier-here = rw told (sym (ap (identifierFrom a) (rest-cons p i h)) ∙ inv)
+    name-here : both u (nameFrom (octet p i) (drop (i + 1) p)) ≡ m
+    unfolding nameFrom mayFollow
+    name-here = rw told (sym (ap (nameFrom a) (rest-cons p i h)) ∙ inv)
 
-    pub identifier-bad : not u ≡ true → false ≡ m
-    identifier-bad e = rw (not-true u e) at identifier-here
+    pub name-bad : not u ≡ true → false ≡ m
+    name-bad e = rw (not-true u e) at name-here
 
-    pub identifier-more : not u ≡ false → identifierFrom (octet p i) (drop (i + 1) p) ≡ m
-    identifier-more e = rw (not-false u e) at identifier-here
+    pub name-more : not u ≡ false → nameFrom (octet p i) (drop (i + 1) p) ≡ m
+    name-more e = rw (not-false u e) at name-here
 
   module _ (h : length p ≤ i) where
-    identifier-end : no (eqb a 45) ≡ m
-    unfolding identifierFrom
-    identifier-end = sym (ap (identifierFrom a) (rest-none p i h)) ∙ inv
+    name-end : no (eqb a 45) ≡ m
+    unfolding nameFrom
+    name-end = sym (ap (nameFrom a) (rest-none p i h)) ∙ inv
 
-    pub identifier-hyphen : a ≡ 45 → false ≡ m
-    identifier-hyphen e = rw (eq-eqb a 45 e) at identifier-end
+    pub name-hyphen : a ≡ 45 → false ≡ m
+    name-hyphen e = rw (eq-eqb a 45 e) at name-end
 
-    pub identifier-whole : (a ≡ 45 → ⊥) → true ≡ m
-    identifier-whole e = rw (ne-eqb a 45 e) at identifier-end
+    pub name-whole : (a ≡ 45 → ⊥) → true ≡ m
+    name-whole e = rw (ne-eqb a 45 e) at name-end
 
 -- ---- positions
 pub position-none : (p : List ℕ) → length p < 1 → false ≡ isPosition p
@@ -134,7 +114,7 @@ module _ (size : Size) (n : ℕ) (told : size ≡ clip n) where
 
 -- ---- one identifier
 module _ (p : List ℕ) where
-  module _ (u : Bool) (told : u ≡ isIdentifier p) where
+  module _ (u : Bool) (told : u ≡ isName p) where
     pub word-is : u ≡ true → pieceTold p Piece.Name ≡ cappedId (wordId p)
     word-is h = rw (sym told ∙ h)
 
@@ -263,9 +243,6 @@ module _ (r : List ℕ) (k : ℕ) where
   pub next-end : length r < k → stepTold r Step.End ≡ headCapped (idsAt r k)
   unfolding idsAt
   next-end h = rw (lt-leb k (length r) h)
-
-  pub end-advances : advances r k Step.End ≡ true
-  end-advances = refl
 
   step-told : (piece : Piece) (e n : ℕ) → stepTold r (stepOf piece k e n) ≡ bind (pieceTold (part r k (e - k)) piece) (λ i. consed i (idsAt r n))
   step-told Piece.Name e n = refl

@@ -1,30 +1,26 @@
 -- Laws of the definitions, for the layers above.
 use mathlib.Core.Path.{_≡_, refl, sym, ap, _∙_}
 use mathlib.Core.Bool.{Bool, true, false, false≢true}
-use mathlib.Core.Logic.{_⊎_, inl, inr, ⊎-elim}
+use mathlib.Core.Logic.{_⊎_, inl, inr}
 use mathlib.Core.Option.{Option, none, some}
 use mathlib.Core.List.{List, [], _∷_}
-use Prim.Native.Nat.{ℕ, zero, suc, _≤_, _<_, _+_, _-_}
+use Prim.Native.Nat.{ℕ, suc, _≤_, _<_, _+_, _-_}
 use native.Mathlib.Omega.{arith}
-use native.Mathlib.Nat.{eq-or-lt-of-le}
-use borrow.Author.Tests.{eq-eqb, ne-eqb, eqb-true, lt-leb, le-leb, lt-ltb, le-ltb, leb-true, ltb-true, ltb-false}
+use borrow.Author.Tests.{ne-eqb, eqb-true, lt-leb, le-leb, lt-ltb, le-ltb, leb-true, ltb-true, ltb-false}
 use lib.Dec.{ltb, leb, eqb}
 use lib.ListN.{length, drop}
-use Rattle.octets.specs.Pick.{pick, both, either, no, bind, consed}
+use Rattle.octets.specs.Pick.{pick, both, no, bind, consed}
 use Rattle.octets.specs.Octets.{octet, part, same, every}
-use Rattle.octets.specs.Text.{isLower, isUpper, isLetter, isAlnum, isDigit, isNumber, ontoFirst, pieces}
+use Rattle.octets.specs.Text.{isLower, isUpper, isLetter, isAlnum, isDigit, mayFollow, nameFrom, isName, isNumber, ontoFirst, pieces}
 use Rattle.octets.specs.Quoted.{undoubled}
-use Rattle.octets.proofs.Laws.{both-true}
-use Rattle.octets.proofs.TextLaws.{number-nil, number-cons, every-nil, every-cons, every-at, pieces-nil, pieces-cons, same-longer, same-cons}
+use Rattle.octets.proofs.Laws.{both-true, never}
+use Rattle.octets.proofs.TextLaws.{number-nil, number-cons, every-nil, every-cons, pieces-nil, pieces-cons, same-longer, same-cons}
 use Rattle.octets.proofs.QuotedLaws.{noQuote, undoubled-plain, undoubled-quoted}
-use Rattle.rows.specs.Row.{nameAt}
-use Rattle.table.specs.Types.{Ty, basic, sequence, choice, listOf, unfilled, memberOf}
-use Rattle.value.specs.Work.{first}
-use Rattle.value.proofs.LeafSteps.{first-none, first-step}
-use Rattle.reference.specs.Reference.{position, fromEnd, count, all, Id, name, index, identifierFrom, isIdentifier, isPosition, idOf, idsOf, readReference}
+use Rattle.table.specs.Types.{basic, sequence, choice, listOf}
+use Rattle.reference.specs.Reference.{position, fromEnd, count, all, Id, name, index, isPosition, idOf, idsOf, readReference}
 use Rattle.reference.specs.Allowed as allowed
-use Rattle.reference.specs.Allowed.{ofType, ofCount, under, allowedFrom, allowed}
-use Rattle.reference.specs.Work.{cap, capped, cappedIds, headCapped, idsAt, stepTold, rises, advances, rowWithin}
+use Rattle.reference.specs.Allowed.{ofType, ofCount, under, allowed}
+use Rattle.reference.specs.Work.{cap, capped, headCapped, idsAt, stepTold, rises, advances, rowWithin}
 use Rattle.reference.specs.declared.Step.{Step}
 use Rattle.reference.specs.declared.Target.{Target}
 
@@ -163,9 +159,6 @@ module _ (r : List ℕ) (k : ℕ) (s : Step) (rising : advances r k s ≡ true) 
   pub from-end-rises : (i n : ℕ) → s ≡ Step.FromEnd i n → (k < n) × (n ≤ length r + 1)
   from-end-rises i n e = rises-by r k n (sym (ap (advances r k) e) ∙ rising)
 
-  pub count-rises : (n : ℕ) → s ≡ Step.Count n → (k < n) × (n ≤ length r + 1)
-  count-rises n e = rises-by r k n (sym (ap (advances r k) e) ∙ rising)
-
   pub all-rises : (n : ℕ) → s ≡ Step.All n → (k < n) × (n ≤ length r + 1)
   all-rises n e = rises-by r k n (sym (ap (advances r k) e) ∙ rising)
 
@@ -189,51 +182,6 @@ cap-cases n = go (ltb n 18446744073709551616) refl
     go true e = inl (cap-small n (ltb-true n 18446744073709551616 e))
     go false e = let h = ltb-false n 18446744073709551616 e in inr (cap-large n h, h)
 
--- below the largest number it compares as before
-pub cap-leb : (n k : ℕ) → k < 18446744073709551615 → leb (cap n) k ≡ leb n k
-cap-leb n k h = ⊎-elim (λ e. ap (λ (x : ℕ). leb x k) e) (λ w. ap (λ (x : ℕ). leb x k) (w .0) ∙ lt-leb 18446744073709551615 k h ∙ sym (lt-leb n k (let q = w .1 in omega arith))) (cap-cases n)
-
-pub cap-eqb : (n k : ℕ) → k < 18446744073709551615 → eqb (cap n) k ≡ eqb n k
-cap-eqb n k h = ⊎-elim (λ e. ap (λ (x : ℕ). eqb x k) e) (λ w. ap (λ (x : ℕ). eqb x k) (w .0) ∙ ne-eqb 18446744073709551615 k (λ z. omega arith) ∙ sym (ne-eqb n k (λ z. (let q = w .1 in omega arith)))) (cap-cases n)
-
--- ---- members by their names
-pub member-name : (t : List ℕ) (i p : ℕ) → memberOf t i p .name ≡ unfilled (nameAt t p)
-unfolding memberOf
-member-name t i p = refl
-
--- the first number for which a test holds, of k from a on
-pub first-least : (f : ℕ → Bool) (k a : ℕ) → a ≤ first f k a
-first-least f zero a = let q = first-none f a in omega arith
-first-least f (suc k) a = let q = first-step f k a in go (f a) q (first-least f k (a + 1))
-  where
-    go : (u : Bool) → first f (suc k) a ≡ pick u a (first f k (a + 1)) → a + 1 ≤ first f k (a + 1) → a ≤ first f (suc k) a
-    go true e h = omega arith
-    go false e h = omega arith
-
-pub first-most : (f : ℕ → Bool) (k a : ℕ) → first f k a ≤ a + k
-first-most f zero a = let q = first-none f a in omega arith
-first-most f (suc k) a = let q = first-step f k a in go (f a) q (first-most f k (a + 1))
-  where
-    go : (u : Bool) → first f (suc k) a ≡ pick u a (first f k (a + 1)) → first f k (a + 1) ≤ a + 1 + k → first f (suc k) a ≤ a + suc k
-    go true e h = omega arith
-    go false e h = omega arith
-
-pub first-holds : (f : ℕ → Bool) (k a : ℕ) → first f k a < a + k → f (first f k a) ≡ true
-first-holds f zero a h = absurd (let q = first-none f a in omega arith)
-first-holds f (suc k) a h = go (f a) refl (first-step f k a) (λ l. first-holds f k (a + 1) l)
-  where
-    go : (u : Bool) → f a ≡ u → first f (suc k) a ≡ pick u a (first f k (a + 1)) → (first f k (a + 1) < a + 1 + k → f (first f k (a + 1)) ≡ true) → f (first f (suc k) a) ≡ true
-    go true e q g = ap f q ∙ e
-    go false e q g = ap f q ∙ g (omega arith)
-
-pub first-before : (f : ℕ → Bool) (k a i : ℕ) → a ≤ i → i < first f k a → f i ≡ false
-first-before f zero a i l h = absurd (let q = first-none f a in omega arith)
-first-before f (suc k) a i l h = go (f a) refl (first-step f k a) (eq-or-lt-of-le l) (λ m n. first-before f k (a + 1) i m n)
-  where
-    go : (u : Bool) → f a ≡ u → first f (suc k) a ≡ pick u a (first f k (a + 1)) → (a ≡ i) ⊎ (a < i) → (a + 1 ≤ i → i < first f k (a + 1) → f i ≡ false) → f i ≡ false
-    go true e q w g = absurd (omega arith)
-    go false e q w g = ⊎-elim (λ z. ap f (sym z) ∙ e) (λ m. g (omega arith) (omega arith)) w
-
 -- ---- capped positions allow the same
 pub under-capped : (i : Id) (g : allowed.Target) → under (capped i) g ≡ under i g
 unfolding under
@@ -249,29 +197,7 @@ under-capped (index (fromEnd n)) (ofType (listOf k ty)) = refl
 under-capped (index count) (ofType (listOf k ty)) = refl
 under-capped (index all) (ofType (listOf k ty)) = refl
 
-allowed-from-capped : (is : List Id) (g : allowed.Target) → allowedFrom (cappedIds is) g ≡ allowedFrom is g
-unfolding allowedFrom cappedIds
-allowed-from-capped [] g = refl
-allowed-from-capped (i ∷ is) g = ap (λ (o : Option allowed.Target). bind o (λ h. allowedFrom (cappedIds is) h)) (under-capped i g) ∙ go (under i g) (λ h. allowed-from-capped is h)
-  where
-    go : (o : Option allowed.Target) → ((h : allowed.Target) → allowedFrom (cappedIds is) h ≡ allowedFrom is h) → bind o (λ h. allowedFrom (cappedIds is) h) ≡ bind o (λ h. allowedFrom is h)
-    go none f = refl
-    go (some h) f = f h
-
-pub allowed-capped : (is : List Id) (ty : Ty) → allowed (cappedIds is) ty ≡ allowed is ty
-unfolding allowed
-allowed-capped is ty = allowed-from-capped is (ofType ty)
-
--- ---- texts that are no reference
-pub read-nothing : readReference [] ≡ none
-unfolding readReference idsOf idOf isIdentifier isPosition isNumber pieces same
-read-nothing = refl
-
 -- ---- a text with a quote
-never : (x : Bool) → both x false ≡ false
-never true = refl
-never false = refl
-
 quoted-same : (p w : List ℕ) → every noQuote p ≡ false → every noQuote w ≡ true → same p w ≡ false
 unfolding every
 quoted-same [] w e h = absurd (false≢true (sym e))
@@ -297,8 +223,8 @@ quote-digit : isDigit 34 ≡ false
 unfolding isDigit
 quote-digit = refl
 
-quote-follows : (a : ℕ) → either (isAlnum 34) (both (eqb 34 45) (no (eqb a 45))) ≡ false
-unfolding isAlnum isLetter isLower isUpper isDigit
+quote-follows : (a : ℕ) → mayFollow a 34 ≡ false
+unfolding mayFollow isAlnum isLetter isLower isUpper isDigit
 quote-follows a = refl
 
 quote-lower : isLower 34 ≡ false
@@ -336,21 +262,21 @@ quoted-minus (b ∷ p) e = go (eqb b 45) refl
     go true a = quoted-position p (rest (eqb-true b 45 a))
     go false a = refl
 
-quoted-from : (a : ℕ) (p : List ℕ) → every noQuote p ≡ false → identifierFrom a p ≡ false
-unfolding every identifierFrom
+quoted-from : (a : ℕ) (p : List ℕ) → every noQuote p ≡ false → nameFrom a p ≡ false
+unfolding every nameFrom
 quoted-from a [] e = absurd (false≢true (sym e))
 quoted-from a (b ∷ p) e = go (eqb b 34) refl e (λ q. quoted-from b p q)
   where
-    go : (u : Bool) → eqb b 34 ≡ u → both (no u) (every noQuote p) ≡ false → (every noQuote p ≡ false → identifierFrom b p ≡ false) → both (either (isAlnum b) (both (eqb b 45) (no (eqb a 45)))) (identifierFrom b p) ≡ false
+    go : (u : Bool) → eqb b 34 ≡ u → both (no u) (every noQuote p) ≡ false → (every noQuote p ≡ false → nameFrom b p ≡ false) → both (mayFollow a b) (nameFrom b p) ≡ false
     go true h q f = let z : b ≡ 34 = eqb-true b 34 h in rw (z, quote-follows a)
-    go false h q f = rw (f q) (never (either (isAlnum b) (both (eqb b 45) (no (eqb a 45)))))
+    go false h q f = rw (f q) (never (mayFollow a b))
 
-quoted-identifier : (p : List ℕ) → every noQuote p ≡ false → isIdentifier p ≡ false
-unfolding every isIdentifier
-quoted-identifier [] e = refl
-quoted-identifier (b ∷ p) e = go (eqb b 34) refl e
+quoted-name : (p : List ℕ) → every noQuote p ≡ false → isName p ≡ false
+unfolding every isName
+quoted-name [] e = refl
+quoted-name (b ∷ p) e = go (eqb b 34) refl e
   where
-    go : (u : Bool) → eqb b 34 ≡ u → both (no u) (every noQuote p) ≡ false → both (isLower b) (identifierFrom b p) ≡ false
+    go : (u : Bool) → eqb b 34 ≡ u → both (no u) (every noQuote p) ≡ false → both (isLower b) (nameFrom b p) ≡ false
     go true h q = let z : b ≡ 34 = eqb-true b 34 h in rw (z, quote-lower)
     go false h q = rw (quoted-from b p q) (never (isLower b))
 
@@ -364,7 +290,7 @@ plain-nought = refl
 
 quoted-id : (p : List ℕ) → every noQuote p ≡ false → idOf p ≡ none
 unfolding idOf
-quoted-id p e = rw (quoted-same p (42 ∷ []) e plain-word, quoted-same p (48 ∷ []) e plain-nought, quoted-position p e, quoted-minus p e, quoted-identifier p e)
+quoted-id p e = rw (quoted-same p (42 ∷ []) e plain-word, quoted-same p (48 ∷ []) e plain-nought, quoted-position p e, quoted-minus p e, quoted-name p e)
 
 -- no piece has a quote
 unfoldable plainPieces : List (List ℕ) → Bool
@@ -410,13 +336,6 @@ plain-pieces (b ∷ s) = ap plainPieces (pieces-cons b s) ∙ go (eqb b 46) refl
 pub quoted-no-reference : (s : List ℕ) → every noQuote s ≡ false → readReference s ≡ none
 unfolding readReference
 quoted-no-reference s e = quoted-ids (pieces s) (plain-pieces s ∙ e)
-
-pub quote-no-reference : (s : List ℕ) (i : ℕ) → i < length s → octet s i ≡ 34 → readReference s ≡ none
-quote-no-reference s i h e = quoted-no-reference s (go (every noQuote s) refl)
-  where
-    go : (u : Bool) → every noQuote s ≡ u → u ≡ false
-    go false q = refl
-    go true q = absurd (let w : no (eqb (octet s i) 34) ≡ true = every-at noQuote s i q h in false≢true (rw (eq-eqb (octet s i) 34 e) at w))
 
 -- so a quoted reference needs no undoubling
 pub undoubled-reference : (s : List ℕ) → readReference (undoubled s) ≡ readReference s

@@ -1,5 +1,5 @@
 -- Names: one lemma for each return and each turn of a loop; its premises are the facts as the code has them.
-use mathlib.Core.Path.{_≡_, refl, sym, ap, ap₂, _∙_}
+use mathlib.Core.Path.{_≡_, refl, sym, ap₂, _∙_}
 use mathlib.Core.Bool.{Bool, true, false}
 use mathlib.Core.List.{List, [], _∷_}
 use Prim.Native.Nat.{ℕ, _≤_, _<_, _+_, _-_}
@@ -9,14 +9,11 @@ use borrow.Author.Tests.{eq-eqb, ne-eqb, eqb-true, eqb-false}
 use lib.Dec.{eqb}
 use lib.ListN.{length, drop}
 use lib.Seq.{getD-drop}
-use Rattle.octets.specs.Octets.{octet, part, same}
+use Rattle.octets.specs.Octets.{octet, same}
 use Rattle.octets.proofs.Laws.{rest-cons, rest-none}
 use Rattle.octets.proofs.TextLaws.{same-nil, same-shorter, same-longer, same-cons}
 use Rattle.octets.proofs.Steps.{same-lengths}
 use Rattle.table.specs.Types.{unfilled}
-
-pub between-none : (r p : List ℕ) (a b : ℕ) → b ≤ a → p ≡ part r a 0 → p ≡ part r a (b - a)
-between-none r p a b h e = let q : 0 ≡ b - a = omega arith in e ∙ ap (part r a) q
 
 -- ---- a name without its fill
 unfilled-fill : (b : ℕ) (s : List ℕ) → b ≡ 0 → unfilled (b ∷ s) ≡ []

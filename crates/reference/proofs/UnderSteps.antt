@@ -47,12 +47,6 @@ module _ (step : Step) where
   after-bad e = rw e
 
 -- ---- rows within the table
-pub none-within : (s : List ℕ) → rowWithin s Target.No ≡ true
-none-within s = refl
-
-pub count-within : (s : List ℕ) → rowWithin s Target.Count ≡ true
-count-within s = refl
-
 pub still-within : (s : List ℕ) (g : Target) → rowWithin s g ≡ true → rowWithin s g ≡ true
 still-within s g e = e
 

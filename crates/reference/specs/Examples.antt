@@ -24,7 +24,8 @@ read : String → Option (List Id)
 read s = readReference (bytes s)
 
 good : map read ("parts.*.copies" ∷ "parts.-1" ∷ "parts.0" ∷ "a-b9" ∷ "12" ∷ "content" ∷ [])
-    ≡ some (name (bytes "parts") ∷ index all ∷ name (bytes "copies") ∷ []) ∷ some (name (bytes "parts") ∷ index (fromEnd 1) ∷ []) ∷ some (name (bytes "parts") ∷ index count ∷ [])
+    ≡ some (name (bytes "parts") ∷ index all ∷ name (bytes "copies") ∷ []) ∷ some (name (bytes "parts") ∷ index (fromEnd 1) ∷ []) ∷ some (name (bytes "parts")
+    ∷ index count ∷ [])
     ∷ some (name (bytes "a-b9") ∷ []) ∷ some (index (position 12) ∷ []) ∷ some (name (bytes "content") ∷ []) ∷ []
 unfolding referenceComputes read
 good = refl
@@ -70,8 +71,10 @@ names : Bool → List ℕ → String → List ℕ
 names d v s = listed d (read s) (storedValue licenceType v)
 
 -- P11, P12, and the other forms; a position beyond the end names nothing
-in-the-licence : map (names true licenceRecord) ("parts.*.copies" ∷ "parts.0" ∷ "event" ∷ "seats" ∷ "parts" ∷ "parts.2" ∷ "parts.-2" ∷ "parts.3" ∷ "parts.-3" ∷ "parts.18446744073709551617" ∷ [])
-    ≡ (1 ∷ 8 ∷ 9 ∷ 0 ∷ 20 ∷ 3 ∷ []) ∷ (2 ∷ 6 ∷ 2 ∷ []) ∷ (0 ∷ 2 ∷ 4 ∷ []) ∷ (1 ∷ 0 ∷ 2 ∷ []) ∷ (0 ∷ 6 ∷ 17 ∷ []) ∷ (0 ∷ 14 ∷ 9 ∷ []) ∷ (0 ∷ 8 ∷ 6 ∷ []) ∷ [] ∷ [] ∷ [] ∷ []
+in-the-licence : map (names true licenceRecord) ("parts.*.copies" ∷ "parts.0" ∷ "event" ∷ "seats" ∷ "parts" ∷ "parts.2" ∷ "parts.-2" ∷ "parts.3" ∷ "parts.-3"
+    ∷ "parts.18446744073709551617" ∷ [])
+    ≡ (1 ∷ 8 ∷ 9 ∷ 0 ∷ 20 ∷ 3 ∷ []) ∷ (2 ∷ 6 ∷ 2 ∷ []) ∷ (0 ∷ 2 ∷ 4 ∷ []) ∷ (1 ∷ 0 ∷ 2 ∷ []) ∷ (0 ∷ 6 ∷ 17 ∷ []) ∷ (0 ∷ 14 ∷ 9 ∷ []) ∷ (0 ∷ 8 ∷ 6 ∷ []) ∷ []
+    ∷ [] ∷ [] ∷ []
 unfolding referenceComputes read names
 in-the-licence = refl
 

@@ -1,17 +1,19 @@
 -- What the code's answers say: the identifiers of a text from a place on, one step along them, and what a reference leads to.
 use Prim.Native.Nat.{ℕ, suc, _+_, _-_}
+use mathlib.Core.Path.{_≡_}
 use mathlib.Core.Bool.{Bool, true}
 use mathlib.Core.Option.{Option, none, some}
 use mathlib.Core.List.{List, [], _∷_}
 use lib.ListN.{length, drop}
 use lib.Dec.{ltb, leb, eqb}
-use Rattle.octets.specs.Pick.{pick, both, either, no, bind, consed}
+use Rattle.octets.specs.Pick.{pick, both, bind, consed}
 use Rattle.octets.specs.Octets.{octet, part, same}
-use Rattle.octets.specs.Text.{isAlnum, decimal}
-use Rattle.rows.specs.Row.{nameAt}
+use Rattle.octets.specs.Text.{isName, decimal}
+use Rattle.rows.specs.Row.{nameAt, elementAt, rowAt, membersAt}
 use Rattle.groups.specs.Clauses.{memberPlace}
-use Rattle.table.specs.Types.{Ty, Members, unfilled, typeFrom}
-use Rattle.reference.specs.Reference.{Index, position, fromEnd, count, all, Id, name, index, isIdentifier, isPosition, readReference}
+use Rattle.table.specs.Types.{Ty, Members, unfilled, membersFrom, typeFrom}
+use Rattle.value.specs.Work.{first}
+use Rattle.reference.specs.Reference.{Index, position, fromEnd, count, all, Id, name, index, isPosition, readReference, givenIds}
 use Rattle.reference.specs.Allowed as allowed
 use Rattle.reference.specs.declared.Piece.{Piece}
 use Rattle.reference.specs.declared.Step.{Step}
@@ -32,10 +34,6 @@ abbrev pub capped : Id → Id
 capped (name x) = name x
 capped (index i) = index (cappedIndex i)
 
-unfoldable pub cappedIds : List Id → List Id
-cappedIds [] = []
-cappedIds (i ∷ is) = capped i ∷ cappedIds is
-
 -- the first identifier as the code holds it, the others as they are
 abbrev pub headCapped : Option (List Id) → Option (List Id)
 headCapped none = none
@@ -55,13 +53,9 @@ dotless (b ∷ s) = let r = suc (dotless s) in pick (eqb b 46) 0 r
 unfoldable pub endAt : List ℕ → ℕ → ℕ
 endAt r k = k + dotless (drop k r)
 
--- octet b may stand after octet a in an identifier
-unfoldable pub mayFollow : ℕ → ℕ → Bool
-mayFollow a b = either (isAlnum b) (both (eqb b 45) (no (eqb a 45)))
-
 -- ---- one component identifier, in the order of its forms
 abbrev pub wordId : List ℕ → Option Id
-wordId p = pick (isIdentifier p) (some (name p)) none
+wordId p = pick (isName p) (some (name p)) none
 
 abbrev pub otherId : List ℕ → Option Id
 otherId p = pick (both (eqb (octet p 0) 45) (isPosition (drop 1 p))) (some (index (fromEnd (decimal (drop 1 p))))) (wordId p)
@@ -119,6 +113,10 @@ stepOf Piece.Bad a b n = Step.Bad
 unfoldable pub namedOf : List ℕ → List ℕ → ℕ → List ℕ → ℕ → Bool
 namedOf t s row x j = same (unfilled (nameAt t (memberPlace s row j))) x
 
+-- the first of the row's members that has it; their number where none has
+abbrev pub firstNamed : List ℕ → List ℕ → ℕ → List ℕ → ℕ
+firstNamed t s row x = first (namedOf t s row x) (membersAt t (rowAt s row)) 0
+
 -- ---- one identifier of the text r, where the step has one
 abbrev pub stepId : List ℕ → Step → Option Id
 stepId r (Step.Name a b n) = some (name (part r a (b - a)))
@@ -170,4 +168,28 @@ along o g = bind o (λ is. bind g (λ h. allowed.allowedFrom is h))
 
 -- a reference, where one is given, at a type
 abbrev pub leadsTo : Bool → List ℕ → Ty → Option allowed.Target
-leadsTo given r ty = bind (pick given (readReference r) (some [])) (λ is. allowed.allowed is ty)
+leadsTo given r ty = bind (givenIds given r) (λ is. allowed.allowed is ty)
+
+-- ---- what the code's target g says, by the rows s of the table t: what the name x leads to among the members of a row
+abbrev pub rowMembers : ℕ → List ℕ → List ℕ → ℕ → Members
+rowMembers chain t s row = membersFrom (typeFrom chain t s) t s (row + 1) (membersAt t (rowAt s row))
+
+abbrev pub LeadsByName : ℕ → List ℕ → List ℕ → ℕ → List ℕ → Target → Type 0
+LeadsByName chain t s row x g = targetTold chain t s g ≡ allowed.underMembers (name x) (rowMembers chain t s row)
+
+-- what an identifier leads to among them; in the list of a row; from another target
+abbrev pub LeadsInMembers : ℕ → List ℕ → List ℕ → ℕ → Option Id → Target → Type 0
+LeadsInMembers chain t s row o g = targetTold chain t s g ≡ amongMembers o (rowMembers chain t s row)
+
+abbrev pub LeadsInList : ℕ → List ℕ → List ℕ → ℕ → Option Id → Target → Type 0
+LeadsInList chain t s row o g = targetTold chain t s g ≡ inList o (typeFrom chain t s (elementAt t (rowAt s row)))
+
+abbrev pub LeadsFrom : ℕ → List ℕ → List ℕ → Target → Option Id → Target → Type 0
+LeadsFrom chain t s from o g = targetTold chain t s g ≡ atTold o (targetTold chain t s from)
+
+-- what identifiers lead to from row 0, and a reference, where one is given
+abbrev pub LeadsAlong : ℕ → List ℕ → List ℕ → Option (List Id) → Target → Type 0
+LeadsAlong chain t s is g = targetTold chain t s g ≡ along is (targetTold chain t s (Target.Row 0))
+
+abbrev pub Leads : ℕ → List ℕ → List ℕ → Bool → List ℕ → Target → Type 0
+Leads chain t s given r g = targetTold chain t s g ≡ leadsTo given r (typeFrom chain t s 0)

@@ -4,15 +4,13 @@ ghost use mathlib.Core.Path.{_≡_};
 ghost use mathlib.Core.Bool.{true};
 ghost use Prim.Native.Nat.{_≤_, _<_, _+_, _-_};
 ghost use lib.ListN.{length};
-ghost use Rattle.octets.specs.Octets.{part, same};
-ghost use Rattle.octets.specs.Text.{decimal};
-ghost use Rattle.rows.specs.Row.{nameAt, kindAt, elementAt, rowAt, membersAt, isList};
-ghost use Rattle.table.specs.Types.{unfilled, membersFrom, typeFrom};
+ghost use Rattle.octets.specs.Octets.{between, same};
+ghost use Rattle.octets.specs.Text.{isName, decimal};
+ghost use Rattle.rows.specs.Row.{nameAt, kindAt, rowAt, isList};
+ghost use Rattle.table.specs.Types.{unfilled};
 ghost use Rattle.table.specs.Work.{Sound};
-ghost use Rattle.value.specs.Work.{first};
 ghost use Rattle.reference.specs.Reference as reference;
 ghost use Rattle.reference.specs.Reference.{name};
-ghost use Rattle.reference.specs.Allowed.{underMembers, ofType};
 ghost use Rattle.reference.specs.Work as work;
 
 // One component identifier: a name or an index, or none. A number beyond the largest is held as the largest.
@@ -51,24 +49,8 @@ pub enum Target {
 }
 
 // ---- one identifier
-// Whether octet b may stand after another in an identifier.
-fn may_follow(before: u8, b: u8) -> bool
-    ensures { λ r. ⌜ r ≡ work.mayFollow before b ⌝ }
-{
-    if octets::is_alnum(b) {
-        return true;
-    }
-    if b != 45 {
-        return false;
-    }
-    if before == 45 {
-        return false;
-    }
-    true
-}
-
-fn is_identifier(p: &[u8]) -> bool
-    ensures { λ r. ⌜ r ≡ reference.isIdentifier (now (p .entry)) ⌝ }
+fn is_name(p: &[u8]) -> bool
+    ensures { λ r. ⌜ r ≡ isName (now (p .entry)) ⌝ }
 {
     let mut a = octets::octet(p, 0);
     if !octets::is_lower(a) {
@@ -77,7 +59,7 @@ fn is_identifier(p: &[u8]) -> bool
     let mut i = 1;
     while i < p.len() {
         let b = p[i];
-        if !may_follow(a, b) {
+        if !octets::may_follow(a, b) {
             return false;
         }
         a = b;
@@ -116,7 +98,7 @@ fn number_of(p: &[u8]) -> usize
 fn read_word(p: &[u8]) -> Piece
     ensures { λ r. ⌜ work.pieceTold (now (p .entry)) r ≡ work.cappedId (work.wordId (now (p .entry))) ⌝ }
 {
-    if is_identifier(p) {
+    if is_name(p) {
         return Piece::Name;
     }
     Piece::Bad
@@ -202,16 +184,6 @@ pub fn next_id(r: &[u8], k: usize) -> Step
 }
 
 // ---- names
-// The octets from a to b.
-fn between(r: &[u8], a: usize, b: usize) -> &[u8]
-    ensures { λ p. ⌜ now p ≡ part (now (r .entry)) a (b - a) ⌝ }
-{
-    if b <= a {
-        return octets::part(r, a, 0);
-    }
-    octets::part(r, a, b - a)
-}
-
 // Whether a name's field has these octets, and then its fill or its end.
 fn has_name(field: &[u8], x: &[u8]) -> bool
     ensures { λ u. ⌜ u ≡ same (unfilled (now (field .entry))) (now (x .entry)) ⌝ }
@@ -237,10 +209,10 @@ fn has_name(field: &[u8], x: &[u8]) -> bool
 
 // Whether the member row at p has the name that stands from a to b. Most names differ in their first octet.
 pub fn is_named(t: &[u8], p: usize, r: &[u8], a: usize, b: usize) -> bool
-    ensures { λ u. ⌜ u ≡ same (unfilled (nameAt (now (t .entry)) p)) (part (now (r .entry)) a (b - a)) ⌝ }
+    ensures { λ u. ⌜ u ≡ same (unfilled (nameAt (now (t .entry)) p)) (between (now (r .entry)) a b) ⌝ }
 {
     let field = rows::name_at(t, p);
-    let x = between(r, a, b);
+    let x = octets::between(r, a, b);
     if octets::octet(field, 0) != octets::octet(x, 0) {
         return false;
     }
@@ -248,8 +220,8 @@ pub fn is_named(t: &[u8], p: usize, r: &[u8], a: usize, b: usize) -> bool
 }
 
 // The first member of a row with the name that stands from a to b; the number of members where none has it.
-pub fn find_named(t: &[u8], s: &[usize], row: usize, r: &[u8], a: usize, b: usize) -> usize
-    ensures { λ j. ⌜ j ≡ first (work.namedOf (now (t .entry)) (now (s .entry)) row (part (now (r .entry)) a (b - a))) (membersAt (now (t .entry)) (rowAt (now (s .entry)) row)) 0 ⌝ }
+fn find_named(t: &[u8], s: &[usize], row: usize, r: &[u8], a: usize, b: usize) -> usize
+    ensures { λ j. ⌜ j ≡ work.firstNamed (now (t .entry)) (now (s .entry)) row (between (now (r .entry)) a b) ⌝ }
 {
     let n = rows::members_at(t, rows::row_at(s, row));
     let mut j = 0;
@@ -282,7 +254,7 @@ fn place_after(step: Step) -> After
 fn under_name(t: &[u8], s: &[usize], m: &[u64], row: usize, r: &[u8], a: usize, b: usize) -> Target
     requires sound { do ⌜ Sound (← ⟦rows::Table::MAX_CHAIN⟧) (now t) (now s) (now m) ⌝ }
     requires here { ⌜ row < length (now s) ⌝ }
-    ensures leads { λ g. do ⌜ work.targetTold (← ⟦rows::Table::MAX_CHAIN⟧ .entry) (now (t .entry)) (now (s .entry)) g ≡ underMembers (name (part (now (r .entry)) a (b - a))) (membersFrom (typeFrom (← ⟦rows::Table::MAX_CHAIN⟧ .entry) (now (t .entry)) (now (s .entry))) (now (t .entry)) (now (s .entry)) (row + 1) (membersAt (now (t .entry)) (rowAt (now (s .entry)) row))) ⌝ }
+    ensures leads { λ g. do ⌜ work.LeadsByName (← ⟦rows::Table::MAX_CHAIN⟧ .entry) (now (t .entry)) (now (s .entry)) row (between (now (r .entry)) a b) g ⌝ }
     ensures within { λ g. ⌜ work.rowWithin (now (s .entry)) g ≡ true ⌝ }
 {
     let n = rows::members_at(t, rows::row_at(s, row));
@@ -297,7 +269,7 @@ fn under_name(t: &[u8], s: &[usize], m: &[u64], row: usize, r: &[u8], a: usize, 
 fn under_members(t: &[u8], s: &[usize], m: &[u64], row: usize, r: &[u8], step: Step) -> Target
     requires sound { do ⌜ Sound (← ⟦rows::Table::MAX_CHAIN⟧) (now t) (now s) (now m) ⌝ }
     requires here { ⌜ row < length (now s) ⌝ }
-    ensures leads { λ g. do ⌜ work.targetTold (← ⟦rows::Table::MAX_CHAIN⟧ .entry) (now (t .entry)) (now (s .entry)) g ≡ work.amongMembers (work.stepId (now (r .entry)) step) (membersFrom (typeFrom (← ⟦rows::Table::MAX_CHAIN⟧ .entry) (now (t .entry)) (now (s .entry))) (now (t .entry)) (now (s .entry)) (row + 1) (membersAt (now (t .entry)) (rowAt (now (s .entry)) row))) ⌝ }
+    ensures leads { λ g. do ⌜ work.LeadsInMembers (← ⟦rows::Table::MAX_CHAIN⟧ .entry) (now (t .entry)) (now (s .entry)) row (work.stepId (now (r .entry)) step) g ⌝ }
     ensures within { λ g. ⌜ work.rowWithin (now (s .entry)) g ≡ true ⌝ }
 {
     match step {
@@ -316,7 +288,7 @@ fn under_list(t: &[u8], s: &[usize], m: &[u64], row: usize, r: &[u8], step: Step
     requires sound { do ⌜ Sound (← ⟦rows::Table::MAX_CHAIN⟧) (now t) (now s) (now m) ⌝ }
     requires here { ⌜ row < length (now s) ⌝ }
     requires list { ⌜ isList (kindAt (now t) (rowAt (now s) row)) ≡ true ⌝ }
-    ensures leads { λ g. do ⌜ work.targetTold (← ⟦rows::Table::MAX_CHAIN⟧ .entry) (now (t .entry)) (now (s .entry)) g ≡ work.inList (work.stepId (now (r .entry)) step) (typeFrom (← ⟦rows::Table::MAX_CHAIN⟧ .entry) (now (t .entry)) (now (s .entry)) (elementAt (now (t .entry)) (rowAt (now (s .entry)) row))) ⌝ }
+    ensures leads { λ g. do ⌜ work.LeadsInList (← ⟦rows::Table::MAX_CHAIN⟧ .entry) (now (t .entry)) (now (s .entry)) row (work.stepId (now (r .entry)) step) g ⌝ }
     ensures within { λ g. ⌜ work.rowWithin (now (s .entry)) g ≡ true ⌝ }
 {
     let element = rows::element_at(t, rows::row_at(s, row));
@@ -335,7 +307,7 @@ fn under_list(t: &[u8], s: &[usize], m: &[u64], row: usize, r: &[u8], step: Step
 fn under_row(t: &[u8], s: &[usize], m: &[u64], row: usize, r: &[u8], step: Step) -> Target
     requires sound { do ⌜ Sound (← ⟦rows::Table::MAX_CHAIN⟧) (now t) (now s) (now m) ⌝ }
     requires here { ⌜ row < length (now s) ⌝ }
-    ensures leads { λ g. do ⌜ work.targetTold (← ⟦rows::Table::MAX_CHAIN⟧ .entry) (now (t .entry)) (now (s .entry)) g ≡ work.atTarget (work.stepId (now (r .entry)) step) (ofType (typeFrom (← ⟦rows::Table::MAX_CHAIN⟧ .entry) (now (t .entry)) (now (s .entry)) row)) ⌝ }
+    ensures leads { λ g. do ⌜ work.LeadsFrom (← ⟦rows::Table::MAX_CHAIN⟧ .entry) (now (t .entry)) (now (s .entry)) (Target.Row row) (work.stepId (now (r .entry)) step) g ⌝ }
     ensures within { λ g. ⌜ work.rowWithin (now (s .entry)) g ≡ true ⌝ }
 {
     let kind = rows::kind_at(t, rows::row_at(s, row));
@@ -352,7 +324,7 @@ fn under_row(t: &[u8], s: &[usize], m: &[u64], row: usize, r: &[u8], step: Step)
 fn under_target(t: &[u8], s: &[usize], m: &[u64], target: Target, r: &[u8], step: Step) -> Target
     requires sound { do ⌜ Sound (← ⟦rows::Table::MAX_CHAIN⟧) (now t) (now s) (now m) ⌝ }
     requires here { ⌜ work.rowWithin (now s) target ≡ true ⌝ }
-    ensures leads { λ g. do ⌜ work.targetTold (← ⟦rows::Table::MAX_CHAIN⟧ .entry) (now (t .entry)) (now (s .entry)) g ≡ work.atTold (work.stepId (now (r .entry)) step) (work.targetTold (← ⟦rows::Table::MAX_CHAIN⟧ .entry) (now (t .entry)) (now (s .entry)) target) ⌝ }
+    ensures leads { λ g. do ⌜ work.LeadsFrom (← ⟦rows::Table::MAX_CHAIN⟧ .entry) (now (t .entry)) (now (s .entry)) target (work.stepId (now (r .entry)) step) g ⌝ }
     ensures within { λ g. ⌜ work.rowWithin (now (s .entry)) g ≡ true ⌝ }
 {
     match target {
@@ -366,7 +338,7 @@ fn under_target(t: &[u8], s: &[usize], m: &[u64], target: Target, r: &[u8], step
 fn follow(t: &[u8], s: &[usize], m: &[u64], r: &[u8]) -> Target
     requires sound { do ⌜ Sound (← ⟦rows::Table::MAX_CHAIN⟧) (now t) (now s) (now m) ⌝ }
     requires rows { ⌜ 0 < length (now s) ⌝ }
-    ensures leads { λ g. do ⌜ work.targetTold (← ⟦rows::Table::MAX_CHAIN⟧ .entry) (now (t .entry)) (now (s .entry)) g ≡ work.along (work.idsAt (now (r .entry)) 0) (work.targetTold (← ⟦rows::Table::MAX_CHAIN⟧ .entry) (now (t .entry)) (now (s .entry)) (Target.Row 0)) ⌝ }
+    ensures leads { λ g. do ⌜ work.LeadsAlong (← ⟦rows::Table::MAX_CHAIN⟧ .entry) (now (t .entry)) (now (s .entry)) (work.idsAt (now (r .entry)) 0) g ⌝ }
     ensures within { λ g. ⌜ work.rowWithin (now (s .entry)) g ≡ true ⌝ }
 {
     let mut target = Target::Row(0);
@@ -388,7 +360,7 @@ fn follow(t: &[u8], s: &[usize], m: &[u64], r: &[u8]) -> Target
 pub fn target_of(t: &[u8], s: &[usize], m: &[u64], given: bool, r: &[u8]) -> Target
     requires sound { do ⌜ Sound (← ⟦rows::Table::MAX_CHAIN⟧) (now t) (now s) (now m) ⌝ }
     requires rows { ⌜ 0 < length (now s) ⌝ }
-    ensures leads { λ g. do ⌜ work.targetTold (← ⟦rows::Table::MAX_CHAIN⟧ .entry) (now (t .entry)) (now (s .entry)) g ≡ work.leadsTo given (now (r .entry)) (typeFrom (← ⟦rows::Table::MAX_CHAIN⟧ .entry) (now (t .entry)) (now (s .entry)) 0) ⌝ }
+    ensures leads { λ g. do ⌜ work.Leads (← ⟦rows::Table::MAX_CHAIN⟧ .entry) (now (t .entry)) (now (s .entry)) given (now (r .entry)) g ⌝ }
     ensures within { λ g. ⌜ work.rowWithin (now (s .entry)) g ≡ true ⌝ }
 {
     if !given {

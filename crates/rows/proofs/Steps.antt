@@ -9,9 +9,9 @@ use borrow.Author.Tests.{not-true, not-false, eq-eqb, ne-eqb, eqb-true, lt-leb, 
 use lib.Dec.{ltb, leb, eqb}
 use lib.ListN.{length, take, drop, length-take}
 use lib.Seq.{take-nil, getD-take, getD-drop, drop-drop}
-use Rattle.octets.specs.Pick.{all}
+use Rattle.octets.specs.Pick.{no, all}
 use Rattle.octets.specs.Octets.{octet, two, part, every, highest}
-use Rattle.octets.specs.Text.{within, isLower, isAlnum}
+use Rattle.octets.specs.Text.{within, isLower, mayFollow}
 use Rattle.octets.proofs.Laws.{octet-past, rest-none, part-rest, all-at, all-is, all-more, all-bad}
 use Rattle.octets.proofs.TextLaws.{every-is, every-at, highest-nought}
 use Rattle.rows.specs.Row.{nameOctetAt, defaultAt, isGroup, isList, rowSize, rowAt, membersAt}
@@ -91,23 +91,17 @@ module _ (most : ℕ) (t : List ℕ) (p k : ℕ) (read : k ≡ octet t p) where
   count-other n e = rw (← read, ne-eqb k 12 n, ne-eqb k 13 e)
 
 module _ (a b : ℕ) (n : a ≡ 0 → ⊥) where
-  pub follows-hyphen : (r : Bool) → a ≡ 45 → r ≡ isAlnum b → r ≡ follows a b
+  pub follows-end : b ≡ 0 → not (eqb a 45) ≡ follows a b
   unfolding follows
-  follows-hyphen r e q = rw (ne-eqb a 0 n, eq-eqb a 45 e) q
+  follows-end e = rw (ne-eqb a 0 n, eq-eqb b 0 e) (go (eqb a 45))
+    where
+      go : (u : Bool) → not u ≡ no u
+      go true = refl
+      go false = refl
 
-  module _ (m : a ≡ 45 → ⊥) where
-    pub follows-end : b ≡ 0 → true ≡ follows a b
-    unfolding follows
-    follows-end e = rw (ne-eqb a 0 n, ne-eqb a 45 m, eq-eqb b 0 e)
-
-    module _ (z : b ≡ 0 → ⊥) where
-      pub follows-single : b ≡ 45 → true ≡ follows a b
-      unfolding follows
-      follows-single e = rw (ne-eqb a 0 n, ne-eqb a 45 m, ne-eqb b 0 z, eq-eqb b 45 e)
-
-      pub follows-letter : (r : Bool) → (b ≡ 45 → ⊥) → r ≡ isAlnum b → r ≡ follows a b
-      unfolding follows
-      follows-letter r e q = rw (ne-eqb a 0 n, ne-eqb a 45 m, ne-eqb b 0 z, ne-eqb b 45 e) q
+  pub follows-name : (r : Bool) → (b ≡ 0 → ⊥) → r ≡ mayFollow a b → r ≡ follows a b
+  unfolding follows
+  follows-name r z q = rw (ne-eqb a 0 n, ne-eqb b 0 z) q
 
 pub follows-fill : (a b : ℕ) → a ≡ 0 → eqb b 0 ≡ follows a b
 unfolding follows

@@ -5,7 +5,7 @@ use mathlib.Core.List.{List}
 use lib.Dec.{leb, eqb}
 use Rattle.octets.specs.Pick.{pick, both, either, no, all}
 use Rattle.octets.specs.Octets.{part, every}
-use Rattle.octets.specs.Text.{within, isLower, isAlnum}
+use Rattle.octets.specs.Text.{within, isLower, mayFollow, mayBeLast}
 use Rattle.der.specs.Kind as kind
 use Rattle.rows.specs.Row.{kindAt, countAt, nameOctetAt, modeAt, numberAt, presenceAt, defaultLengthAt}
 
@@ -17,19 +17,19 @@ countFormed most t p =
     true)
 
 -- ---- "A name is a lowercase letter, then letters, digits and single hyphens, no hyphen last"; filled with zeros
--- what may follow an octet of a name: after the fill only fill, after a hyphen neither a hyphen nor the end
+-- what may follow an octet of a name's field: after the fill only fill, the fill after the last octet of a name, or an octet of the name
 unfoldable pub follows : ℕ → ℕ → Bool
 follows a b =
     pick (eqb a 0) (eqb b 0)
-    (pick (eqb a 45) (isAlnum b)
-    (either (eqb b 0) (either (eqb b 45) (isAlnum b))))
+    (pick (eqb b 0) (mayBeLast a)
+    (mayFollow a b))
 
 unfoldable pub followed : List ℕ → ℕ → ℕ → Bool
 followed t p j = follows (nameOctetAt t p j) (nameOctetAt t p (j + 1))
 
--- the name of the member row at p, of at most n octets
+-- the name of the member row at p, in a field of n octets
 unfoldable pub nameFormed : ℕ → List ℕ → ℕ → Bool
-nameFormed n t p = both (isLower (nameOctetAt t p 0)) (both (no (eqb (nameOctetAt t p (n - 1)) 45)) (all (followed t p) (n - 1)))
+nameFormed n t p = both (isLower (nameOctetAt t p 0)) (both (mayBeLast (nameOctetAt t p (n - 1))) (all (followed t p) (n - 1)))
 
 -- tag mode 0 none, 1 explicit, 2 implicit; context tag number 0..30, and 0 in mode 0
 unfoldable pub taggingFormed : ℕ → ℕ → Bool
@@ -49,10 +49,10 @@ isZero b = eqb b 0
 unfoldable pub defaultFilled : List ℕ → ℕ → Bool
 defaultFilled t p = both (leb (defaultLengthAt t p) 8) (every isZero (part t (p + (31 + defaultLengthAt t p)) (8 - defaultLengthAt t p)))
 
--- a member's body, with a name of at most so many octets
+-- a member's body, with a name's field of so many octets
 unfoldable pub memberFormed : ℕ → List ℕ → ℕ → Bool
 memberFormed name t p = both (nameFormed name t p) (both (tagFormed t p) (both (presenceFormed t p) (defaultFilled t p)))
 
--- at most so many members, names of at most so many octets
+-- at most so many members, names' fields of so many octets
 unfoldable pub rowFormed : ℕ → ℕ → List ℕ → ℕ → Bool
 rowFormed most name t p = pick (eqb (kindAt t p) kind.member) (memberFormed name t p) (countFormed most t p)

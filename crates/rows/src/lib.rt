@@ -235,22 +235,16 @@ fn count_formed(t: &[u8], p: usize) -> bool
     true
 }
 
-fn may_follow(a: u8, b: u8) -> bool
+fn follows(a: u8, b: u8) -> bool
     ensures { λ r. ⌜ r ≡ body.follows a b ⌝ }
 {
     if a == 0 {
         return b == 0;
     }
-    if a == 45 {
-        return octets::is_alnum(b);
-    }
     if b == 0 {
-        return true;
+        return a != 45;
     }
-    if b == 45 {
-        return true;
-    }
-    octets::is_alnum(b)
+    octets::may_follow(a, b)
 }
 
 // Whether each octet of a name may follow the one before it. Where the fill starts, all that is left of the name has to be fill.
@@ -262,7 +256,7 @@ fn name_spelt(t: &[u8], p: usize) -> bool
     let mut a = octets::octet(row, 1);
     while j < Table::MAX_NAME - 1 {
         let b = octets::octet(row, j + 2);
-        if !may_follow(a, b) {
+        if !follows(a, b) {
             return false;
         }
         if b == 0 {

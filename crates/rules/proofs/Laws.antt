@@ -1,6 +1,7 @@
 -- What the layers above use: the rule for a row is the rule for its type, and what a conforming text and legal contents give the code to read.
 use mathlib.Core.Path.{_≡_, refl, sym, ap, ap₂, subst, _∙_}
 use mathlib.Core.Bool.{Bool, true, false, false≢true}
+use mathlib.Core.Option.{Option, none, some}
 use mathlib.Core.List.{List}
 use Prim.Native.Nat.{ℕ, zero, suc, _≤_, _<_, _+_}
 use native.Mathlib.Omega.{arith}
@@ -8,7 +9,7 @@ use native.Mathlib.Nat.{add-zero}
 use borrow.Author.Tests.{eqb-true, le-leb}
 use lib.Dec.{eqb}
 use lib.ListN.{length}
-use Rattle.octets.specs.Pick.{pick, both, either, all}
+use Rattle.octets.specs.Pick.{pick, both, either, all, bind}
 use Rattle.octets.proofs.Laws.{both-true, all-none}
 use Rattle.octets.proofs.TextLaws.{all-suc}
 use Rattle.der.specs.Kind.{isString}
@@ -20,11 +21,11 @@ use Rattle.rows.proofs.KindLaws.{list-kinds}
 use Rattle.table.specs.Types.{untagged, explicit, implicit, Ty, basic, sequence, choice, listOf, Members, taggingOf, membersFrom, typed, typeFrom}
 use Rattle.table.specs.Work.{Sound}
 use Rattle.table.proofs.TypeCases.{tagging-cases, member-tagging, members-none, members-more}
-use Rattle.reference.specs.Allowed.{ofType}
-use Rattle.rules.specs.Rule.{Syntax, booleans, integers, objectIdentifiers, octetStrings, bitStrings, strings, times, Rule, present, equal, less}
+use Rattle.reference.specs.Allowed.{Target, ofType}
+use Rattle.rules.specs.Rule.{Syntax, booleans, integers, objectIdentifiers, octetStrings, bitStrings, strings, times, Rule, present, equal, less, ruleOf}
 use Rattle.rules.specs.Suits.{suitsKind, isUntagged, isStringType, allStrings, suitsTarget, suits}
 use Rattle.rules.specs.Asserted.{conformsTo, conforms}
-use Rattle.rules.specs.Accepts.{acceptsContents}
+use Rattle.rules.specs.RuleFor.{ifFor, ruleFor}
 use Rattle.rules.specs.Answers.{isRead, isReadBy, stringRow, suitsRow, ruleSuitsRow}
 
 -- ---- tests in a row, from the first and from the last
@@ -203,6 +204,15 @@ module _ (t c : List ℕ) where
   read-choice (equal x) ms h = choice-read x (both-true (suitsKind x 8) (allStrings ms) h .0)
   read-choice (less x) ms h = choice-read x (both-true (suitsKind x 8) (allStrings ms) h .0)
 
-  -- then the code's answer is the definition's
-  pub accepts-read : (r : Rule) (b : Bool) → isReadBy r t c ≡ true → b ≡ both (isReadBy r t c) (acceptsContents r t c) → b ≡ acceptsContents r t c
-  accepts-read r b h e = e ∙ ap (λ (y : Bool). both y (acceptsContents r t c)) h
+-- ---- the rule of an assertion is for the target, and the value text conforms
+pub rule-for-view : (g : Target) (rule value : List ℕ) (r : Rule) → ruleFor g rule value ≡ some r → (suits r g ≡ true) × (conforms r value ≡ true)
+unfolding ruleFor
+rule-for-view g rule value r = go (ruleOf rule)
+  where
+    fitting : (x : Rule) (b : Bool) → both (suits x g) (conforms x value) ≡ b → pick b (some x) none ≡ some r → (suits r g ≡ true) × (conforms r value ≡ true)
+    fitting x true e q = let z : x ≡ r = cc in both-true (suits r g) (conforms r value) (subst (λ (y : Rule). both (suits y g) (conforms y value) ≡ true) z e)
+    fitting x false e q = absurd (let z : _≡_ {A = ℕ} 0 1 = cc in omega arith)
+
+    go : (o : Option Rule) → bind o (ifFor g value) ≡ some r → (suits r g ≡ true) × (conforms r value ≡ true)
+    go none q = absurd (let z : _≡_ {A = ℕ} 0 1 = cc in omega arith)
+    go (some x) q = fitting x (both (suits x g) (conforms x value)) refl q

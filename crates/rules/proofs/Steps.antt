@@ -1,5 +1,5 @@
 -- One lemma for each case of a syntax or a rule.
-use mathlib.Core.Path.{_≡_, refl, sym, ap, _∙_}
+use mathlib.Core.Path.{_≡_, sym, ap, _∙_}
 use mathlib.Core.Bool.{Bool, true, false, not}
 use mathlib.Core.List.{List}
 use Prim.Native.Nat.{ℕ}
@@ -8,6 +8,7 @@ use lib.Dec.{leb, eqb}
 use lib.ListN.{length}
 use Rattle.octets.specs.Pick.{pick, both, all}
 use Rattle.octets.specs.Octets.{same, below, bytes}
+use Rattle.octets.proofs.Laws.{never}
 use Rattle.der.specs.Kind.{isString}
 use Rattle.der.specs.Time.{timeOf, sameTime, earlier}
 use Rattle.der.specs.Meaning.{plus, sameWhole, lessWhole, integerOf, booleanOf, arcsOf, bitsOf}
@@ -89,10 +90,6 @@ module _ (t c : List ℕ) (r u : Bool) (told : u ≡ booleanOf c) where
   pub boolean-false : u ≡ false → r ≡ same t (bytes "FALSE") → r ≡ pick (booleanOf c) (same t (bytes "TRUE")) (same t (bytes "FALSE"))
   boolean-false h e = rw (sym told ∙ h) e
 
-never : (x : Bool) → false ≡ both x false
-never true = refl
-never false = refl
-
 module _ (x : syntax.Syntax) (t c : List ℕ) where
   pub equal-booleans : (r : Bool) → x ≡ syntax.Syntax.Booleans → r ≡ pick (booleanOf c) (same t (bytes "TRUE")) (same t (bytes "FALSE")) → r ≡ both (isRead (syntaxOf x) t c) (isEqual (syntaxOf x) t c)
   unfolding isRead isEqual
@@ -140,7 +137,7 @@ module _ (x : syntax.Syntax) (t c : List ℕ) where
 
   pub less-bits : x ≡ syntax.Syntax.BitStrings → false ≡ both (isRead (syntaxOf x) t c) (isLess (syntaxOf x) t c)
   unfolding isRead isLess
-  less-bits e = rw e (never (leb (length c) 65536))
+  less-bits e = rw e (sym (never (leb (length c) 65536)))
 
   pub less-strings : (fold : Bool) → x ≡ syntax.Syntax.Strings fold → false ≡ both (isRead (syntaxOf x) t c) (isLess (syntaxOf x) t c)
   unfolding isRead isLess

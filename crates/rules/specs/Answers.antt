@@ -13,8 +13,10 @@ use Rattle.times.specs.Asserted.{isTime}
 use Rattle.rows.specs.Row.{kindAt, modeAt, rowAt, membersAt}
 use Rattle.groups.specs.Clauses.{memberPlace}
 use Rattle.groups.specs.Work.{memberType}
-use Rattle.rules.specs.Rule.{Syntax, booleans, integers, objectIdentifiers, octetStrings, bitStrings, strings, times, Rule, present, equal, less, sameName}
+use Rattle.rules.specs.Rule.{Syntax, booleans, integers, objectIdentifiers, octetStrings, bitStrings, strings, times, Rule, present, equal, less}
+use Rattle.rules.specs.Rule.{sameName}
 use Rattle.rules.specs.Suits.{suitsKind}
+use Rattle.rules.specs.Accepts.{isEqual, isLess, acceptsContents}
 use Rattle.rules.specs.declared.Syntax as syntax
 use Rattle.rules.specs.declared.Rule as rule
 use Rattle.rules.specs.declared.Named as named
@@ -57,6 +59,16 @@ unfoldable pub isReadBy : Rule → List ℕ → List ℕ → Bool
 isReadBy present t c = true
 isReadBy (equal s) t c = isRead s t c
 isReadBy (less s) t c = isRead s t c
+
+-- the code's answers
+abbrev pub isEqualRead : Syntax → List ℕ → List ℕ → Bool
+isEqualRead x t c = both (isRead x t c) (isEqual x t c)
+
+abbrev pub isLessRead : Syntax → List ℕ → List ℕ → Bool
+isLessRead x t c = both (isRead x t c) (isLess x t c)
+
+abbrev pub acceptsContentsRead : Rule → List ℕ → List ℕ → Bool
+acceptsContentsRead r t c = both (isReadBy r t c) (acceptsContents r t c)
 
 -- ---- the target as a row i of the rows s of a table t
 -- alternative j of row i has no tag and is a string

@@ -9,8 +9,12 @@ use Rattle.strings.specs.Prepared.{squeezed, folded, prepared}
 use Rattle.strings.specs.Asserted.{isText, assertedText}
 use Rattle.times.specs.Asserted.{isTime}
 use Rattle.rules.specs.Asserted.{isTruth, conformsTo, conforms}
+use Rattle.rules.specs.RuleFor.{ruleFor}
 use Rattle.rules.specs.Accepts.{isEqual, isLess, acceptsContents, acceptsCount, accepts}
 
 unfoldable pub rulesCompute : ℕ
-unfolding referenceComputes sameName ruleIn ruleOf allStrings suitsTarget suits squeezed folded prepared isTruth isInteger assertedInteger inQuotes isHexString isBitText isOctets assertedOctets isBits hexBits textBits assertedBits isText assertedText isTime conformsTo conforms isEqual isLess acceptsContents acceptsCount accepts
+unfolding referenceComputes sameName ruleIn ruleOf allStrings suitsTarget suits
+    squeezed folded prepared isTruth isInteger assertedInteger inQuotes isHexString isBitText isOctets assertedOctets
+    isBits hexBits textBits assertedBits isText assertedText isTime
+    conformsTo conforms ruleFor isEqual isLess acceptsContents acceptsCount accepts
 rulesCompute = 0

@@ -5,24 +5,19 @@ use mathlib.Core.Option.{Option, none, some}
 use mathlib.Core.List.{List, [], _∷_, _++_, map}
 use Prim.Native.Nat.{ℕ}
 use Prim.Native.String.{String}
-use Rattle.octets.specs.Pick.{pick, both, bind}
+use Rattle.octets.specs.Pick.{bind}
 use Rattle.octets.specs.Octets.{bytes, hex}
 use Rattle.table.specs.Types.{Tagging, untagged, explicit, mandatory, Ty, basic, sequence, choice, noMore, more}
 use Rattle.reference.specs.Allowed.{Target, ofType, ofCount}
 use Rattle.reference.specs.Numbers.{Component, stored, tallied}
-use Rattle.rules.specs.Rule.{Rule, ruleOf}
-use Rattle.rules.specs.Suits.{suits}
-use Rattle.rules.specs.Asserted.{conforms}
+use Rattle.rules.specs.RuleFor.{ruleFor}
 use Rattle.strings.specs.Prepared.{prepared}
 use Rattle.rules.specs.Accepts.{accepts}
 use Rattle.rules.specs.Computing.{rulesCompute}
 
 -- a rule's answer for one component of a target; none where it is Undefined
-abbrev applied : Target → List ℕ → Component → Rule → Option Bool
-applied g t c r = pick (both (suits r g) (conforms r t)) (some (accepts r t c)) none
-
 test : Target → String → Component → String → Option Bool
-test g rule c value = bind (ruleOf (bytes rule)) (applied g (bytes value) c)
+test g rule c value = bind (ruleFor g (bytes rule) (bytes value)) (λ r. some (accepts r (bytes value) c))
 
 abbrev contents : List ℕ → Component
 contents c = stored (record { place = 0; size = 0; contents = c })
@@ -66,7 +61,8 @@ octet-strings : tests 6 "octetStringMatch" (hex "0AFF") ("'0AFF'H" ∷ "'0A'H" �
 unfolding rulesCompute test tests
 octet-strings = refl
 
-octet-order : tests 6 "octetStringOrderingMatch" (hex "0AFF") ("'0AFF00'H" ∷ "'0AFF'H" ∷ "'0B'H" ∷ "'0A'H" ∷ "'0B'" ∷ []) ≡ some true ∷ some false ∷ some true ∷ some false ∷ none ∷ []
+octet-order : tests 6 "octetStringOrderingMatch" (hex "0AFF") ("'0AFF00'H" ∷ "'0AFF'H" ∷ "'0B'H" ∷ "'0A'H" ∷ "'0B'" ∷ [])
+    ≡ some true ∷ some false ∷ some true ∷ some false ∷ none ∷ []
 unfolding rulesCompute test tests
 octet-order = refl
 
@@ -90,43 +86,54 @@ unfolding rulesCompute test tests
 exact = refl
 
 -- `" "` equals a stored empty or all-space string; `""` inside stands for a quote; only A..Z are folded: C3 89 is no C3 A9
-spaces : tests 10 "caseExactMatch" [] ("\" \"" ∷ "\"\"\"\"" ∷ []) ++ tests 10 "caseExactMatch" (bytes "  ") ("\" \"" ∷ []) ++ tests 10 "caseExactMatch" (bytes "a\"b") ("\"a\"\"b\"" ∷ "\"a\"b\"" ∷ [])
+spaces : tests 10 "caseExactMatch" [] ("\" \"" ∷ "\"\"\"\"" ∷ []) ++ tests 10 "caseExactMatch" (bytes "  ") ("\" \"" ∷ [])
+    ++ tests 10 "caseExactMatch" (bytes "a\"b") ("\"a\"\"b\"" ∷ "\"a\"b\"" ∷ [])
     ≡ some true ∷ some false ∷ some true ∷ some true ∷ none ∷ []
 unfolding rulesCompute test tests
 spaces = refl
 
-folding : prepared true (hex "41C389") ∷ prepared false (hex "41C389") ∷ prepared true (hex "20412020C2A020") ∷ [] ≡ hex "61C389" ∷ hex "41C389" ∷ hex "6120C2A0" ∷ []
+folding : prepared true (hex "41C389") ∷ prepared false (hex "41C389") ∷ prepared true (hex "20412020C2A020") ∷ []
+    ≡ hex "61C389" ∷ hex "41C389" ∷ hex "6120C2A0" ∷ []
 unfolding rulesCompute
 folding = refl
 
-times : tests 11 "generalizedTimeMatch" (bytes "20240229120000.5Z") ("\"20240229120000.5Z\"" ∷ "\"20240229120000Z\"" ∷ "\"20240229120000.50Z\"" ∷ "\"20230229120000Z\"" ∷ "20240229120000.5Z" ∷ "\"202402291200Z\"" ∷ [])
+times : tests 11 "generalizedTimeMatch" (bytes "20240229120000.5Z") ("\"20240229120000.5Z\"" ∷ "\"20240229120000Z\"" ∷ "\"20240229120000.50Z\""
+    ∷ "\"20230229120000Z\"" ∷ "20240229120000.5Z" ∷ "\"202402291200Z\"" ∷ [])
     ≡ some true ∷ some false ∷ none ∷ none ∷ none ∷ none ∷ []
 unfolding rulesCompute test tests
 times = refl
 
-time-order : tests 11 "generalizedTimeOrderingMatch" (bytes "20240229120000.05Z") ("\"20240229120000.5Z\"" ∷ "\"20240229120000Z\"" ∷ "\"20240229120000.05Z\"" ∷ "\"20240229120001Z\"" ∷ "\"20240230120000Z\"" ∷ [])
+time-order : tests 11 "generalizedTimeOrderingMatch" (bytes "20240229120000.05Z") ("\"20240229120000.5Z\"" ∷ "\"20240229120000Z\"" ∷ "\"20240229120000.05Z\""
+    ∷ "\"20240229120001Z\"" ∷ "\"20240230120000Z\"" ∷ [])
     ≡ some true ∷ some false ∷ some false ∷ some true ∷ none ∷ []
 unfolding rulesCompute test tests
 time-order = refl
 
 -- ---- which rule is for which target
 -- INTEGER rules on a count; not on ENUMERATED; string rules on kinds 8, 9, 10
-targets : test ofCount "integerMatch" (tallied 6 2) "2" ∷ test ofCount "integerOrderingMatch" (tallied 6 2) "3" ∷ test ofCount "presentMatch" (tallied 6 2) "NULL" ∷ test ofCount "booleanMatch" (tallied 6 2) "TRUE"
-    ∷ test (ofType (basic 3)) "integerMatch" (contents (hex "02")) "2" ∷ test (ofType (basic 6)) "caseIgnoreMatch" (contents []) "\"a\"" ∷ test (ofType (sequence noMore)) "presentMatch" (contents []) "NULL" ∷ []
+targets : test ofCount "integerMatch" (tallied 6 2) "2" ∷ test ofCount "integerOrderingMatch" (tallied 6 2) "3"
+    ∷ test ofCount "presentMatch" (tallied 6 2) "NULL" ∷ test ofCount "booleanMatch" (tallied 6 2) "TRUE"
+    ∷ test (ofType (basic 3)) "integerMatch" (contents (hex "02")) "2" ∷ test (ofType (basic 6)) "caseIgnoreMatch" (contents []) "\"a\""
+    ∷ test (ofType (sequence noMore)) "presentMatch" (contents []) "NULL" ∷ []
     ≡ some true ∷ some true ∷ some true ∷ none ∷ none ∷ none ∷ some true ∷ []
 unfolding rulesCompute test
 targets = refl
 
 abbrev alternatives : Tagging → Ty → Target
-alternatives g ty = ofType (choice (more (record { row = 1; name = bytes "a"; tagging = untagged; presence = mandatory }) (basic 8) (more (record { row = 2; name = bytes "b"; tagging = g; presence = mandatory }) ty noMore)))
+alternatives g ty =
+    ofType (choice (more (record { row = 1; name = bytes "a"; tagging = untagged; presence = mandatory }) (basic 8)
+    (more (record { row = 2; name = bytes "b"; tagging = g; presence = mandatory }) ty noMore)))
 
 -- a CHOICE of untagged string rows; with a tagged one; with one that is no string
-choices : map (λ g. test g "caseIgnoreMatch" (contents (bytes "A")) "\"a\"") (alternatives untagged (basic 9) ∷ alternatives (explicit 0) (basic 9) ∷ alternatives untagged (basic 2) ∷ []) ≡ some true ∷ none ∷ none ∷ []
+choices : map (λ g. test g "caseIgnoreMatch" (contents (bytes "A")) "\"a\"") (alternatives untagged (basic 9) ∷ alternatives (explicit 0) (basic 9)
+    ∷ alternatives untagged (basic 2) ∷ [])
+    ≡ some true ∷ none ∷ none ∷ []
 unfolding rulesCompute test
 choices = refl
 
 -- names without regard to case, OIDs, unknown ones
-names : map (λ r. test (ofType (basic 2)) r (contents (hex "01")) "1") ("INTEGERmatch" ∷ "2.5.13.14" ∷ "2.5.13.15" ∷ "integerMatches" ∷ "2.5.13.140" ∷ "caseIgnoreMatch" ∷ [])
+names : map (λ r. test (ofType (basic 2)) r (contents (hex "01")) "1") ("INTEGERmatch" ∷ "2.5.13.14" ∷ "2.5.13.15" ∷ "integerMatches" ∷ "2.5.13.140"
+    ∷ "caseIgnoreMatch" ∷ [])
     ≡ some true ∷ some true ∷ some false ∷ none ∷ none ∷ none ∷ []
 unfolding rulesCompute test
 names = refl

@@ -1,6 +1,7 @@
 pub mod Rule
 pub mod Suits
 pub mod Asserted
+pub mod RuleFor
 pub mod Accepts
 pub mod Answers
 pub mod Computing

@@ -2,7 +2,7 @@
 ghost use mathlib.Core.Path.{_≡_};
 ghost use lib.Dec.{eqb};
 ghost use lib.ListN.{drop};
-ghost use Rattle.octets.specs.Pick.{pick, both, all};
+ghost use Rattle.octets.specs.Pick.{pick, all};
 ghost use Rattle.octets.specs.Octets.{same, bytes};
 ghost use Rattle.octets.specs.Text.{lower};
 ghost use Rattle.der.specs.Kind.{isString};
@@ -184,7 +184,7 @@ fn same_boolean(t: &[u8], c: &[u8]) -> bool
 }
 
 fn is_equal(x: Syntax, t: &[u8], c: &[u8]) -> bool
-    ensures { λ r. ⌜ r ≡ both (answers.isRead (answers.syntaxOf x) (now (t .entry)) (now (c .entry))) (accepting.isEqual (answers.syntaxOf x) (now (t .entry)) (now (c .entry))) ⌝ }
+    ensures { λ r. ⌜ r ≡ answers.isEqualRead (answers.syntaxOf x) (now (t .entry)) (now (c .entry)) ⌝ }
 {
     match x {
         Syntax::Booleans => same_boolean(t, c),
@@ -198,7 +198,7 @@ fn is_equal(x: Syntax, t: &[u8], c: &[u8]) -> bool
 }
 
 fn is_less(x: Syntax, t: &[u8], c: &[u8]) -> bool
-    ensures { λ r. ⌜ r ≡ both (answers.isRead (answers.syntaxOf x) (now (t .entry)) (now (c .entry))) (accepting.isLess (answers.syntaxOf x) (now (t .entry)) (now (c .entry))) ⌝ }
+    ensures { λ r. ⌜ r ≡ answers.isLessRead (answers.syntaxOf x) (now (t .entry)) (now (c .entry)) ⌝ }
 {
     match x {
         Syntax::Booleans => false,
@@ -213,7 +213,7 @@ fn is_less(x: Syntax, t: &[u8], c: &[u8]) -> bool
 
 // Whether a rule accepts contents, stored or a default's.
 pub fn accepts_contents(rule: Rule, t: &[u8], c: &[u8]) -> bool
-    ensures { λ r. ⌜ r ≡ both (answers.isReadBy (answers.meant rule) (now (t .entry)) (now (c .entry))) (accepting.acceptsContents (answers.meant rule) (now (t .entry)) (now (c .entry))) ⌝ }
+    ensures { λ r. ⌜ r ≡ answers.acceptsContentsRead (answers.meant rule) (now (t .entry)) (now (c .entry)) ⌝ }
 {
     match rule {
         Rule::Present => true,

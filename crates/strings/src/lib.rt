@@ -144,7 +144,7 @@ fn emit(b: u8, before: Before, at: usize, after: usize) -> Step
 }
 
 // The next octet of the prepared string.
-pub fn next(s: &[u8], quoted: bool, fold: bool, c: Cursor) -> Step
+fn next(s: &[u8], quoted: bool, fold: bool, c: Cursor) -> Step
     ensures { λ r. ⌜ cursor.told fold quoted (now (s .entry)) r ≡ cursor.rest fold quoted (now (s .entry)) c ⌝ }
 {
     let mut at = c.at;

@@ -10,6 +10,7 @@ use Rattle.octets.specs.Pick.{both}
 use Rattle.octets.specs.Octets.{every}
 use Rattle.octets.specs.Quoted.{undoubled}
 use Rattle.octets.proofs.QuotedLaws.{noQuote, undoubled-plain, undoubled-quoted}
+use Rattle.octets.proofs.Laws.{never}
 use Rattle.der.specs.Time.{legalTime, timeOf, sameTime, earlier}
 use Rattle.der.specs.declared.Time.{Time}
 use Rattle.der.proofs.Laws.{time-octets}
@@ -44,13 +45,9 @@ module _ (t p : List ℕ) (part : undoubled p ≡ assertedText t) where
   pub time-is : (r : Bool) → r ≡ legalTime p → r ≡ isTime t
   time-is r e = e ∙ go (legalTime p) refl ∙ sym time-by
     where
-      never : (x : Bool) → false ≡ both x false
-      never true = refl
-      never false = refl
-
       go : (u : Bool) → legalTime p ≡ u → u ≡ both (isText t) u
       go true h = sym (ap (λ (x : Bool). both x true) (has-text h))
-      go false h = never (isText t)
+      go false h = sym (never (isText t))
 
   module _ (u : Bool) (told : u ≡ legalTime p) where
     pub time-bad : (x : Bool) → not u ≡ true → false ≡ both (isTime t) x

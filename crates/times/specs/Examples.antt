@@ -7,7 +7,8 @@ use Rattle.der.specs.Computing.{derComputes}
 use Rattle.strings.specs.Asserted.{isText, assertedText}
 use Rattle.times.specs.Asserted.{isTime}
 
-conforming : map isTime (bytes "\"20240229120000.5Z\"" ∷ bytes "\"20240229120000Z\"" ∷ bytes "\"20240229120000.50Z\"" ∷ bytes "\"20230229120000Z\"" ∷ bytes "20240229120000Z" ∷ bytes "\"202402291200Z\"" ∷ [])
+conforming : map isTime (bytes "\"20240229120000.5Z\"" ∷ bytes "\"20240229120000Z\"" ∷ bytes "\"20240229120000.50Z\"" ∷ bytes "\"20230229120000Z\""
+    ∷ bytes "20240229120000Z" ∷ bytes "\"202402291200Z\"" ∷ [])
     ≡ true ∷ true ∷ false ∷ false ∷ false ∷ false ∷ []
 unfolding derComputes isText assertedText isTime
 conforming = refl

@@ -10,7 +10,7 @@ read-header-spec =
     (tie.spec
     (λ c. search header-none)  -- returns
     (λ c κs. search needs)  -- octet-requires
-    (λ c κs. search needs)  -- number-requires
+    (λ c κs. search needs)  -- split-requires
     (λ c. search header-31)  -- returns-2
     (λ c. search needs)  -- add-read-length
     (λ c κs. search needs)  -- read-length-requires

@@ -1,5 +1,5 @@
 use Rattle.octets.proofs.Tests.{tests}
-use Rattle.groups.specs.Work.{larger}
+use Rattle.octets.specs.Octets.{larger}
 use Rattle.groups.proofs.larger.Statement.{statement}
 use Rattle.groups.proofs.larger.Tie as tie
 

@@ -1,5 +1,5 @@
 use Rattle.reference.proofs.FollowSteps.{follow-less, follow-on, follow-within, follow-end, follow-bad}
-use Rattle.reference.proofs.UnderSteps.{first-within, still-within, none-within}
+use Rattle.reference.proofs.UnderSteps.{first-within, still-within}
 use mathlib.Core.Path.{_≡_, refl}
 use mathlib.Core.Bool.{true}
 use Prim.Native.Nat.{_≤_, _+_, _-_}
@@ -32,4 +32,4 @@ follow-spec =
     (λ c. search needs)  -- enum-told
     (λ c. (search follow-end, search still-within))  -- returns
     (λ c. search needs)  -- enum-told-2
-    (λ c. (search follow-bad, search none-within)))  -- returns-2
+    (λ c. (search follow-bad, refl)))  -- returns-2

@@ -1,4 +1,5 @@
-use Rattle.reference.proofs.IdSteps.{next-end, end-advances, next-is, next-advances}
+use mathlib.Core.Path.{refl}
+use Rattle.reference.proofs.IdSteps.{next-end, next-is, next-advances}
 use borrow.Author.Needs.{needs}
 use Rattle.reference.proofs.next_id.Statement.{statement}
 use Rattle.reference.proofs.next_id.Tie as tie
@@ -7,7 +8,7 @@ pub next-id-spec : {M : Type 1} → statement M
 next-id-spec =
     tie.close
     (tie.spec
-    (λ c. (search next-end, search end-advances))  -- returns
+    (λ c. (search next-end, refl))  -- returns
     (λ c κs. search needs)  -- end-at-requires
     (λ c. search needs)  -- sub-part
     (λ c κs. search needs)  -- part-requires

@@ -1,4 +1,5 @@
-use Rattle.reference.proofs.UnderSteps.{name-none, none-within, name-found, name-within}
+use mathlib.Core.Path.{refl}
+use Rattle.reference.proofs.UnderSteps.{name-none, name-found, name-within}
 use borrow.Author.Needs.{needs}
 use Rattle.reference.proofs.under_name.Statement.{statement}
 use Rattle.reference.proofs.under_name.Tie as tie
@@ -10,6 +11,6 @@ under-name-spec =
     (λ c κs. search needs)  -- row-at-requires
     (λ c κs. search needs)  -- members-at-requires
     (λ c κs. search needs)  -- find-named-requires
-    (λ c. (search name-none, search none-within))  -- returns
+    (λ c. (search name-none, refl))  -- returns
     (λ c κs. search needs)  -- member-type-requires
     (λ c. (search name-found, search name-within)))  -- returns-2

@@ -1,4 +1,5 @@
-use Rattle.reference.proofs.UnderSteps.{row-members, still-within, row-list, row-elements, row-basic, none-within}
+use mathlib.Core.Path.{refl}
+use Rattle.reference.proofs.UnderSteps.{row-members, still-within, row-list, row-elements, row-basic}
 use borrow.Author.Needs.{needs}
 use Rattle.reference.proofs.under_row.Statement.{statement}
 use Rattle.reference.proofs.under_row.Tie as tie
@@ -15,4 +16,4 @@ under-row-spec =
     (λ c κs. search needs)  -- is-list-requires
     (λ c κs. (search needs, (search needs, search row-list)))  -- under-list-requires
     (λ c. (search row-elements, search still-within))  -- returns-2
-    (λ c. (search row-basic, search none-within)))  -- returns-3
+    (λ c. (search row-basic, refl)))  -- returns-3

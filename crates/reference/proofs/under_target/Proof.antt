@@ -1,5 +1,6 @@
+use mathlib.Core.Path.{refl}
 use Rattle.reference.proofs.Laws.{row-here}
-use Rattle.reference.proofs.UnderSteps.{target-row, still-within, target-count, none-within, target-none}
+use Rattle.reference.proofs.UnderSteps.{target-row, still-within, target-count, target-none}
 use borrow.Author.Needs.{needs}
 use Rattle.reference.proofs.under_target.Statement.{statement}
 use Rattle.reference.proofs.under_target.Tie as tie
@@ -13,5 +14,5 @@ under-target-spec =
     (λ c. search needs)  -- enum-told
     (λ c. search needs)  -- enum-told-2
     (λ c. (search target-row, search still-within))  -- returns
-    (λ c. (search target-count, search none-within))  -- returns-2
-    (λ c. (search target-none, search none-within)))  -- returns-3
+    (λ c. (search target-count, refl))  -- returns-2
+    (λ c. (search target-none, refl)))  -- returns-3

@@ -29,7 +29,7 @@ name-spelt-spec =
     (λ c. search needs)  -- sub-loop
     (λ c. search needs)  -- add-octet
     (λ c κs. search needs)  -- octet-requires-2
-    (λ c κs. search needs)  -- may-follow-requires
+    (λ c κs. search needs)  -- follows-requires
     (λ c. search spelt-bad)  -- returns
     (λ c. search needs)  -- sub-left
     (λ c. search needs)  -- sub-left-2

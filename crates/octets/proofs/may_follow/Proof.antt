@@ -1,7 +1,7 @@
-use Rattle.reference.proofs.IdSteps.{follow-alnum, follow-other, follow-double, follow-hyphen}
+use Rattle.octets.proofs.Steps.{follow-alnum, follow-other, follow-double, follow-hyphen}
 use borrow.Author.Needs.{needs}
-use Rattle.reference.proofs.may_follow.Statement.{statement}
-use Rattle.reference.proofs.may_follow.Tie as tie
+use Rattle.octets.proofs.may_follow.Statement.{statement}
+use Rattle.octets.proofs.may_follow.Tie as tie
 
 pub may-follow-spec : {M : Type 1} → statement M
 may-follow-spec = tie.close (tie.spec

@@ -1,7 +1,7 @@
-use Rattle.assertion.proofs.Steps.{between-none}
+use Rattle.octets.proofs.Steps.{between-none}
 use borrow.Author.Needs.{needs}
-use Rattle.assertion.proofs.between.Statement.{statement}
-use Rattle.assertion.proofs.between.Tie as tie
+use Rattle.octets.proofs.between.Statement.{statement}
+use Rattle.octets.proofs.between.Tie as tie
 
 pub between-spec : {M : Type 1} → statement M
 between-spec = tie.close (tie.spec

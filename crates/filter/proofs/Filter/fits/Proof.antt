@@ -1,7 +1,7 @@
 use Rattle.filter.specs.Parse.{filterFits}
 use Rattle.octets.proofs.Tests.{tests}
-use Rattle.filter.proofs.fits.Statement.{statement}
-use Rattle.filter.proofs.fits.Tie as tie
+use Rattle.filter.proofs.Filter.fits.Statement.{statement}
+use Rattle.filter.proofs.Filter.fits.Tie as tie
 
 pub fits-spec : {M : Type 1} → statement M
 unfolding filterFits
