@@ -2,7 +2,7 @@
 use Prim.Native.Nat.{ℕ, _≤_, _*_}
 use mathlib.Core.Path.{_≡_, refl, ap, _∙_}
 use mathlib.Core.Bool.{Bool, true, false}
-use mathlib.Core.Option.{Option, none, some}
+use mathlib.Core.Option.{none, some}
 use mathlib.Core.List.{List}
 use native.Mathlib.Omega.{arith}
 use borrow.Author.Tests.{lt-ltb, le-ltb, le-leb}
@@ -17,16 +17,14 @@ use Rattle.value.specs.Decode.{storedValue}
 use Rattle.reference.specs.Reference.{Id, identifiers, givenIds}
 use Rattle.reference.specs.Allowed as reference
 use Rattle.reference.specs.Named.{named}
-use Rattle.rules.specs.Rule.{Rule, ruleOf}
-use Rattle.rules.specs.Suits.{suits}
-use Rattle.rules.specs.Asserted.{conforms}
+use Rattle.rules.specs.Rule.{Rule}
 use Rattle.rules.specs.Accepts.{accepts}
 use Rattle.filter.specs.Filter.{Item}
 use Rattle.trail.specs.Trail.{trail}
 use Rattle.trail.proofs.Agreeing.{laid, trail-named, laid-sound, laid-reached}
 use Rattle.trail.proofs.Spreading.{named-spread}
 use Rattle.judge.specs.Reading.{reading}
-use Rattle.judge.specs.Assertion.{Asked, asked, outcomeOf, outcome}
+use Rattle.judge.specs.Assertion.{asked, outcomeOf, outcome}
 use Rattle.engine.specs.Paper.{limits}
 use Rattle.engine.specs.Answer.{Report, budgeted, questionFits, evaluated, withFilter, questionOf, askReport}
 use Rattle.engine.specs.Listing.{Listing, written, listed, walked, referenceFits, listingFits, listReport, withIds, listingOf}

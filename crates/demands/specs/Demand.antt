@@ -6,7 +6,7 @@ use mathlib.Core.Option.{Option, none, some}
 use mathlib.Core.List.{List, _++_}
 use lib.ListN.{length, drop}
 use lib.Dec.{leb}
-use Rattle.octets.specs.Pick.{pick, both, bind}
+use Rattle.octets.specs.Pick.{pick}
 use Rattle.table.specs.Types.{typeAt}
 use Rattle.table.specs.Admitted as table
 use Rattle.value.specs.Value.{Value}

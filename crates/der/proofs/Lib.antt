@@ -1,4 +1,3 @@
-pub mod Tests
 pub mod Laws
 pub mod DottedLaws
 pub mod MeaningLaws

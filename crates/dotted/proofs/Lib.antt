@@ -1,4 +1,3 @@
-pub mod Tests
 pub mod ArcSteps
 pub mod Steps
 pub mod HeldSteps

@@ -12,6 +12,7 @@ ghost use Rattle.table.specs.Work.{Sound};
 ghost use Rattle.reference.specs.Reference as reference;
 ghost use Rattle.reference.specs.Reference.{name};
 ghost use Rattle.reference.specs.Work as work;
+ghost use Rattle.rows.specs.Paper.{tableLimits};
 
 // One component identifier: a name or an index, or none. A number beyond the largest is held as the largest.
 enum Piece {
@@ -252,9 +253,9 @@ fn place_after(step: Step) -> After
 
 // The member of a row with the name that stands from a to b.
 fn under_name(t: &[u8], s: &[usize], m: &[u64], row: usize, r: &[u8], a: usize, b: usize) -> Target
-    requires sound { do ⌜ Sound (← ⟦rows::Table::MAX_CHAIN⟧) (now t) (now s) (now m) ⌝ }
+    requires sound { ⌜ Sound (tableLimits .chain) (now t) (now s) (now m) ⌝ }
     requires here { ⌜ row < length (now s) ⌝ }
-    ensures leads { λ g. do ⌜ work.LeadsByName (← ⟦rows::Table::MAX_CHAIN⟧ .entry) (now (t .entry)) (now (s .entry)) row (between (now (r .entry)) a b) g ⌝ }
+    ensures leads { λ g. ⌜ work.LeadsByName (tableLimits .chain) (now (t .entry)) (now (s .entry)) row (between (now (r .entry)) a b) g ⌝ }
     ensures within { λ g. ⌜ work.rowWithin (now (s .entry)) g ≡ true ⌝ }
 {
     let n = rows::members_at(t, rows::row_at(s, row));
@@ -267,9 +268,9 @@ fn under_name(t: &[u8], s: &[usize], m: &[u64], row: usize, r: &[u8], a: usize, 
 
 // One identifier on a SEQUENCE or CHOICE.
 fn under_members(t: &[u8], s: &[usize], m: &[u64], row: usize, r: &[u8], step: Step) -> Target
-    requires sound { do ⌜ Sound (← ⟦rows::Table::MAX_CHAIN⟧) (now t) (now s) (now m) ⌝ }
+    requires sound { ⌜ Sound (tableLimits .chain) (now t) (now s) (now m) ⌝ }
     requires here { ⌜ row < length (now s) ⌝ }
-    ensures leads { λ g. do ⌜ work.LeadsInMembers (← ⟦rows::Table::MAX_CHAIN⟧ .entry) (now (t .entry)) (now (s .entry)) row (work.stepId (now (r .entry)) step) g ⌝ }
+    ensures leads { λ g. ⌜ work.LeadsInMembers (tableLimits .chain) (now (t .entry)) (now (s .entry)) row (work.stepId (now (r .entry)) step) g ⌝ }
     ensures within { λ g. ⌜ work.rowWithin (now (s .entry)) g ≡ true ⌝ }
 {
     match step {
@@ -285,10 +286,10 @@ fn under_members(t: &[u8], s: &[usize], m: &[u64], row: usize, r: &[u8], step: S
 
 // One identifier on a SEQUENCE OF or SET OF.
 fn under_list(t: &[u8], s: &[usize], m: &[u64], row: usize, r: &[u8], step: Step) -> Target
-    requires sound { do ⌜ Sound (← ⟦rows::Table::MAX_CHAIN⟧) (now t) (now s) (now m) ⌝ }
+    requires sound { ⌜ Sound (tableLimits .chain) (now t) (now s) (now m) ⌝ }
     requires here { ⌜ row < length (now s) ⌝ }
     requires list { ⌜ isList (kindAt (now t) (rowAt (now s) row)) ≡ true ⌝ }
-    ensures leads { λ g. do ⌜ work.LeadsInList (← ⟦rows::Table::MAX_CHAIN⟧ .entry) (now (t .entry)) (now (s .entry)) row (work.stepId (now (r .entry)) step) g ⌝ }
+    ensures leads { λ g. ⌜ work.LeadsInList (tableLimits .chain) (now (t .entry)) (now (s .entry)) row (work.stepId (now (r .entry)) step) g ⌝ }
     ensures within { λ g. ⌜ work.rowWithin (now (s .entry)) g ≡ true ⌝ }
 {
     let element = rows::element_at(t, rows::row_at(s, row));
@@ -305,9 +306,9 @@ fn under_list(t: &[u8], s: &[usize], m: &[u64], row: usize, r: &[u8], step: Step
 
 // One identifier on the type of a row.
 fn under_row(t: &[u8], s: &[usize], m: &[u64], row: usize, r: &[u8], step: Step) -> Target
-    requires sound { do ⌜ Sound (← ⟦rows::Table::MAX_CHAIN⟧) (now t) (now s) (now m) ⌝ }
+    requires sound { ⌜ Sound (tableLimits .chain) (now t) (now s) (now m) ⌝ }
     requires here { ⌜ row < length (now s) ⌝ }
-    ensures leads { λ g. do ⌜ work.LeadsFrom (← ⟦rows::Table::MAX_CHAIN⟧ .entry) (now (t .entry)) (now (s .entry)) (Target.Row row) (work.stepId (now (r .entry)) step) g ⌝ }
+    ensures leads { λ g. ⌜ work.LeadsFrom (tableLimits .chain) (now (t .entry)) (now (s .entry)) (Target.Row row) (work.stepId (now (r .entry)) step) g ⌝ }
     ensures within { λ g. ⌜ work.rowWithin (now (s .entry)) g ≡ true ⌝ }
 {
     let kind = rows::kind_at(t, rows::row_at(s, row));
@@ -322,9 +323,9 @@ fn under_row(t: &[u8], s: &[usize], m: &[u64], row: usize, r: &[u8], step: Step)
 
 // One identifier on what those before it lead to.
 fn under_target(t: &[u8], s: &[usize], m: &[u64], target: Target, r: &[u8], step: Step) -> Target
-    requires sound { do ⌜ Sound (← ⟦rows::Table::MAX_CHAIN⟧) (now t) (now s) (now m) ⌝ }
+    requires sound { ⌜ Sound (tableLimits .chain) (now t) (now s) (now m) ⌝ }
     requires here { ⌜ work.rowWithin (now s) target ≡ true ⌝ }
-    ensures leads { λ g. do ⌜ work.LeadsFrom (← ⟦rows::Table::MAX_CHAIN⟧ .entry) (now (t .entry)) (now (s .entry)) target (work.stepId (now (r .entry)) step) g ⌝ }
+    ensures leads { λ g. ⌜ work.LeadsFrom (tableLimits .chain) (now (t .entry)) (now (s .entry)) target (work.stepId (now (r .entry)) step) g ⌝ }
     ensures within { λ g. ⌜ work.rowWithin (now (s .entry)) g ≡ true ⌝ }
 {
     match target {
@@ -336,9 +337,9 @@ fn under_target(t: &[u8], s: &[usize], m: &[u64], target: Target, r: &[u8], step
 
 // What a reference leads to from the type of row 0.
 fn follow(t: &[u8], s: &[usize], m: &[u64], r: &[u8]) -> Target
-    requires sound { do ⌜ Sound (← ⟦rows::Table::MAX_CHAIN⟧) (now t) (now s) (now m) ⌝ }
+    requires sound { ⌜ Sound (tableLimits .chain) (now t) (now s) (now m) ⌝ }
     requires rows { ⌜ 0 < length (now s) ⌝ }
-    ensures leads { λ g. do ⌜ work.LeadsAlong (← ⟦rows::Table::MAX_CHAIN⟧ .entry) (now (t .entry)) (now (s .entry)) (work.idsAt (now (r .entry)) 0) g ⌝ }
+    ensures leads { λ g. ⌜ work.LeadsAlong (tableLimits .chain) (now (t .entry)) (now (s .entry)) (work.idsAt (now (r .entry)) 0) g ⌝ }
     ensures within { λ g. ⌜ work.rowWithin (now (s .entry)) g ≡ true ⌝ }
 {
     let mut target = Target::Row(0);
@@ -358,9 +359,9 @@ fn follow(t: &[u8], s: &[usize], m: &[u64], r: &[u8]) -> Target
 
 // What a reference, where one is given, leads to from the type of row 0: a type or the count; nothing where it is malformed or not allowed.
 pub fn target_of(t: &[u8], s: &[usize], m: &[u64], given: bool, r: &[u8]) -> Target
-    requires sound { do ⌜ Sound (← ⟦rows::Table::MAX_CHAIN⟧) (now t) (now s) (now m) ⌝ }
+    requires sound { ⌜ Sound (tableLimits .chain) (now t) (now s) (now m) ⌝ }
     requires rows { ⌜ 0 < length (now s) ⌝ }
-    ensures leads { λ g. do ⌜ work.Leads (← ⟦rows::Table::MAX_CHAIN⟧ .entry) (now (t .entry)) (now (s .entry)) given (now (r .entry)) g ⌝ }
+    ensures leads { λ g. ⌜ work.Leads (tableLimits .chain) (now (t .entry)) (now (s .entry)) given (now (r .entry)) g ⌝ }
     ensures within { λ g. ⌜ work.rowWithin (now (s .entry)) g ≡ true ⌝ }
 {
     if !given {

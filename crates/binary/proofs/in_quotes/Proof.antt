@@ -1,4 +1,4 @@
-use Rattle.binary.proofs.Tests.{tests}
+use Rattle.octets.proofs.Tests.{tests}
 use Rattle.binary.specs.Asserted.{inQuotes}
 use borrow.Author.Needs.{needs}
 use Rattle.binary.proofs.in_quotes.Statement.{statement}

@@ -1,4 +1,4 @@
-use Rattle.der.proofs.Tests.{tests}
+use Rattle.octets.proofs.Tests.{tests}
 use Rattle.der.specs.Time.{earlier}
 use Rattle.der.proofs.earlier.Statement.{statement}
 use Rattle.der.proofs.earlier.Tie as tie

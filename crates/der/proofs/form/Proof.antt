@@ -1,4 +1,4 @@
-use Rattle.der.proofs.Tests.{tests}
+use Rattle.octets.proofs.Tests.{tests}
 use Rattle.der.specs.Kind.{isConstructed}
 use Rattle.der.proofs.form.Statement.{statement}
 use Rattle.der.proofs.form.Tie as tie

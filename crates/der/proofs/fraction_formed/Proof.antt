@@ -1,5 +1,5 @@
 use Rattle.der.proofs.TimeSteps.{fraction-last, fraction-other}
-use Rattle.der.proofs.Tests.{tests}
+use Rattle.octets.proofs.Tests.{tests}
 use Rattle.der.specs.Time.{fractionFormed}
 use borrow.Author.Needs.{needs}
 use Rattle.der.proofs.fraction_formed.Statement.{statement}

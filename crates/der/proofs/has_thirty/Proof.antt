@@ -1,4 +1,4 @@
-use Rattle.der.proofs.Tests.{tests}
+use Rattle.octets.proofs.Tests.{tests}
 use Rattle.der.specs.Time.{hasThirty}
 use Rattle.der.proofs.has_thirty.Statement.{statement}
 use Rattle.der.proofs.has_thirty.Tie as tie

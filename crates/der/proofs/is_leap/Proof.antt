@@ -1,4 +1,4 @@
-use Rattle.der.proofs.Tests.{tests}
+use Rattle.octets.proofs.Tests.{tests}
 use Rattle.der.specs.Time.{isLeap}
 use Rattle.der.proofs.is_leap.Statement.{statement}
 use Rattle.der.proofs.is_leap.Tie as tie

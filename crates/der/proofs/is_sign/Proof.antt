@@ -1,4 +1,4 @@
-use Rattle.der.proofs.Tests.{tests}
+use Rattle.octets.proofs.Tests.{tests}
 use Rattle.der.specs.Contents.{isSign}
 use Rattle.der.proofs.is_sign.Statement.{statement}
 use Rattle.der.proofs.is_sign.Tie as tie

@@ -1,4 +1,4 @@
-use Rattle.der.proofs.Tests.{tests}
+use Rattle.octets.proofs.Tests.{tests}
 use Rattle.der.specs.Contents.{legalNull}
 use Rattle.der.proofs.legal_null.Statement.{statement}
 use Rattle.der.proofs.legal_null.Tie as tie

@@ -1,5 +1,5 @@
 use Rattle.der.proofs.ContentsSteps.{text-ia5, text-printable, text-time, text-utf8}
-use Rattle.der.proofs.Tests.{tests}
+use Rattle.octets.proofs.Tests.{tests}
 use Rattle.der.specs.Contents.{legalText}
 use borrow.Author.Needs.{needs}
 use Rattle.der.proofs.legal_text.Statement.{statement}

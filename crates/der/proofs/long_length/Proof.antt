@@ -1,4 +1,4 @@
-use Rattle.der.proofs.Tests.{tests}
+use Rattle.octets.proofs.Tests.{tests}
 use Rattle.der.specs.Header.{longLength}
 use Rattle.der.proofs.long_length.Statement.{statement}
 use Rattle.der.proofs.long_length.Tie as tie

@@ -1,5 +1,5 @@
 use Rattle.der.proofs.TimeSteps.{date-is}
-use Rattle.der.proofs.Tests.{tests}
+use Rattle.octets.proofs.Tests.{tests}
 use Rattle.der.specs.Time.{realDate}
 use borrow.Author.Needs.{needs}
 use Rattle.der.proofs.real_date.Statement.{statement}

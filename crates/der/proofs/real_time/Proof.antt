@@ -1,4 +1,4 @@
-use Rattle.der.proofs.Tests.{tests}
+use Rattle.octets.proofs.Tests.{tests}
 use Rattle.der.specs.Time.{realTime}
 use Rattle.der.proofs.real_time.Statement.{statement}
 use Rattle.der.proofs.real_time.Tie as tie

@@ -1,4 +1,4 @@
-use Rattle.der.proofs.Tests.{tests}
+use Rattle.octets.proofs.Tests.{tests}
 use Rattle.der.specs.Time.{sameTime}
 use Rattle.der.proofs.same_time.Statement.{statement}
 use Rattle.der.proofs.same_time.Tie as tie

@@ -1,4 +1,4 @@
-use Rattle.der.proofs.Tests.{tests}
+use Rattle.octets.proofs.Tests.{tests}
 use Rattle.der.specs.Contents.{shortest}
 use Rattle.der.proofs.shortest.Statement.{statement}
 use Rattle.der.proofs.shortest.Tie as tie

@@ -1,5 +1,5 @@
 use Rattle.der.proofs.Steps.{universal-text}
-use Rattle.der.proofs.Tests.{tests}
+use Rattle.octets.proofs.Tests.{tests}
 use Rattle.der.specs.Tag.{universal}
 use borrow.Author.Needs.{needs}
 use Rattle.der.proofs.universal.Statement.{statement}

@@ -1,4 +1,4 @@
-use Rattle.der.proofs.Tests.{tests}
+use Rattle.octets.proofs.Tests.{tests}
 use Rattle.der.specs.Tag.{universalText}
 use Rattle.der.proofs.universal_text.Statement.{statement}
 use Rattle.der.proofs.universal_text.Tie as tie

@@ -1,4 +1,4 @@
-use Rattle.dotted.proofs.Tests.{tests}
+use Rattle.octets.proofs.Tests.{tests}
 use Rattle.dotted.proofs.first_arcs.Statement.{statement}
 use Rattle.dotted.proofs.first_arcs.Tie as tie
 

@@ -1,4 +1,4 @@
-use Rattle.dotted.proofs.Tests.{tests}
+use Rattle.octets.proofs.Tests.{tests}
 use borrow.Author.Needs.{needs}
 use Rattle.dotted.proofs.first_digit.Statement.{statement}
 use Rattle.dotted.proofs.first_digit.Tie as tie

@@ -9,9 +9,10 @@ use Rattle.reference.specs.declared.Target.{Target}
 use borrow.Author.Needs.{needs}
 use Rattle.reference.proofs.follow.Statement.{statement}
 use Rattle.reference.proofs.follow.Tie as tie
+use Rattle.rows.specs.Paper.{tableLimits}
 
 abbrev Inv-loop : tie.InvT-loop
-Inv-loop t s m r target₀ k₀ target k = (along (idsAt r k) (targetTold 16 t s target) ≡ along (idsAt r 0) (targetTold 16 t s (Target.Row 0))) × (rowWithin s target ≡ true) × (k ≤ length r + 1)
+Inv-loop t s m r target₀ k₀ target k = (along (idsAt r k) (targetTold (tableLimits .chain) t s target) ≡ along (idsAt r 0) (targetTold (tableLimits .chain) t s (Target.Row 0))) × (rowWithin s target ≡ true) × (k ≤ length r + 1)
 
 abbrev μ-loop : tie.MeasureT-loop
 μ-loop t s m r target₀ k₀ target k = length r + 1 - k
