@@ -13,7 +13,7 @@ use Rattle.octets.specs.Pick.{pick, no, bind}
 use Rattle.octets.specs.Octets.{octet, part, between}
 use Rattle.octets.specs.Text.{starts, trimmed}
 use Rattle.octets.specs.Quoted.{closing, closingAt}
-use Rattle.octets.specs.Answers.{told}
+use Rattle.octets.specs.Answers.{reportPlace}
 use Rattle.octets.specs.declared.Place.{Place}
 use Rattle.octets.proofs.Laws.{both-true, rest-length}
 use Rattle.assertion.specs.Spaces.{openBrace, closeBrace, comma}
@@ -43,12 +43,12 @@ bind-some none f b e = absurd (none-not e)
 bind-some (some a) f b e = (a, (refl, e))
 
 -- what a place says
-module _ (r : Place) {x : Option ℕ} (e : told r ≡ x) where
+module _ (r : Place) {x : Option ℕ} (e : reportPlace r ≡ x) where
   pub at-place : (p : ℕ) → r ≡ Place.At p → x ≡ some p
-  at-place p q = sym e ∙ ap told q
+  at-place p q = sym e ∙ ap reportPlace q
 
   pub at-none : r ≡ Place.Nowhere → x ≡ none
-  at-none q = sym e ∙ ap told q
+  at-none q = sym e ∙ ap reportPlace q
 
 -- ---- words
 -- a word at the start of a text is no longer than it
@@ -63,7 +63,7 @@ starts-short (a ∷ w) (b ∷ l) e =
 pub starts-fits : (w s : List ℕ) (at : ℕ) → starts w (drop at s) ≡ true → length w ≤ length s - at
 starts-fits w s at e = rw (← rest-length s at) (starts-short w (drop at s) e)
 
-module _ (w s : List ℕ) (at : ℕ) (r : Place) (e : told r ≡ wordAt w s at) where
+module _ (w s : List ℕ) (at : ℕ) (r : Place) (e : reportPlace r ≡ wordAt w s at) where
   pub word-there : (p : ℕ) → r ≡ Place.At p → (starts w (drop at s) ≡ true) × (at + length w ≡ p)
   unfolding wordAt
   word-there p q = if-some (starts w (drop at s)) (at + length w) p (at-place r e p q)

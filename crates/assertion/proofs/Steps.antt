@@ -12,14 +12,14 @@ use Rattle.octets.specs.Pick.{no}
 use Rattle.octets.specs.Octets.{octet, part, between, every, bytes}
 use Rattle.octets.specs.Text.{isLower, isUpper, isLetter, isAlnum, starts, skip, trimmed}
 use Rattle.octets.specs.Quoted.{closingAt, characters}
-use Rattle.octets.specs.Answers.{told}
+use Rattle.octets.specs.Answers.{reportPlace}
 use Rattle.octets.specs.declared.Place.{Place}
 use Rattle.octets.proofs.Laws.{octet-past, rest-cons, rest-none}
 use Rattle.assertion.specs.Spaces.{labelAt, markAt}
 use Rattle.assertion.specs.ValueText.{braceFrom, braceAt, valueTextAt}
 use Rattle.assertion.specs.Assertion.{readTo, followed, quotedPart, componentAt, truthPart, defaultsAt, commaFrom, isNameLetter, isRuleName, isRule, ruleAt, valueAt, assertionAt}
 use Rattle.assertion.specs.Work.{ruleFrom, valuesAt, partsAt}
-use Rattle.assertion.specs.Places.{wordAt, withinQuotes, componentOf, componentTold, defaultsTold, ruleTold, valueTold, assertionTold}
+use Rattle.assertion.specs.Places.{wordAt, withinQuotes, componentOf, reportComponentPart, reportDefaultsPart, reportRulePart, reportValuePart, reportAssertion}
 use Rattle.assertion.specs.declared.ComponentPart.{ComponentPart}
 use Rattle.assertion.specs.declared.DefaultsPart.{DefaultsPart}
 use Rattle.assertion.specs.declared.RulePart.{RulePart}
@@ -47,7 +47,7 @@ module _ (w s : List ℕ) (at : ℕ) where
     pub word-fits : not u ≡ false → length w ≤ length s - at
     word-fits h = starts-fits w s at (sym e ∙ not-false u h)
 
-  module _ (r : Place) (e : told r ≡ wordAt w s at) where
+  module _ (r : Place) (e : reportPlace r ≡ wordAt w s at) where
     pub label-none : r ≡ Place.Nowhere → none ≡ labelAt w s at
     unfolding labelAt
     label-none q = rw (word-not w s at r e q)
@@ -180,15 +180,15 @@ unfolding isRuleName every isAlnum isLetter isLower isUpper
 letters-all [] e = absurd (false≢true e)
 letters-all (a ∷ l) e = rw e
 
-module _ (t : List ℕ) (b : ℕ) (u : Bool) (read : b ≡ octet t 0) (told : u ≡ isLetter b) where
+module _ (t : List ℕ) (b : ℕ) (u : Bool) (read : b ≡ octet t 0) (asked : u ≡ isLetter b) where
   pub name-not : not u ≡ true → false ≡ isRuleName t
-  name-not h = letter-first t (sym (ap isLetter read) ∙ sym told ∙ not-true u h)
+  name-not h = letter-first t (sym (ap isLetter read) ∙ sym asked ∙ not-true u h)
 
   pub name-is : (r : Bool) → not u ≡ false → r ≡ every isNameLetter t → r ≡ isRuleName t
-  name-is r h e = e ∙ letters-all t (sym (ap isLetter read) ∙ sym told ∙ not-false u h)
+  name-is r h e = e ∙ letters-all t (sym (ap isLetter read) ∙ sym asked ∙ not-false u h)
 
 -- ---- `component`
-module _ (s : List ℕ) (at : ℕ) (r : Place) (e : told r ≡ closingAt s at) where
+module _ (s : List ℕ) (at : ℕ) (r : Place) (e : reportPlace r ≡ closingAt s at) where
   pub quoted-open : r ≡ Place.Nowhere → none ≡ quotedPart s at
   quoted-open q = rw (at-none r e q)
 
@@ -196,7 +196,7 @@ module _ (s : List ℕ) (at : ℕ) (r : Place) (e : told r ≡ closingAt s at) w
     pub quote-within : (at < close) × (close < length s)
     quote-within = closing-within s at close (at-place r e close q)
 
-    module _ (m : Place) (f : told m ≡ markAt 44 s (close + 1)) where
+    module _ (m : Place) (f : reportPlace m ≡ markAt 44 s (close + 1)) where
       pub quoted-alone : m ≡ Place.Nowhere → none ≡ quotedPart s at
       quoted-alone g = rw (at-place r e close q, at-none m f g)
 
@@ -204,45 +204,45 @@ module _ (s : List ℕ) (at : ℕ) (r : Place) (e : told r ≡ closingAt s at) w
       quoted-is p g = rw (at-place r e close q, at-place m f p g)
 
 module _ (s : List ℕ) (at : ℕ) (r : Place) where
-  module _ (e : told r ≡ labelAt (bytes "component") s at) where
+  module _ (e : reportPlace r ≡ labelAt (bytes "component") s at) where
     pub component-missing : r ≡ Place.Nowhere → readTo none at ≡ componentAt s at
     unfolding componentAt
     component-missing q = rw (at-none r e q)
 
-    pub component-is : (p : ℕ) (c : ComponentPart) → r ≡ Place.At p → componentTold s c ≡ quotedPart s p → componentTold s c ≡ componentAt s at
+    pub component-is : (p : ℕ) (c : ComponentPart) → r ≡ Place.At p → reportComponentPart s c ≡ quotedPart s p → reportComponentPart s c ≡ componentAt s at
     unfolding componentAt
     component-is p c q f = rw (at-place r e p q) f
 
   -- ---- `useDefaultValues`
-  module _ (d : Bool) (e : told r ≡ markAt 44 s at) where
+  module _ (d : Bool) (e : reportPlace r ≡ markAt 44 s at) where
     pub truth-alone : r ≡ Place.Nowhere → none ≡ followed s at d
     truth-alone q = rw (at-none r e q)
 
     pub truth-followed : (p : ℕ) → r ≡ Place.At p → readTo d p ≡ followed s at d
     truth-followed p q = rw (at-place r e p q)
 
-  module _ (e : told r ≡ wordAt (bytes "TRUE") s at) where
-    pub truth-true : (p : ℕ) (x : DefaultsPart) → r ≡ Place.At p → defaultsTold x ≡ followed s p true → defaultsTold x ≡ truthPart s at
+  module _ (e : reportPlace r ≡ wordAt (bytes "TRUE") s at) where
+    pub truth-true : (p : ℕ) (x : DefaultsPart) → r ≡ Place.At p → reportDefaultsPart x ≡ followed s p true → reportDefaultsPart x ≡ truthPart s at
     truth-true p x q f = let z = word-there (bytes "TRUE") s at r e p q in rw (z .0, z .1) f
 
-    module _ (q : r ≡ Place.Nowhere) (u : Place) (g : told u ≡ wordAt (bytes "FALSE") s at) where
-      pub truth-false : (p : ℕ) (x : DefaultsPart) → u ≡ Place.At p → defaultsTold x ≡ followed s p false → defaultsTold x ≡ truthPart s at
+    module _ (q : r ≡ Place.Nowhere) (u : Place) (g : reportPlace u ≡ wordAt (bytes "FALSE") s at) where
+      pub truth-false : (p : ℕ) (x : DefaultsPart) → u ≡ Place.At p → reportDefaultsPart x ≡ followed s p false → reportDefaultsPart x ≡ truthPart s at
       truth-false p x h f = let z = word-there (bytes "FALSE") s at u g p h in rw (word-not (bytes "TRUE") s at r e q, z .0, z .1) f
 
       pub truth-none : u ≡ Place.Nowhere → none ≡ truthPart s at
       truth-none h = rw (word-not (bytes "TRUE") s at r e q, word-not (bytes "FALSE") s at u g h)
 
-  module _ (e : told r ≡ labelAt (bytes "useDefaultValues") s at) where
+  module _ (e : reportPlace r ≡ labelAt (bytes "useDefaultValues") s at) where
     pub defaults-missing : r ≡ Place.Nowhere → readTo true at ≡ defaultsAt s at
     unfolding defaultsAt
     defaults-missing q = rw (at-none r e q)
 
-    pub defaults-is : (p : ℕ) (x : DefaultsPart) → r ≡ Place.At p → defaultsTold x ≡ truthPart s p → defaultsTold x ≡ defaultsAt s at
+    pub defaults-is : (p : ℕ) (x : DefaultsPart) → r ≡ Place.At p → reportDefaultsPart x ≡ truthPart s p → reportDefaultsPart x ≡ defaultsAt s at
     unfolding defaultsAt
     defaults-is p x q f = rw (at-place r e p q) f
 
   -- ---- `value`
-  module _ (e : told r ≡ braceAt s at) where
+  module _ (e : reportPlace r ≡ braceAt s at) where
     pub value-open : r ≡ Place.Nowhere → none ≡ valueTextAt s at
     unfolding valueTextAt
     value-open q = rw (at-none r e q)
@@ -262,22 +262,22 @@ module _ (s : List ℕ) (at : ℕ) (r : Place) where
         unfolding valueTextAt
         value-empty z = rw (at-place r e brace q, ← long-part, eq-eqb n 0 z)
 
-        pub value-is : (n ≡ 0 → ⊥) → valueTold s (ValuePart.Of at (at + n) brace) ≡ valueTextAt s at
+        pub value-is : (n ≡ 0 → ⊥) → reportValuePart s (ValuePart.Of at (at + n) brace) ≡ valueTextAt s at
         unfolding valueTextAt
         value-is z = rw (at-place r e brace q, ← long-part, ne-eqb n 0 z, trimmed-part s at brace n long-part .1)
 
-  module _ (e : told r ≡ labelAt (bytes "value") s at) where
+  module _ (e : reportPlace r ≡ labelAt (bytes "value") s at) where
     pub value-bare : r ≡ Place.Nowhere → none ≡ valueAt s at
     unfolding valueAt
     value-bare q = rw (at-none r e q)
 
-    pub value-labelled : (p : ℕ) (x : ValuePart) → r ≡ Place.At p → valueTold s x ≡ valueTextAt s p → valueTold s x ≡ valueAt s at
+    pub value-labelled : (p : ℕ) (x : ValuePart) → r ≡ Place.At p → reportValuePart s x ≡ valueTextAt s p → reportValuePart s x ≡ valueAt s at
     unfolding valueAt
     value-labelled p x q f = rw (at-place r e p q) f
 
 -- ---- `rule`
 module _ (s : List ℕ) (at : ℕ) (r : Place) where
-  module _ (e : told r ≡ commaFrom (drop at s) at) where
+  module _ (e : reportPlace r ≡ commaFrom (drop at s) at) where
     pub rule-endless : r ≡ Place.Nowhere → none ≡ ruleFrom s at
     unfolding ruleFrom
     rule-endless q = rw (at-none r e q)
@@ -294,70 +294,70 @@ module _ (s : List ℕ) (at : ℕ) (r : Place) where
         unfolding ruleFrom
         rule-other h = rw (at-place r e end q, is-rule ∙ not-true u h)
 
-        module _ (h : not u ≡ false) (m : Place) (f : told m ≡ markAt 44 s end) where
+        module _ (h : not u ≡ false) (m : Place) (f : reportPlace m ≡ markAt 44 s end) where
           pub rule-alone : m ≡ Place.Nowhere → none ≡ ruleFrom s at
           unfolding ruleFrom
           rule-alone g = rw (at-place r e end q, is-rule ∙ not-false u h, at-none m f g)
 
-          pub rule-is : (p : ℕ) → m ≡ Place.At p → ruleTold s (RulePart.Of at end p) ≡ ruleFrom s at
+          pub rule-is : (p : ℕ) → m ≡ Place.At p → reportRulePart s (RulePart.Of at end p) ≡ ruleFrom s at
           unfolding ruleFrom
           rule-is p g = rw (at-place r e end q, is-rule ∙ not-false u h, at-place m f p g)
 
-  module _ (e : told r ≡ labelAt (bytes "rule") s at) where
+  module _ (e : reportPlace r ≡ labelAt (bytes "rule") s at) where
     pub rule-bare : r ≡ Place.Nowhere → none ≡ ruleAt s at
     unfolding ruleAt
     rule-bare q = rw (at-none r e q)
 
-    pub rule-labelled : (p : ℕ) (x : RulePart) → r ≡ Place.At p → ruleTold s x ≡ ruleFrom s p → ruleTold s x ≡ ruleAt s at
+    pub rule-labelled : (p : ℕ) (x : RulePart) → r ≡ Place.At p → reportRulePart s x ≡ ruleFrom s p → reportRulePart s x ≡ ruleAt s at
     unfolding ruleAt ruleFrom
     rule-labelled p x q f = rw (at-place r e p q) f
 
 -- ---- the assertion
-pub brace-before : (s : List ℕ) (p : ℕ) (y : ValuePart) (v w brace : ℕ) → valueTold s y ≡ valueAt s p → y ≡ ValuePart.Of v w brace → brace < length s
-brace-before s p y v w brace f g = value-onward s p (record { text = between s v w; brace = brace }) (sym f ∙ ap (valueTold s) g) .1
+pub brace-before : (s : List ℕ) (p : ℕ) (y : ValuePart) (v w brace : ℕ) → reportValuePart s y ≡ valueAt s p → y ≡ ValuePart.Of v w brace → brace < length s
+brace-before s p y v w brace f g = value-onward s p (record { text = between s v w; brace = brace }) (sym f ∙ ap (reportValuePart s) g) .1
 
-module _ (s : List ℕ) (c : Component) (d : Bool) (at : ℕ) (x : RulePart) (e : ruleTold s x ≡ ruleAt s at) where
+module _ (s : List ℕ) (c : Component) (d : Bool) (at : ℕ) (x : RulePart) (e : reportRulePart s x ≡ ruleAt s at) where
   pub values-no-rule : x ≡ RulePart.Bad → none ≡ valuesAt s (componentOf s c) d at
   unfolding valuesAt
-  values-no-rule q = let z : ruleAt s at ≡ none = sym e ∙ ap (ruleTold s) q in rw z
+  values-no-rule q = let z : ruleAt s at ≡ none = sym e ∙ ap (reportRulePart s) q in rw z
 
-  module _ (a b p : ℕ) (q : x ≡ RulePart.Of a b p) (y : ValuePart) (f : valueTold s y ≡ valueAt s p) where
-    rule-read : ruleAt s at ≡ ruleTold s (RulePart.Of a b p)
-    rule-read = sym e ∙ ap (ruleTold s) q
+  module _ (a b p : ℕ) (q : x ≡ RulePart.Of a b p) (y : ValuePart) (f : reportValuePart s y ≡ valueAt s p) where
+    rule-read : ruleAt s at ≡ reportRulePart s (RulePart.Of a b p)
+    rule-read = sym e ∙ ap (reportRulePart s) q
 
     pub values-no-value : y ≡ ValuePart.Bad → none ≡ valuesAt s (componentOf s c) d at
     unfolding valuesAt
-    values-no-value g = let z : valueAt s p ≡ none = sym f ∙ ap (valueTold s) g in rw (rule-read, z)
+    values-no-value g = let z : valueAt s p ≡ none = sym f ∙ ap (reportValuePart s) g in rw (rule-read, z)
 
     module _ (v w brace : ℕ) (g : y ≡ ValuePart.Of v w brace) where
-      value-read : valueAt s p ≡ valueTold s (ValuePart.Of v w brace)
-      value-read = sym f ∙ ap (valueTold s) g
+      value-read : valueAt s p ≡ reportValuePart s (ValuePart.Of v w brace)
+      value-read = sym f ∙ ap (reportValuePart s) g
 
-      pub values-are : assertionTold s (Assertion.Good (record { component = c; defaults = d; rule = a; «rule_end» = b; value = v; «value_end» = w; after = brace + 1 })) ≡ valuesAt s (componentOf s c) d at
+      pub values-are : reportAssertion s (Assertion.Good (record { component = c; defaults = d; rule = a; «rule_end» = b; value = v; «value_end» = w; after = brace + 1 })) ≡ valuesAt s (componentOf s c) d at
       unfolding valuesAt
       values-are = rw (rule-read, value-read)
 
 module _ (s : List ℕ) (at : ℕ) where
-  module _ (x : ComponentPart) (e : componentTold s x ≡ componentAt s at) where
+  module _ (x : ComponentPart) (e : reportComponentPart s x ≡ componentAt s at) where
     pub parts-no-component : x ≡ ComponentPart.Bad → none ≡ partsAt s at
     unfolding partsAt
-    parts-no-component q = let z : componentAt s at ≡ none = sym e ∙ ap (componentTold s) q in rw z
+    parts-no-component q = let z : componentAt s at ≡ none = sym e ∙ ap (reportComponentPart s) q in rw z
 
-    module _ (c : Component) (p : ℕ) (q : x ≡ ComponentPart.Of c p) (y : DefaultsPart) (f : defaultsTold y ≡ defaultsAt s p) where
-      component-read : componentAt s at ≡ componentTold s (ComponentPart.Of c p)
-      component-read = sym e ∙ ap (componentTold s) q
+    module _ (c : Component) (p : ℕ) (q : x ≡ ComponentPart.Of c p) (y : DefaultsPart) (f : reportDefaultsPart y ≡ defaultsAt s p) where
+      component-read : componentAt s at ≡ reportComponentPart s (ComponentPart.Of c p)
+      component-read = sym e ∙ ap (reportComponentPart s) q
 
       pub parts-no-defaults : y ≡ DefaultsPart.Bad → none ≡ partsAt s at
       unfolding partsAt
-      parts-no-defaults g = let z : defaultsAt s p ≡ none = sym f ∙ ap defaultsTold g in rw (component-read, z)
+      parts-no-defaults g = let z : defaultsAt s p ≡ none = sym f ∙ ap reportDefaultsPart g in rw (component-read, z)
 
-      pub parts-are : (d : Bool) (k : ℕ) (r : Assertion) → y ≡ DefaultsPart.Of d k → assertionTold s r ≡ valuesAt s (componentOf s c) d k → assertionTold s r ≡ partsAt s at
+      pub parts-are : (d : Bool) (k : ℕ) (r : Assertion) → y ≡ DefaultsPart.Of d k → reportAssertion s r ≡ valuesAt s (componentOf s c) d k → reportAssertion s r ≡ partsAt s at
       unfolding partsAt
-      parts-are d k r g h = let z : defaultsAt s p ≡ defaultsTold (DefaultsPart.Of d k) = sym f ∙ ap defaultsTold g in rw (component-read, z) h
+      parts-are d k r g h = let z : defaultsAt s p ≡ reportDefaultsPart (DefaultsPart.Of d k) = sym f ∙ ap reportDefaultsPart g in rw (component-read, z) h
 
-  module _ (r : Place) (e : told r ≡ markAt 123 s at) where
+  module _ (r : Place) (e : reportPlace r ≡ markAt 123 s at) where
     pub assertion-open : r ≡ Place.Nowhere → none ≡ assertionAt s at
     assertion-open q = rw (assertion-steps s at, at-none r e q)
 
-    pub assertion-is : (p : ℕ) (x : Assertion) → r ≡ Place.At p → assertionTold s x ≡ partsAt s p → assertionTold s x ≡ assertionAt s at
+    pub assertion-is : (p : ℕ) (x : Assertion) → r ≡ Place.At p → reportAssertion s x ≡ partsAt s p → reportAssertion s x ≡ assertionAt s at
     assertion-is p x q f = rw (assertion-steps s at, at-place r e p q) f

@@ -33,24 +33,24 @@ abbrev pub componentOf : List ℕ → Component → Option (List ℕ)
 componentOf s Missing = none
 componentOf s (Quoted a b) = some (characters s a b)
 
-abbrev pub componentTold : List ℕ → ComponentPart → Option (Read (Option (List ℕ)))
-componentTold s (ComponentPart.Of c after) = readTo (componentOf s c) after
-componentTold s ComponentPart.Bad = none
+abbrev pub reportComponentPart : List ℕ → ComponentPart → Option (Read (Option (List ℕ)))
+reportComponentPart s (ComponentPart.Of c after) = readTo (componentOf s c) after
+reportComponentPart s ComponentPart.Bad = none
 
 -- ---- `useDefaultValues`
-abbrev pub defaultsTold : DefaultsPart → Option (Read Bool)
-defaultsTold (DefaultsPart.Of d after) = readTo d after
-defaultsTold DefaultsPart.Bad = none
+abbrev pub reportDefaultsPart : DefaultsPart → Option (Read Bool)
+reportDefaultsPart (DefaultsPart.Of d after) = readTo d after
+reportDefaultsPart DefaultsPart.Bad = none
 
 -- ---- `rule`
-abbrev pub ruleTold : List ℕ → RulePart → Option (Read (List ℕ))
-ruleTold s (RulePart.Of a b after) = readTo (between s a b) after
-ruleTold s RulePart.Bad = none
+abbrev pub reportRulePart : List ℕ → RulePart → Option (Read (List ℕ))
+reportRulePart s (RulePart.Of a b after) = readTo (between s a b) after
+reportRulePart s RulePart.Bad = none
 
 -- ---- `value`
-abbrev pub valueTold : List ℕ → ValuePart → Option ValueText
-valueTold s (ValuePart.Of a b brace) = some (record { text = between s a b; brace = brace })
-valueTold s ValuePart.Bad = none
+abbrev pub reportValuePart : List ℕ → ValuePart → Option ValueText
+reportValuePart s (ValuePart.Of a b brace) = some (record { text = between s a b; brace = brace })
+reportValuePart s ValuePart.Bad = none
 
 -- ---- the assertion
 -- the item whose parts stand at these places
@@ -62,6 +62,6 @@ itemOf s p = record {
   value = between s (p .value) (p .«value_end»);
 }
 
-abbrev pub assertionTold : List ℕ → Assertion → Option (Read Item)
-assertionTold s (Assertion.Good p) = readTo (itemOf s p) (p .after)
-assertionTold s Assertion.Bad = none
+abbrev pub reportAssertion : List ℕ → Assertion → Option (Read Item)
+reportAssertion s (Assertion.Good p) = readTo (itemOf s p) (p .after)
+reportAssertion s Assertion.Bad = none

@@ -4,7 +4,7 @@ ghost use mathlib.Core.Path.{_≡_};
 ghost use Prim.Native.Nat.{_<_};
 ghost use lib.ListN.{length, drop};
 ghost use Rattle.octets.specs.Octets.{every};
-ghost use Rattle.octets.specs.Answers.{told};
+ghost use Rattle.octets.specs.Answers.{reportPlace};
 ghost use Rattle.octets.specs.Text.{trimmed};
 ghost use Rattle.assertion.specs.Spaces as spaces;
 ghost use Rattle.assertion.specs.ValueText as text;
@@ -72,7 +72,7 @@ pub fn within_quotes(s: &[u8], a: usize, b: usize) -> &[u8]
 // ---- words, labels and marks
 // The place after a word that stands at a place.
 pub fn word_at(s: &[u8], at: usize, w: &[u8]) -> Place
-    ensures { λ r. ⌜ told r ≡ places.wordAt (now (w .entry)) (now (s .entry)) at ⌝ }
+    ensures { λ r. ⌜ reportPlace r ≡ places.wordAt (now (w .entry)) (now (s .entry)) at ⌝ }
 {
     if !octets::starts(s, at, w) {
         return Place::Nowhere;
@@ -82,7 +82,7 @@ pub fn word_at(s: &[u8], at: usize, w: &[u8]) -> Place
 
 // What follows a label at a place and the spaces after it, one at least.
 fn label_at(s: &[u8], at: usize, w: &[u8]) -> Place
-    ensures { λ r. ⌜ told r ≡ spaces.labelAt (now (w .entry)) (now (s .entry)) at ⌝ }
+    ensures { λ r. ⌜ reportPlace r ≡ spaces.labelAt (now (w .entry)) (now (s .entry)) at ⌝ }
 {
     let Place::At(p) = word_at(s, at, w) else {
         return Place::Nowhere;
@@ -96,7 +96,7 @@ fn label_at(s: &[u8], at: usize, w: &[u8]) -> Place
 // What follows a character at a place and any spaces after it.
 pub fn mark_at(s: &[u8], at: usize, c: u8) -> Place
     requires { ⌜ 0 < c ⌝ }
-    ensures { λ r. ⌜ told r ≡ spaces.markAt c (now (s .entry)) at ⌝ }
+    ensures { λ r. ⌜ reportPlace r ≡ spaces.markAt c (now (s .entry)) at ⌝ }
 {
     if s.len() <= at {
         return Place::Nowhere;
@@ -110,7 +110,7 @@ pub fn mark_at(s: &[u8], at: usize, c: u8) -> Place
 // ---- the value text
 // The closing brace from a place on that is neither in double quotes nor paired with an opening one behind that place.
 fn brace_at(s: &[u8], at: usize) -> Place
-    ensures { λ r. ⌜ told r ≡ text.braceAt (now (s .entry)) at ⌝ }
+    ensures { λ r. ⌜ reportPlace r ≡ text.braceAt (now (s .entry)) at ⌝ }
 {
     let mut i = at;
     let mut inner: usize = 0;
@@ -153,7 +153,7 @@ fn trimmed_length(t: &[u8]) -> usize
 // ---- the rule
 // The first comma from a place on.
 fn comma_at(s: &[u8], at: usize) -> Place
-    ensures { λ r. ⌜ told r ≡ assertion.commaFrom (drop at (now (s .entry))) at ⌝ }
+    ensures { λ r. ⌜ reportPlace r ≡ assertion.commaFrom (drop at (now (s .entry))) at ⌝ }
 {
     let mut i = at;
     while i < s.len() {
@@ -199,7 +199,7 @@ fn is_rule_name(t: &[u8]) -> bool
 
 // ---- `component`
 fn quoted_part(s: &[u8], at: usize) -> ComponentPart
-    ensures { λ r. ⌜ places.componentTold (now (s .entry)) r ≡ assertion.quotedPart (now (s .entry)) at ⌝ }
+    ensures { λ r. ⌜ places.reportComponentPart (now (s .entry)) r ≡ assertion.quotedPart (now (s .entry)) at ⌝ }
 {
     let Place::At(close) = octets::closing_at(s, at) else {
         return ComponentPart::Bad;
@@ -211,7 +211,7 @@ fn quoted_part(s: &[u8], at: usize) -> ComponentPart
 }
 
 fn component_part(s: &[u8], at: usize) -> ComponentPart
-    ensures { λ r. ⌜ places.componentTold (now (s .entry)) r ≡ assertion.componentAt (now (s .entry)) at ⌝ }
+    ensures { λ r. ⌜ places.reportComponentPart (now (s .entry)) r ≡ assertion.componentAt (now (s .entry)) at ⌝ }
 {
     let Place::At(p) = label_at(s, at, b"component") else {
         return ComponentPart::Of(Component::Missing, at);
@@ -221,7 +221,7 @@ fn component_part(s: &[u8], at: usize) -> ComponentPart
 
 // ---- `useDefaultValues`
 fn truth_followed(s: &[u8], at: usize, d: bool) -> DefaultsPart
-    ensures { λ r. ⌜ places.defaultsTold r ≡ assertion.followed (now (s .entry)) at d ⌝ }
+    ensures { λ r. ⌜ places.reportDefaultsPart r ≡ assertion.followed (now (s .entry)) at d ⌝ }
 {
     let Place::At(p) = mark_at(s, at, b',') else {
         return DefaultsPart::Bad;
@@ -230,7 +230,7 @@ fn truth_followed(s: &[u8], at: usize, d: bool) -> DefaultsPart
 }
 
 fn truth_part(s: &[u8], at: usize) -> DefaultsPart
-    ensures { λ r. ⌜ places.defaultsTold r ≡ assertion.truthPart (now (s .entry)) at ⌝ }
+    ensures { λ r. ⌜ places.reportDefaultsPart r ≡ assertion.truthPart (now (s .entry)) at ⌝ }
 {
     if let Place::At(p) = word_at(s, at, b"TRUE") {
         return truth_followed(s, p, true);
@@ -242,7 +242,7 @@ fn truth_part(s: &[u8], at: usize) -> DefaultsPart
 }
 
 fn defaults_part(s: &[u8], at: usize) -> DefaultsPart
-    ensures { λ r. ⌜ places.defaultsTold r ≡ assertion.defaultsAt (now (s .entry)) at ⌝ }
+    ensures { λ r. ⌜ places.reportDefaultsPart r ≡ assertion.defaultsAt (now (s .entry)) at ⌝ }
 {
     let Place::At(p) = label_at(s, at, b"useDefaultValues") else {
         return DefaultsPart::Of(true, at);
@@ -252,7 +252,7 @@ fn defaults_part(s: &[u8], at: usize) -> DefaultsPart
 
 // ---- `value`
 fn value_text(s: &[u8], at: usize) -> ValuePart
-    ensures { λ r. ⌜ places.valueTold (now (s .entry)) r ≡ text.valueTextAt (now (s .entry)) at ⌝ }
+    ensures { λ r. ⌜ places.reportValuePart (now (s .entry)) r ≡ text.valueTextAt (now (s .entry)) at ⌝ }
 {
     let Place::At(brace) = brace_at(s, at) else {
         return ValuePart::Bad;
@@ -265,7 +265,7 @@ fn value_text(s: &[u8], at: usize) -> ValuePart
 }
 
 fn value_part(s: &[u8], at: usize) -> ValuePart
-    ensures { λ r. ⌜ places.valueTold (now (s .entry)) r ≡ assertion.valueAt (now (s .entry)) at ⌝ }
+    ensures { λ r. ⌜ places.reportValuePart (now (s .entry)) r ≡ assertion.valueAt (now (s .entry)) at ⌝ }
 {
     let Place::At(p) = label_at(s, at, b"value") else {
         return ValuePart::Bad;
@@ -285,7 +285,7 @@ fn is_rule(t: &[u8]) -> bool
 
 // The rule that starts at a place, up to its comma.
 fn rule_from(s: &[u8], at: usize) -> RulePart
-    ensures { λ r. ⌜ places.ruleTold (now (s .entry)) r ≡ work.ruleFrom (now (s .entry)) at ⌝ }
+    ensures { λ r. ⌜ places.reportRulePart (now (s .entry)) r ≡ work.ruleFrom (now (s .entry)) at ⌝ }
 {
     let Place::At(end) = comma_at(s, at) else {
         return RulePart::Bad;
@@ -300,7 +300,7 @@ fn rule_from(s: &[u8], at: usize) -> RulePart
 }
 
 fn rule_part(s: &[u8], at: usize) -> RulePart
-    ensures { λ r. ⌜ places.ruleTold (now (s .entry)) r ≡ assertion.ruleAt (now (s .entry)) at ⌝ }
+    ensures { λ r. ⌜ places.reportRulePart (now (s .entry)) r ≡ assertion.ruleAt (now (s .entry)) at ⌝ }
 {
     let Place::At(p) = label_at(s, at, b"rule") else {
         return RulePart::Bad;
@@ -311,7 +311,7 @@ fn rule_part(s: &[u8], at: usize) -> RulePart
 // ---- the assertion
 // Rule and value, behind a component and useDefaultValues.
 fn read_values(s: &[u8], component: Component, defaults: bool, at: usize) -> Assertion
-    ensures { λ r. ⌜ places.assertionTold (now (s .entry)) r ≡ work.valuesAt (now (s .entry)) (places.componentOf (now (s .entry)) component) defaults at ⌝ }
+    ensures { λ r. ⌜ places.reportAssertion (now (s .entry)) r ≡ work.valuesAt (now (s .entry)) (places.componentOf (now (s .entry)) component) defaults at ⌝ }
 {
     let RulePart::Of(rule, rule_end, p) = rule_part(s, at) else {
         return Assertion::Bad;
@@ -332,7 +332,7 @@ fn read_values(s: &[u8], component: Component, defaults: bool, at: usize) -> Ass
 
 // The four parts, behind the opening brace.
 fn read_parts(s: &[u8], at: usize) -> Assertion
-    ensures { λ r. ⌜ places.assertionTold (now (s .entry)) r ≡ work.partsAt (now (s .entry)) at ⌝ }
+    ensures { λ r. ⌜ places.reportAssertion (now (s .entry)) r ≡ work.partsAt (now (s .entry)) at ⌝ }
 {
     let ComponentPart::Of(component, p) = component_part(s, at) else {
         return Assertion::Bad;
@@ -345,7 +345,7 @@ fn read_parts(s: &[u8], at: usize) -> Assertion
 
 // The braced assertion at a place: where its parts stand.
 pub fn read_assertion(s: &[u8], at: usize) -> Assertion
-    ensures { λ r. ⌜ places.assertionTold (now (s .entry)) r ≡ assertion.assertionAt (now (s .entry)) at ⌝ }
+    ensures { λ r. ⌜ places.reportAssertion (now (s .entry)) r ≡ assertion.assertionAt (now (s .entry)) at ⌝ }
 {
     let Place::At(p) = mark_at(s, at, b'{') else {
         return Assertion::Bad;

@@ -13,7 +13,7 @@ use Rattle.octets.proofs.Laws.{rest-cons, rest-none}
 use Rattle.octets.proofs.TextLaws.{same-nil, same-shorter, same-longer, same-cons}
 use Rattle.der.specs.Meaning.{bitsOf}
 use Rattle.binary.specs.Asserted.{digits, isBitText, hexBits, textBits, assertedBits}
-use Rattle.binary.specs.Answers.{hexFrom, restBits, toldBit, isEnd, bitIn, bitsIn}
+use Rattle.binary.specs.Answers.{hexFrom, restBits, reportBit, isEnd, bitIn, bitsIn}
 use Rattle.binary.specs.declared.Quarter.{Quarter}
 use Rattle.binary.specs.declared.Bits.{Bits}
 use Rattle.binary.specs.declared.BitStep.{BitStep}
@@ -50,21 +50,21 @@ module _ (h : List ℕ) (hexed : Bool) where
   none q true = hex-none q
   none q false = text-none
 
-  pub bit-end : (c : Bits) → length h ≤ c .at → toldBit hexed h BitStep.End ≡ restBits hexed h c
+  pub bit-end : (c : Bits) → length h ≤ c .at → reportBit hexed h BitStep.End ≡ restBits hexed h c
   bit-end c l = sym (ap (λ (x : List ℕ). pick hexed (hexFrom (c .quarter) x) (textBits x)) (rest-none h (c .at) l) ∙ none (c .quarter) hexed)
 
   module _ (at : ℕ) (l : at < length h) where
-    hex-told : (n : ℕ) (q : Quarter) → n ≡ nibble (octet h at) → toldBit true h (bitIn n at (at + 1) q) ≡ hexFrom q (octet h at ∷ drop (at + 1) h)
+    hex-told : (n : ℕ) (q : Quarter) → n ≡ nibble (octet h at) → reportBit true h (bitIn n at (at + 1) q) ≡ hexFrom q (octet h at ∷ drop (at + 1) h)
     unfolding hexFrom
     hex-told n Quarter.First e = rw (e, rest-cons h at l)
     hex-told n Quarter.Second e = rw (e, rest-cons h at l)
     hex-told n Quarter.Third e = rw (e, rest-cons h at l)
     hex-told n Quarter.Fourth e = rw e (ap (λ (x : List ℕ). nibble (octet h at) % 2 ∷ x) (hex-first (drop (at + 1) h)))
 
-  pub bit-hex : (c : Bits) (n : ℕ) (r : BitStep) → c .at < length h → hexed ≡ true → n ≡ nibble (octet h (c .at)) → r ≡ bitIn n (c .at) (c .at + 1) (c .quarter) → toldBit hexed h r ≡ restBits hexed h c
-  bit-hex c n r l q e f = rw q (ap (toldBit true h) f ∙ hex-told (c .at) l n (c .quarter) e ∙ ap (hexFrom (c .quarter)) (sym (rest-cons h (c .at) l)))
+  pub bit-hex : (c : Bits) (n : ℕ) (r : BitStep) → c .at < length h → hexed ≡ true → n ≡ nibble (octet h (c .at)) → r ≡ bitIn n (c .at) (c .at + 1) (c .quarter) → reportBit hexed h r ≡ restBits hexed h c
+  bit-hex c n r l q e f = rw q (ap (reportBit true h) f ∙ hex-told (c .at) l n (c .quarter) e ∙ ap (hexFrom (c .quarter)) (sym (rest-cons h (c .at) l)))
 
-  pub bit-text : (c : Bits) (x : ℕ) → c .at < length h → hexed ≡ false → x ≡ octet h (c .at) - 48 → toldBit hexed h (BitStep.Bit x (record { at = c .at + 1; quarter = c .quarter })) ≡ restBits hexed h c
+  pub bit-text : (c : Bits) (x : ℕ) → c .at < length h → hexed ≡ false → x ≡ octet h (c .at) - 48 → reportBit hexed h (BitStep.Bit x (record { at = c .at + 1; quarter = c .quarter })) ≡ restBits hexed h c
   unfolding textBits
   bit-text c x l q e = rw (q, e) (ap textBits (sym (rest-cons h (c .at) l)))
 
@@ -73,8 +73,8 @@ pub bits-start : (s h : List ℕ) (hexed : Bool) → same s (restBits hexed h (r
 bits-start s h hexed = ap (λ (x : List ℕ). same s (pick hexed x (textBits h))) (hex-first h)
 
 module _ (s h : List ℕ) (hexed : Bool) (i : ℕ) (a : Bits) (step : BitStep) (m : Bool) (inv : same (drop i s) (restBits hexed h a) ≡ m)
-    (read : toldBit hexed h step ≡ restBits hexed h a) where
-  ended : (x : BitStep) → isEnd x ≡ same [] (toldBit hexed h x)
+    (read : reportBit hexed h step ≡ restBits hexed h a) where
+  ended : (x : BitStep) → isEnd x ≡ same [] (reportBit hexed h x)
   ended BitStep.End = sym same-nil
   ended (BitStep.Bit b c) = sym (same-shorter b (restBits hexed h c))
 
@@ -86,11 +86,11 @@ module _ (s h : List ℕ) (hexed : Bool) (i : ℕ) (a : Bits) (step : BitStep) (
     front = let g : i < length s = omega arith in rest-cons s i g
 
     pub bits-short : step ≡ BitStep.End → false ≡ m
-    bits-short q = sym (same-longer (getD s i 0) (drop (i + 1) s)) ∙ ap₂ same (sym front) (sym (ap (toldBit hexed h) q) ∙ read) ∙ inv
+    bits-short q = sym (same-longer (getD s i 0) (drop (i + 1) s)) ∙ ap₂ same (sym front) (sym (ap (reportBit hexed h) q) ∙ read) ∙ inv
 
     module _ (x y : ℕ) (b : Bits) (q : step ≡ BitStep.Bit x b) (held : y ≡ getD s i 0) where
       sides : both (eqb y x) (same (drop (i + 1) s) (restBits hexed h b)) ≡ m
-      sides = rw held (sym (same-cons (getD s i 0) x (drop (i + 1) s) (restBits hexed h b)) ∙ ap₂ same (sym front) (sym (ap (toldBit hexed h) q) ∙ read) ∙ inv)
+      sides = rw held (sym (same-cons (getD s i 0) x (drop (i + 1) s) (restBits hexed h b)) ∙ ap₂ same (sym front) (sym (ap (reportBit hexed h) q) ∙ read) ∙ inv)
 
       pub bits-differ : (y ≡ x → ⊥) → false ≡ m
       bits-differ d = rw (ne-eqb y x d) at sides

@@ -12,7 +12,7 @@ use Rattle.octets.specs.Octets.{octet, part, every, same, below, nibble, paired
 use Rattle.octets.proofs.Laws.{rest-cons, rest-none}
 use Rattle.octets.proofs.TextLaws.{same-nil, same-shorter, same-longer, same-cons, below-nil, below-shorter, below-longer-list, below-cons, paired-nil, paired-one, paired-two}
 use Rattle.binary.specs.Asserted.{inQuotes, digits, isHexDigit, isBit, isHexString, isBitText, isOctets, assertedOctets, isBits}
-use Rattle.binary.specs.Answers.{ordered, isSame, isLess, toldPair}
+use Rattle.binary.specs.Answers.{ordered, isSame, isLess, reportPair}
 use Rattle.binary.specs.declared.Order.{Order}
 use Rattle.binary.specs.declared.Pair.{Pair}
 
@@ -65,16 +65,16 @@ pub nibble-letter : (b : ℕ) → 65 ≤ b → b - 55 ≡ nibble b
 nibble-letter b l = rw (le-ltb b 65 l)
 
 module _ (h : List ℕ) (j : ℕ) where
-  pub pair-none : length h ≤ j → toldPair h Pair.End ≡ paired (drop j h)
+  pub pair-none : length h ≤ j → reportPair h Pair.End ≡ paired (drop j h)
   pair-none l = sym (ap paired (rest-none h j l) ∙ paired-nil)
 
   module _ (l : j < length h) where
-    pub pair-one : length h - j < 2 → toldPair h Pair.End ≡ paired (drop j h)
+    pub pair-one : length h - j < 2 → reportPair h Pair.End ≡ paired (drop j h)
     pair-one g =
         let z : length h ≤ j + 1 = omega arith in
         sym (ap paired (rest-cons h j l ∙ ap (λ (x : List ℕ). octet h j ∷ x) (rest-none h (j + 1) z)) ∙ paired-one (octet h j))
 
-    pub pair-is : (n : ℕ) → 2 ≤ length h - j → n ≡ nibble (octet h j) * 16 + nibble (octet h (j + 1)) → toldPair h (Pair.Of n (j + 2)) ≡ paired (drop j h)
+    pub pair-is : (n : ℕ) → 2 ≤ length h - j → n ≡ nibble (octet h j) * 16 + nibble (octet h (j + 1)) → reportPair h (Pair.Of n (j + 2)) ≡ paired (drop j h)
     pair-is n g e =
         let z : j + 1 < length h = omega arith in
         let q : j + 1 + 1 ≡ j + 2 = omega arith in
@@ -82,16 +82,16 @@ module _ (h : List ℕ) (j : ℕ) where
         rw e (sym (ap paired (rest-cons h j l ∙ ap (λ (x : List ℕ). octet h j ∷ x) second) ∙ paired-two (octet h j) (octet h (j + 1)) (drop (j + 2) h)))
 
 -- ---- order
-module _ (c h : List ℕ) (i j : ℕ) (r : Pair) (m : Order) (inv : ordered (drop i c) (paired (drop j h)) ≡ m) (read : toldPair h r ≡ paired (drop j h)) where
+module _ (c h : List ℕ) (i j : ℕ) (r : Pair) (m : Order) (inv : ordered (drop i c) (paired (drop j h)) ≡ m) (read : reportPair h r ≡ paired (drop j h)) where
   module _ (l : i < length c) where
     pub order-more : r ≡ Pair.End → Order.More ≡ m
     unfolding ordered
-    order-more e = ap₂ ordered (sym (rest-cons c i l)) (sym (ap (toldPair h) e) ∙ read) ∙ inv
+    order-more e = ap₂ ordered (sym (rest-cons c i l)) (sym (ap (reportPair h) e) ∙ read) ∙ inv
 
     module _ (n next b : ℕ) (e : r ≡ Pair.Of n next) (at : b ≡ octet c i) where
       heads : pick (ltb b n) Order.Less (pick (ltb n b) Order.More (ordered (drop (i + 1) c) (paired (drop next h)))) ≡ m
       unfolding ordered
-      heads = rw at (ap₂ ordered (sym (rest-cons c i l)) (sym (ap (toldPair h) e) ∙ read) ∙ inv)
+      heads = rw at (ap₂ ordered (sym (rest-cons c i l)) (sym (ap (reportPair h) e) ∙ read) ∙ inv)
 
       pub order-less : b < n → Order.Less ≡ m
       order-less q = rw (lt-ltb b n q) at heads
@@ -105,11 +105,11 @@ module _ (c h : List ℕ) (i j : ℕ) (r : Pair) (m : Order) (inv : ordered (dro
   module _ (l : length c ≤ i) where
     pub order-same : r ≡ Pair.End → Order.Same ≡ m
     unfolding ordered
-    order-same e = ap₂ ordered (sym (rest-none c i l)) (sym (ap (toldPair h) e) ∙ read) ∙ inv
+    order-same e = ap₂ ordered (sym (rest-none c i l)) (sym (ap (reportPair h) e) ∙ read) ∙ inv
 
     pub order-shorter : (n next : ℕ) → r ≡ Pair.Of n next → Order.Less ≡ m
     unfolding ordered
-    order-shorter n next e = ap₂ ordered (sym (rest-none c i l)) (sym (ap (toldPair h) e) ∙ read) ∙ inv
+    order-shorter n next e = ap₂ ordered (sym (rest-none c i l)) (sym (ap (reportPair h) e) ∙ read) ∙ inv
 
 ordered-same : (a b : List ℕ) → isSame (ordered a b) ≡ same a b
 unfolding ordered

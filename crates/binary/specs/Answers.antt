@@ -31,9 +31,9 @@ isLess Order.Same = false
 isLess Order.More = false
 
 -- a pair of digits and the place after it, or the end
-abbrev pub toldPair : List ℕ → Pair → List ℕ
-toldPair h Pair.End = []
-toldPair h (Pair.Of n next) = n ∷ paired (drop next h)
+abbrev pub reportPair : List ℕ → Pair → List ℕ
+reportPair h Pair.End = []
+reportPair h (Pair.Of n next) = n ∷ paired (drop next h)
 
 -- ---- bits: those left of a text of hexadecimal digits, within its first digit
 unfoldable pub hexFrom : Quarter → List ℕ → List ℕ
@@ -47,9 +47,9 @@ hexFrom Quarter.Fourth (b ∷ s) = (nibble b % 2) ∷ hexBits s
 abbrev pub restBits : Bool → List ℕ → Bits → List ℕ
 restBits hexed h c = pick hexed (hexFrom (c .quarter) (drop (c .at) h)) (textBits (drop (c .at) h))
 
-abbrev pub toldBit : Bool → List ℕ → BitStep → List ℕ
-toldBit hexed h BitStep.End = []
-toldBit hexed h (BitStep.Bit b c) = b ∷ restBits hexed h c
+abbrev pub reportBit : Bool → List ℕ → BitStep → List ℕ
+reportBit hexed h BitStep.End = []
+reportBit hexed h (BitStep.Bit b c) = b ∷ restBits hexed h c
 
 abbrev pub isEnd : BitStep → Bool
 isEnd BitStep.End = true

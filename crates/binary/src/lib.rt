@@ -163,7 +163,7 @@ fn pair_value(a: u8, b: u8) -> usize
 }
 
 fn read_pair(h: &[u8], j: usize) -> Pair
-    ensures { λ r. ⌜ answers.toldPair (now (h .entry)) r ≡ octets.paired (drop j (now (h .entry))) ⌝ }
+    ensures { λ r. ⌜ answers.reportPair (now (h .entry)) r ≡ octets.paired (drop j (now (h .entry))) ⌝ }
 {
     if h.len() <= j {
         return Pair::End;
@@ -280,7 +280,7 @@ fn text_bit(b: u8) -> u8
 }
 
 fn next_bit(h: &[u8], hexed: bool, c: Bits) -> BitStep
-    ensures { λ r. ⌜ answers.toldBit hexed (now (h .entry)) r ≡ answers.restBits hexed (now (h .entry)) c ⌝ }
+    ensures { λ r. ⌜ answers.reportBit hexed (now (h .entry)) r ≡ answers.restBits hexed (now (h .entry)) c ⌝ }
 {
     let at = c.at;
     let quarter = c.quarter;

@@ -25,14 +25,14 @@ use Rattle.reference.specs.Named.{named}
 use Rattle.reference.specs.Numbers.{Component}
 use Rattle.filter.specs.Filter.{Filter}
 use Rattle.filter.specs.Parse.{parse}
-use Rattle.trail.specs.Trail.{Trail, trail, faulty, reached}
+use Rattle.trail.specs.Trail.{Trail, trail, hasMisfit, reached}
 use Rattle.trail.proofs.Agreeing.{trail-named, laid-reached}
-use Rattle.judge.specs.Reading.{Outcome, settled, faulted}
+use Rattle.judge.specs.Reading.{Outcome, settled, misfitAfter}
 use Rattle.engine.specs.Paper.{limits}
 use Rattle.engine.specs.Answer.{Report, refused, answers, budgeted, questionFits, evaluated, withFilter, questionOf, askReport}
 use Rattle.engine.specs.Listing.{Listing, refusedList, lists, written, listed, walked, listingFits, withIds, listingOf, listReport}
 use Rattle.demands.specs.Named.{components}
-use Rattle.demands.specs.Refusals.{TableRefusals, RefusesTable, ValueRefusals, RefusesValue, partRefusal, PartRefused, ListRefusals, ofSome, RefusesListing, AskRefusals, enough, isFault, over, faults, RefusesFilter}
+use Rattle.demands.specs.Refusals.{TableRefusals, RefusesTable, ValueRefusals, RefusesValue, partRefusal, PartRefused, ListRefusals, ofSome, RefusesListing, AskRefusals, enough, isMisfit, over, misfits, RefusesFilter}
 
 -- ---- the table check
 pub refuses-table : (t : List ℕ) (r : table.TableReport) → r ≡ table.tableReport (limits .table) t → RefusesTable t r
@@ -96,9 +96,9 @@ module _ (v : List ℕ) (place size : ℕ) where
 -- ---- the listing
 module _ (room : List ℕ) where
   -- a walk, by what it reaches
-  walk-by : (a : Trail) → ListRefusals room false false false false (faulty a) (ltb (length room) (length (reached a) * 3)) (walked a room)
+  walk-by : (a : Trail) → ListRefusals room false false false false (hasMisfit a) (ltb (length room) (length (reached a) * 3)) (walked a room)
   unfolding walked listed
-  walk-by a = go (faulty a) (ltb (length room) (length (reached a) * 3))
+  walk-by a = go (hasMisfit a) (ltb (length room) (length (reached a) * 3))
     where
       go : (x y : Bool) → ListRefusals room false false false false x y (pick x (refusedList 7 room) (pick y (refusedList 6 room) (record { report = lists (length (reached a)); memory = written (reached a) room })))
       go true y = record { number = refl; done = refl; count = λ z. refl; unwritten = λ z. refl }
@@ -108,14 +108,14 @@ module _ (room : List ℕ) where
   module _ (ty : Ty) (v : List ℕ) (d : Bool) where
     -- with the components that are named in the decoded value
     walk-named : (is : List Id) (x : Value) → storedValue ty v ≡ some x
-        → ListRefusals room false false false false (faulty (trail d is ty v)) (ltb (length room) (length (components d is x) * 3)) (walked (trail d is ty v) room)
+        → ListRefusals room false false false false (hasMisfit (trail d is ty v)) (ltb (length room) (length (components d is x) * 3)) (walked (trail d is ty v) room)
     walk-named is x e =
-        subst (λ (cs : List Component). ListRefusals room false false false false (faulty (trail d is ty v)) (ltb (length room) (length cs * 3)) (walked (trail d is ty v) room))
+        subst (λ (cs : List Component). ListRefusals room false false false false (hasMisfit (trail d is ty v)) (ltb (length room) (length cs * 3)) (walked (trail d is ty v) room))
         (ap reached (trail-named d is ty v x e) ∙ laid-reached (named d is x)) (walk-by (trail d is ty v))
 
     abbrev By : Bool → Bool → Bool → Option Value → Option (List Id) → Listing → Type 0
     By fits ok leading stored ids l =
-        ListRefusals room (no fits) (no ok) (no leading) (no (isSome stored)) (ofSome (λ is. faulty (trail d is ty v)) ids)
+        ListRefusals room (no fits) (no ok) (no leading) (no (isSome stored)) (ofSome (λ is. hasMisfit (trail d is ty v)) ids)
         (ofSome (λ cs. ltb (length room) (length cs * 3)) (bind ids (λ is. bind stored (λ x. some (components d is x))))) l
 
     ids-by : (o : Option (List Id)) → By true true (isSome (bind o (λ is. allowed is ty))) (storedValue ty v) o (withIds ty v d room o)
@@ -143,16 +143,16 @@ refuses-listing t v given r defaults room l e =
 -- ---- a filter
 module _ (t v : List ℕ) (budget : ℕ) where
   abbrev ByFilter : Bool → Bool → Bool → Option Filter → Report → Type 0
-  ByFilter fits ok stored p r = AskRefusals (no fits) (no ok) (no (isSome p)) (no stored) (ofSome (over t v budget) p) (ofSome (faults t v) p) r
+  ByFilter fits ok stored p r = AskRefusals (no fits) (no ok) (no (isSome p)) (no stored) (ofSome (over t v budget) p) (ofSome (misfits t v) p) r
 
-  outcome-by : (o : Outcome) → AskRefusals false false false false (no (enough budget o)) (isFault o) (budgeted budget o)
+  outcome-by : (o : Outcome) → AskRefusals false false false false (no (enough budget o)) (isMisfit o) (budgeted budget o)
   unfolding budgeted
   outcome-by (settled u n) = go (leb n budget)
     where
       go : (b : Bool) → AskRefusals false false false false (no b) false (pick b (answers u n) (refused 5))
       go true = record { number = refl; truth = refl; count = λ z. absurd (true≢false z) }
       go false = record { number = refl; truth = refl; count = λ z. refl }
-  outcome-by (faulted n) = go (leb n budget)
+  outcome-by (misfitAfter n) = go (leb n budget)
     where
       go : (b : Bool) → AskRefusals false false false false (no b) true (pick b (refused 7) (refused 5))
       go true = record { number = refl; truth = refl; count = λ z. refl }

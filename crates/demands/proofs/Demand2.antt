@@ -20,7 +20,7 @@ use Rattle.filter.specs.Filter.{Item, Join, and, or, Filter, Filters, item, lis
 use Rattle.filter.specs.Parse.{parse}
 use Rattle.trail.proofs.Agreeing.{laid, trail-named}
 use Rattle.judge.specs.Truth.{Truth, TRUE, FALSE, UNDEFINED, everyTruth, anyTruth, conjunction, disjunction, joined, opposite, truth, truths, isTrue, isFalse}
-use Rattle.judge.specs.Reading.{Outcome, settled, faulted, andThen, inverted, reading, readingIn}
+use Rattle.judge.specs.Reading.{Outcome, settled, misfitAfter, andThen, inverted, reading, readingIn}
 use Rattle.judge.specs.Assertion.{Asked, asked, testing, outcomeOf, outcome}
 use Rattle.judge.proofs.Laws.{truthOf, Settles, reading-truth}
 use Rattle.judge.proofs.Few.{testsOf, tests-few}
@@ -76,7 +76,7 @@ settles budget (settled w k) u n e = go (leb k budget) e
     go : (b : Bool) → pick b (answers w k) (refused 5) ≡ answers u n → settled w k ≡ settled u n
     go true q = let m : _≡_ {A = Option Truth} (some w) (some u) = ap (λ (r : Report). r .truth) q in let a : w ≡ u = cc in ap₂ settled a (ap (λ (r : Report). r .tests) q)
     go false q = absurd (let z : _≡_ {A = ℕ} 5 0 = ap (λ (r : Report). r .refusal) q in omega arith)
-settles budget (faulted k) u n e = absurd (go (leb k budget) e)
+settles budget (misfitAfter k) u n e = absurd (go (leb k budget) e)
   where
     go : (b : Bool) → pick b (refused 7) (refused 5) ≡ answers u n → ⊥
     go true q = let z : _≡_ {A = ℕ} 7 0 = ap (λ (r : Report). r .refusal) q in omega arith
@@ -140,7 +140,7 @@ module _ (t v : List ℕ) where
         where
           go : (o : Outcome) → o ≡ settled u n → Settles o (truth (itemTruth ty x) f) → u ≡ truth (itemTruth ty x) f
           go (settled w k) e h = let a : w ≡ u = cc in sym a ∙ h
-          go (faulted k) e h = absurd (let z : _≡_ {A = ℕ} 0 1 = cc in omega arith)
+          go (misfitAfter k) e h = absurd (let z : _≡_ {A = ℕ} 0 1 = cc in omega arith)
 
       pub answers-truly : Answers t v s f x u n
       answers-truly = record {

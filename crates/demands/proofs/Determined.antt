@@ -19,8 +19,8 @@ use Rattle.reader.specs.Sees.{Sees, SeesAll, SeesFields, SeesElements}
 use Rattle.reader.proofs.Laws.{stored-seen}
 use Rattle.reference.specs.Reference.{Index, position, fromEnd, count, all, Id, name, index}
 use Rattle.reference.specs.Named as names
-use Rattle.reference.specs.Named.{Held, value, missing, counted, absentNames, memberNamed, size, each, indexedBy, step, replaced, held, named}
-use Rattle.reference.specs.Numbers.{Component, stored, defaulted, tallied, component, numbersOf, threes}
+use Rattle.reference.specs.Named.{Held, value, defaultValue, countValue, absentNames, memberNamed, size, each, indexedBy, step, replaced, held, named}
+use Rattle.reference.specs.Numbers.{Component, stored, byDefault, byCount, component, numbersOf, threes}
 use Rattle.rules.specs.Accepts.{accepts}
 use Rattle.demands.specs.Named.{components, acceptsOne}
 use Rattle.demands.specs.Numbers.{componentBy, componentsBy, readBack, Each, Determined}
@@ -110,8 +110,8 @@ Known t s v x = SeesAll v x × Lacks t s x
 unfoldable Knows : List ℕ → List ℕ → List ℕ → List Held → Type 0
 Knows t s v [] = Unit {0}
 Knows t s v (value x ∷ hs) = Known t s v x × Knows t s v hs
-Knows t s v (missing p m ∷ hs) = OfRow t s m × Knows t s v hs
-Knows t s v (counted p n ∷ hs) = Knows t s v hs
+Knows t s v (defaultValue p m ∷ hs) = OfRow t s m × Knows t s v hs
+Knows t s v (countValue p n ∷ hs) = Knows t s v hs
 
 module _ (t s v : List ℕ) where
   none-held : Knows t s v []
@@ -122,11 +122,11 @@ module _ (t s v : List ℕ) where
   unfolding Knows
   one-held x w = (w, tt)
 
-  default-held : (p : ℕ) (m : Member) → OfRow t s m → Knows t s v (missing p m ∷ [])
+  default-held : (p : ℕ) (m : Member) → OfRow t s m → Knows t s v (defaultValue p m ∷ [])
   unfolding Knows
   default-held p m w = (w, tt)
 
-  count-held : (p n : ℕ) → Knows t s v (counted p n ∷ [])
+  count-held : (p n : ℕ) → Knows t s v (countValue p n ∷ [])
   unfolding Knows
   count-held p n = tt
 
@@ -134,8 +134,8 @@ module _ (t s v : List ℕ) where
   unfolding Knows
   knows-append [] b u w = w
   knows-append (value x ∷ a) b u w = (u .0, knows-append a b (u .1) w)
-  knows-append (missing p m ∷ a) b u w = (u .0, knows-append a b (u .1) w)
-  knows-append (counted p n ∷ a) b u w = knows-append a b u w
+  knows-append (defaultValue p m ∷ a) b u w = (u .0, knows-append a b (u .1) w)
+  knows-append (countValue p n ∷ a) b u w = knows-append a b u w
 
   knows-pick : (z : Bool) (a b : List Held) → Knows t s v a → Knows t s v b → Knows t s v (pick z a b)
   knows-pick true a b p q = p
@@ -145,7 +145,7 @@ module _ (t s v : List ℕ) where
   absent-known : (defaults : Bool) (place : ℕ) (m : Member) (pr : Presence) → OfRow t s m → Knows t s v (absentNames defaults place m pr)
   absent-known defaults place m mandatory w = none-held
   absent-known defaults place m optional w = none-held
-  absent-known defaults place m (default c) w = knows-pick defaults (missing place m ∷ []) [] (default-held place m w) none-held
+  absent-known defaults place m (default c) w = knows-pick defaults (defaultValue place m ∷ []) [] (default-held place m w) none-held
 
   member-known : (defaults : Bool) (place : ℕ) (x : List ℕ) (fs : Fields) → SeesFields v fs → LackIn t s fs → Knows t s v (memberNamed defaults place x fs)
   unfolding SeesAll Lacks memberNamed
@@ -179,11 +179,11 @@ module _ (t s v : List ℕ) where
   step-known defaults (name x) (elements p xs) w = none-held
   step-known defaults (index j) (elements p xs) w = index-known j (p .place) xs (w .0 .1) (w .1)
 
-  step-default : (defaults : Bool) (i : Id) (p : ℕ) (m : Member) → Knows t s v (step defaults i (missing p m))
+  step-default : (defaults : Bool) (i : Id) (p : ℕ) (m : Member) → Knows t s v (step defaults i (defaultValue p m))
   unfolding step
   step-default defaults i p m = none-held
 
-  step-count : (defaults : Bool) (i : Id) (p n : ℕ) → Knows t s v (step defaults i (counted p n))
+  step-count : (defaults : Bool) (i : Id) (p n : ℕ) → Knows t s v (step defaults i (countValue p n))
   unfolding step
   step-count defaults i p n = none-held
 
@@ -191,8 +191,8 @@ module _ (t s v : List ℕ) where
   unfolding Knows replaced
   replaced-known defaults i [] w = tt
   replaced-known defaults i (value x ∷ hs) w = knows-append (step defaults i (value x)) (replaced defaults i hs) (step-known defaults i x (w .0)) (replaced-known defaults i hs (w .1))
-  replaced-known defaults i (missing p m ∷ hs) w = knows-append (step defaults i (missing p m)) (replaced defaults i hs) (step-default defaults i p m) (replaced-known defaults i hs (w .1))
-  replaced-known defaults i (counted p n ∷ hs) w = knows-append (step defaults i (counted p n)) (replaced defaults i hs) (step-count defaults i p n) (replaced-known defaults i hs w)
+  replaced-known defaults i (defaultValue p m ∷ hs) w = knows-append (step defaults i (defaultValue p m)) (replaced defaults i hs) (step-default defaults i p m) (replaced-known defaults i hs (w .1))
+  replaced-known defaults i (countValue p n ∷ hs) w = knows-append (step defaults i (countValue p n)) (replaced defaults i hs) (step-count defaults i p n) (replaced-known defaults i hs w)
 
   held-known : (defaults : Bool) (is : List Id) (hs : List Held) → Knows t s v hs → Knows t s v (held defaults is hs)
   unfolding held
@@ -212,11 +212,11 @@ module _ (l : Limits) (t v : List ℕ) where
   unfolding componentBy numbersOf
   stored-back p w = ap (λ (c : List ℕ). stored (record { place = p .place; size = p .size; contents = c })) (w .contents)
 
-  default-back : (place : ℕ) (m : Member) → OfRow t (rows (l .rows) t) m → readBack l t v (defaulted place m) ≡ defaulted place m
+  default-back : (place : ℕ) (m : Member) → OfRow t (rows (l .rows) t) m → readBack l t v (byDefault place m) ≡ byDefault place m
   unfolding componentBy numbersOf
-  default-back place m w = ap (defaulted place) w
+  default-back place m w = ap (byDefault place) w
 
-  count-back : (place n : ℕ) → readBack l t v (tallied place n) ≡ tallied place n
+  count-back : (place n : ℕ) → readBack l t v (byCount place n) ≡ byCount place n
   unfolding componentBy numbersOf
   count-back place n = refl
 
@@ -224,8 +224,8 @@ module _ (l : Limits) (t v : List ℕ) where
   unfolding Knows Each
   each-back [] w = tt
   each-back (value x ∷ hs) w = (stored-back (spotOf x) (seen-spot v x (w .0 .0)), each-back hs (w .1))
-  each-back (missing p m ∷ hs) w = (default-back p m (w .0), each-back hs (w .1))
-  each-back (counted p n ∷ hs) w = (count-back p n, each-back hs w)
+  each-back (defaultValue p m ∷ hs) w = (default-back p m (w .0), each-back hs (w .1))
+  each-back (countValue p n ∷ hs) w = (count-back p n, each-back hs w)
 
 each-map : (f : Component → Component) (cs : List Component) → Each (λ c. f c ≡ c) cs → map f cs ≡ cs
 unfolding Each

@@ -9,7 +9,7 @@ use Rattle.rows.specs.Limits.{Limits}
 use Rattle.rows.specs.Row.{rows, rowAt}
 use Rattle.table.specs.Types.{memberOf}
 use Rattle.reader.specs.There.{contentsThere}
-use Rattle.reference.specs.Numbers.{Component, stored, defaulted, tallied, Numbers, numbersOf, threes}
+use Rattle.reference.specs.Numbers.{Component, stored, byDefault, byCount, Numbers, numbersOf, threes}
 use Rattle.rules.specs.Rule.{Rule}
 use Rattle.rules.specs.Accepts.{accepts}
 use Rattle.demands.specs.Named.{acceptsOne}
@@ -20,14 +20,14 @@ storedBy v place size = stored (record { place = place; size = size; contents = 
 
 -- "Default: 1, start of the enclosing SEQUENCE's own tag octet, the member's row": with the member that the table has in that row
 abbrev pub defaultBy : Limits → List ℕ → ℕ → ℕ → Component
-defaultBy l t place row = defaulted place (memberOf t row (rowAt (rows (l .rows) t) row))
+defaultBy l t place row = byDefault place (memberOf t row (rowAt (rows (l .rows) t) row))
 
 -- "Count: 2, the list's place, the elements."
 unfoldable pub componentBy : Limits → List ℕ → List ℕ → Numbers → Component
 componentBy l t v n =
     pick (eqb (n .source) 0) (storedBy v (n .place) (n .number))
     (pick (eqb (n .source) 1) (defaultBy l t (n .place) (n .number))
-    (tallied (n .place) (n .number)))
+    (byCount (n .place) (n .number)))
 
 -- the components that the numbers of a list stand for, three for each
 unfoldable pub componentsBy : Limits → List ℕ → List ℕ → List ℕ → List Component

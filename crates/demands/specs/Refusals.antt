@@ -19,8 +19,8 @@ use Rattle.reference.specs.Allowed.{allowed}
 use Rattle.reference.specs.Numbers.{Component}
 use Rattle.filter.specs.Filter.{Filter}
 use Rattle.filter.specs.Parse.{parse}
-use Rattle.trail.specs.Trail.{trail, faulty}
-use Rattle.judge.specs.Reading.{Outcome, settled, faulted}
+use Rattle.trail.specs.Trail.{trail, hasMisfit}
+use Rattle.judge.specs.Reading.{Outcome, settled, misfitAfter}
 use Rattle.engine.specs.Paper.{limits}
 use Rattle.engine.specs.Answer.{Report, questionFits, evaluated}
 use Rattle.engine.specs.Listing.{Listing, listingFits}
@@ -72,8 +72,8 @@ module _ (t v : List ℕ) (given : Bool) (r : List ℕ) (defaults : Bool) (room 
   leads = isSome (bind (givenIds given r) (λ is. allowed is (typeAt (limits .table) t 0)))
 
   -- 7: whether the walk along the reference reaches a header that doesn't fit
-  abbrev pub walkFaults : Bool
-  walkFaults = ofSome (λ is. faulty (trail defaults is (typeAt (limits .table) t 0) v)) (givenIds given r)
+  abbrev pub walkMisfits : Bool
+  walkMisfits = ofSome (λ is. hasMisfit (trail defaults is (typeAt (limits .table) t 0) v)) (givenIds given r)
 
   -- what the reference names in the decoded value
   abbrev pub namedThere : Option (List Component)
@@ -85,7 +85,7 @@ module _ (t v : List ℕ) (given : Bool) (r : List ℕ) (defaults : Bool) (room 
 
   abbrev pub RefusesListing : Listing → Type 0
   RefusesListing l =
-      ListRefusals room (no (listingFits limits t v given r)) (no (admitted (limits .table) t)) (no leads) (no (isStored (limits .table) t v)) walkFaults roomShort l
+      ListRefusals room (no (listingFits limits t v given r)) (no (admitted (limits .table) t)) (no leads) (no (isStored (limits .table) t v)) walkMisfits roomShort l
 
 -- ---- a filter; "Of 5 and 7 the first met is given"
 pub record AskRefusals (one two three four five seven : Bool) (r : Report) : Type 0 where
@@ -96,22 +96,22 @@ pub record AskRefusals (one two three four five seven : Bool) (r : Report) : Typ
 -- the tests of an outcome are within the budget
 abbrev pub enough : ℕ → Outcome → Bool
 enough budget (settled u n) = leb n budget
-enough budget (faulted n) = leb n budget
+enough budget (misfitAfter n) = leb n budget
 
 -- it is a header that doesn't fit
-abbrev pub isFault : Outcome → Bool
-isFault (settled u n) = Bool.false
-isFault (faulted n) = Bool.true
+abbrev pub isMisfit : Outcome → Bool
+isMisfit (settled u n) = Bool.false
+isMisfit (misfitAfter n) = Bool.true
 
 -- 5: "tests needed exceed the budget", counted up to a header that doesn't fit where one is reached
 abbrev pub over : List ℕ → List ℕ → ℕ → Filter → Bool
 over t v budget f = no (enough budget (evaluated (typeAt (limits .table) t 0) v f))
 
 -- 7: such a header is reached
-abbrev pub faults : List ℕ → List ℕ → Filter → Bool
-faults t v f = isFault (evaluated (typeAt (limits .table) t 0) v f)
+abbrev pub misfits : List ℕ → List ℕ → Filter → Bool
+misfits t v f = isMisfit (evaluated (typeAt (limits .table) t 0) v f)
 
 abbrev pub RefusesFilter : List ℕ → List ℕ → List ℕ → ℕ → Report → Type 0
 RefusesFilter t v s budget r =
     AskRefusals (no (questionFits limits t v s budget)) (no (admitted (limits .table) t)) (no (isSome (parse (limits .filter) s))) (no (isStored (limits .table) t v))
-    (ofSome (over t v budget) (parse (limits .filter) s)) (ofSome (faults t v) (parse (limits .filter) s)) r
+    (ofSome (over t v budget) (parse (limits .filter) s)) (ofSome (misfits t v) (parse (limits .filter) s)) r

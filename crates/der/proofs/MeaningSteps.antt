@@ -18,7 +18,7 @@ use Rattle.der.specs.Tag.{form, universal, ownOctet, implicitOctet, wrap
 use Rattle.der.specs.Contents.{legal}
 use Rattle.der.specs.Meaning.{integerOf, booleanOf, octetBits, allBits, bitsOf}
 use Rattle.der.specs.Order.{notAbove}
-use Rattle.der.specs.Answers.{toldInteger}
+use Rattle.der.specs.Answers.{reportInteger}
 
 -- ---- tag octets
 pub own-is : (k a b x y : ℕ) → a ≡ form k → x ≡ a → b ≡ universal k → y ≡ b → x + y ≡ ownOctet k
@@ -135,12 +135,12 @@ module _ (c : List ℕ) (i n : ℕ) (p : Flipped c i n) where
         so-far = base-more c i (p .other) (p .so-far) h;
       }
 
-pub integer-plus : (c : List ℕ) (o n : ℕ) → o ≡ octet c 0 → o < 128 → n ≡ baseFrom 0 c → toldInteger (record { minus = false; size = n }) ≡ integerOf c
+pub integer-plus : (c : List ℕ) (o n : ℕ) → o ≡ octet c 0 → o < 128 → n ≡ baseFrom 0 c → reportInteger (record { minus = false; size = n }) ≡ integerOf c
 unfolding integerOf
 integer-plus c o n e h q = let g : octet c 0 < 128 = omega arith in rw (lt-leb 128 (octet c 0) g, q)
 
 module _ (c : List ℕ) (o n : ℕ) (e : o ≡ octet c 0) (h : 128 ≤ o) (q : n + baseFrom 0 c + 1 ≡ 256 ^ length c) where
-  pub integer-minus : toldInteger (record { minus = true; size = n + 1 }) ≡ integerOf c
+  pub integer-minus : reportInteger (record { minus = true; size = n + 1 }) ≡ integerOf c
   unfolding integerOf
   integer-minus =
       let g : 128 ≤ octet c 0 = omega arith in

@@ -15,7 +15,7 @@ use Rattle.octets.specs.Octets.{octet}
 use Rattle.octets.specs.Text.{within}
 use Rattle.octets.proofs.Laws.{rest-cons, rest-none}
 use Rattle.der.specs.Contents.{subsFrom, subidentifiers, legalSubs, legalOid}
-use Rattle.der.specs.Answers.{toldSub, Forward}
+use Rattle.der.specs.Answers.{reportSub, Forward}
 use Rattle.der.specs.declared.Sub.{Sub}
 
 -- (v << 7) | (o & 127), where the shift loses nothing
@@ -103,16 +103,16 @@ module _ (c : List ℕ) (i n : ℕ) (few : n ≤ 32) (inv : legalFrom n (subiden
   unfolding subidentifiers subsFrom
   oid-done h = count ∙ (rw (rest-none c i h) at inv)
 
-  module _ (s : Sub) (read : toldSub c s ≡ subidentifiers (drop i c)) where
+  module _ (s : Sub) (read : reportSub c s ≡ subidentifiers (drop i c)) where
     pub oid-end : s ≡ Sub.End → leb 1 n ≡ legalOid c
-    oid-end e = count ∙ ap (legalFrom n) (sym (ap (toldSub c) e) ∙ read) ∙ inv
+    oid-end e = count ∙ ap (legalFrom n) (sym (ap (reportSub c) e) ∙ read) ∙ inv
 
     pub oid-broken : s ≡ Sub.Broken → false ≡ legalOid c
-    oid-broken e = ap (legalFrom n) (sym (ap (toldSub c) e) ∙ read) ∙ inv
+    oid-broken e = ap (legalFrom n) (sym (ap (reportSub c) e) ∙ read) ∙ inv
 
     module _ (m next : ℕ) (e : s ≡ Sub.Value m next) where
       value : legalFrom n (consed m (subidentifiers (drop next c))) ≡ legalOid c
-      value = ap (legalFrom n) (sym (ap (toldSub c) e) ∙ read) ∙ inv
+      value = ap (legalFrom n) (sym (ap (reportSub c) e) ∙ read) ∙ inv
 
       pub oid-full : n ≡ 32 → false ≡ legalOid c
       oid-full h = sym (full m (subidentifiers (drop next c))) ∙ ap (λ (k : ℕ). legalFrom k (consed m (subidentifiers (drop next c)))) (sym h) ∙ value

@@ -10,14 +10,14 @@ use Rattle.der.specs.declared.Sub.{Sub}
 use Rattle.der.specs.declared.Integer.{Integer}
 
 -- an integer
-abbrev pub toldInteger : Integer → Whole
-toldInteger i = record { minus = i .minus; size = i .size }
+abbrev pub reportInteger : Integer → Whole
+reportInteger i = record { minus = i .minus; size = i .size }
 
 -- the subidentifiers from a place on, by the first of them and the place after it
-abbrev pub toldSub : List ℕ → Sub → Option (List ℕ)
-toldSub c Sub.Broken = none
-toldSub c Sub.End = some []
-toldSub c (Sub.Value n next) = consed n (subidentifiers (drop next c))
+abbrev pub reportSub : List ℕ → Sub → Option (List ℕ)
+reportSub c Sub.Broken = none
+reportSub c Sub.End = some []
+reportSub c (Sub.Value n next) = consed n (subidentifiers (drop next c))
 
 -- that place lies further on, within the contents
 abbrev pub Forward : List ℕ → ℕ → Sub → Type 0

@@ -10,7 +10,7 @@ ghost use Rattle.der.specs.Contents as contents;
 ghost use Rattle.der.specs.Time as time;
 ghost use Rattle.der.specs.Meaning as meaning;
 ghost use Rattle.der.specs.Order.{notAbove};
-ghost use Rattle.der.specs.Answers.{toldInteger, toldSub, Forward};
+ghost use Rattle.der.specs.Answers.{reportInteger, reportSub, Forward};
 
 // A tag octet in parts: its class, whether it is constructed (1 or 0), its number.
 struct Tag {
@@ -315,7 +315,7 @@ fn legal_null(c: &[u8]) -> bool
 
 // The subidentifier at a place: seven bits an octet, the top bit set on all but the last.
 pub fn read_sub(c: &[u8], at: usize) -> Sub
-    ensures told { λ r. ⌜ toldSub (now (c .entry)) r ≡ contents.subidentifiers (drop at (now (c .entry))) ⌝ }
+    ensures told { λ r. ⌜ reportSub (now (c .entry)) r ≡ contents.subidentifiers (drop at (now (c .entry))) ⌝ }
     ensures forward { λ r. ⌜ Forward (now (c .entry)) at r ⌝ }
 {
     if c.len() <= at {
@@ -748,7 +748,7 @@ fn flipped(c: &[u8]) -> u64
 // An INTEGER of up to eight octets, as a sign and a size.
 pub fn read_integer(c: &[u8]) -> Integer
     requires { ⌜ length (now c) ≤ 8 ⌝ }
-    ensures { λ r. ⌜ toldInteger r ≡ meaning.integerOf (now (c .entry)) ⌝ }
+    ensures { λ r. ⌜ reportInteger r ≡ meaning.integerOf (now (c .entry)) ⌝ }
 {
     if octets::octet(c, 0) < 128 {
         return Integer {

@@ -18,12 +18,12 @@ use Rattle.octets.proofs.Laws.{never}
 use Rattle.der.specs.Contents.{subidentifiers}
 use Rattle.der.specs.Meaning.{arcsFrom, arcsOf}
 use Rattle.der.specs.Dotted.{dottedArcs}
-use Rattle.der.specs.Answers.{toldSub}
+use Rattle.der.specs.Answers.{reportSub}
 use Rattle.der.specs.declared.Sub.{Sub}
 use Rattle.der.proofs.DottedLaws.{arcs-pieces}
 use Rattle.der.proofs.MeaningLaws.{arcs-subs}
 use Rattle.dotted.specs.Arcs.{arcAt, restPieces}
-use Rattle.dotted.specs.Held.{splitFirst, restHeld, toldHeld, firstStep, isOver, sameArc, restArcs, matches}
+use Rattle.dotted.specs.Held.{splitFirst, restHeld, reportHeld, firstStep, isOver, sameArc, restArcs, matches}
 use Rattle.dotted.specs.declared.Dots.{Dots}
 use Rattle.dotted.specs.declared.Arc.{Arc}
 use Rattle.dotted.specs.declared.Held.{Held}
@@ -40,52 +40,52 @@ split-some n (some l) true b p q = rw p
 split-some n (some l) false true p q = rw (p, q)
 split-some n (some l) false false p q = rw (p, q)
 
-first-told : (c : List ℕ) (n next : ℕ) → toldHeld c (firstStep n next) ≡ splitFirst (consed n (subidentifiers (drop next c)))
+first-told : (c : List ℕ) (n next : ℕ) → reportHeld c (firstStep n next) ≡ splitFirst (consed n (subidentifiers (drop next c)))
 unfolding restHeld
 first-told c n next = go (ltb n 40) (ltb n 80) ∙ split-some n (subidentifiers (drop next c)) (ltb n 40) (ltb n 80) refl refl
   where
-    go : (a b : Bool) → toldHeld c (pick a (HeldStep.Next 0 (Held.Second n next)) (pick b (HeldStep.Next 1 (Held.Second (n - 40) next)) (HeldStep.Next 2 (Held.Second (n - 80) next))))
+    go : (a b : Bool) → reportHeld c (pick a (HeldStep.Next 0 (Held.Second n next)) (pick b (HeldStep.Next 1 (Held.Second (n - 40) next)) (HeldStep.Next 2 (Held.Second (n - 80) next))))
         ≡ pick a (consed 0 (consed n (subidentifiers (drop next c)))) (pick b (consed 1 (consed (n - 40) (subidentifiers (drop next c)))) (consed 2 (consed (n - 80) (subidentifiers (drop next c)))))
     go true b = refl
     go false true = refl
     go false false = refl
 
 module _ (c : List ℕ) (w : Sub) where
-  module _ (e : toldSub c w ≡ subidentifiers (drop 0 c)) where
-    pub start-end : w ≡ Sub.End → toldHeld c (HeldStep.End true) ≡ restHeld c Held.Start
+  module _ (e : reportSub c w ≡ subidentifiers (drop 0 c)) where
+    pub start-end : w ≡ Sub.End → reportHeld c (HeldStep.End true) ≡ restHeld c Held.Start
     unfolding restHeld
-    start-end h = ap splitFirst (ap (toldSub c) (sym h) ∙ e)
+    start-end h = ap splitFirst (ap (reportSub c) (sym h) ∙ e)
 
-    pub start-broken : w ≡ Sub.Broken → toldHeld c (HeldStep.End false) ≡ restHeld c Held.Start
+    pub start-broken : w ≡ Sub.Broken → reportHeld c (HeldStep.End false) ≡ restHeld c Held.Start
     unfolding restHeld
-    start-broken h = ap splitFirst (ap (toldSub c) (sym h) ∙ e)
+    start-broken h = ap splitFirst (ap (reportSub c) (sym h) ∙ e)
 
-    pub start-first : (n next : ℕ) (r : HeldStep) → w ≡ Sub.Value n next → r ≡ firstStep n next → toldHeld c r ≡ restHeld c Held.Start
+    pub start-first : (n next : ℕ) (r : HeldStep) → w ≡ Sub.Value n next → r ≡ firstStep n next → reportHeld c r ≡ restHeld c Held.Start
     unfolding restHeld
-    start-first n next r h q = ap (toldHeld c) q ∙ first-told c n next ∙ ap splitFirst (ap (toldSub c) (sym h) ∙ e)
+    start-first n next r h q = ap (reportHeld c) q ∙ first-told c n next ∙ ap splitFirst (ap (reportSub c) (sym h) ∙ e)
 
-  module _ (at : ℕ) (e : toldSub c w ≡ subidentifiers (drop at c)) where
-    pub at-end : w ≡ Sub.End → toldHeld c (HeldStep.End true) ≡ restHeld c (Held.At at)
+  module _ (at : ℕ) (e : reportSub c w ≡ subidentifiers (drop at c)) where
+    pub at-end : w ≡ Sub.End → reportHeld c (HeldStep.End true) ≡ restHeld c (Held.At at)
     unfolding restHeld
-    at-end h = ap (toldSub c) (sym h) ∙ e
+    at-end h = ap (reportSub c) (sym h) ∙ e
 
-    pub at-broken : w ≡ Sub.Broken → toldHeld c (HeldStep.End false) ≡ restHeld c (Held.At at)
+    pub at-broken : w ≡ Sub.Broken → reportHeld c (HeldStep.End false) ≡ restHeld c (Held.At at)
     unfolding restHeld
-    at-broken h = ap (toldSub c) (sym h) ∙ e
+    at-broken h = ap (reportSub c) (sym h) ∙ e
 
-    pub at-next : (n next : ℕ) → w ≡ Sub.Value n next → toldHeld c (HeldStep.Next n (Held.At next)) ≡ restHeld c (Held.At at)
+    pub at-next : (n next : ℕ) → w ≡ Sub.Value n next → reportHeld c (HeldStep.Next n (Held.At next)) ≡ restHeld c (Held.At at)
     unfolding restHeld
-    at-next n next h = ap (toldSub c) (sym h) ∙ e
+    at-next n next h = ap (reportSub c) (sym h) ∙ e
 
 module _ (c : List ℕ) (h : Held) where
-  pub next-start : (r : HeldStep) → h ≡ Held.Start → toldHeld c r ≡ restHeld c Held.Start → toldHeld c r ≡ restHeld c h
+  pub next-start : (r : HeldStep) → h ≡ Held.Start → reportHeld c r ≡ restHeld c Held.Start → reportHeld c r ≡ restHeld c h
   next-start r e q = rw e q
 
-  pub next-second : (b next : ℕ) → h ≡ Held.Second b next → toldHeld c (HeldStep.Next b (Held.At next)) ≡ restHeld c h
+  pub next-second : (b next : ℕ) → h ≡ Held.Second b next → reportHeld c (HeldStep.Next b (Held.At next)) ≡ restHeld c h
   unfolding restHeld
   next-second b next e = rw e
 
-  pub next-at : (r : HeldStep) (at : ℕ) → h ≡ Held.At at → toldHeld c r ≡ restHeld c (Held.At at) → toldHeld c r ≡ restHeld c h
+  pub next-at : (r : HeldStep) (at : ℕ) → h ≡ Held.At at → reportHeld c r ≡ restHeld c (Held.At at) → reportHeld c r ≡ restHeld c h
   next-at r at e q = rw e q
 
 -- ---- both sides
@@ -126,7 +126,7 @@ none-asked : (t : List ℕ) → restArcs t Dots.Over ≡ []
 unfolding restPieces
 none-asked t = refl
 
-over-matches : (c : List ℕ) (x : HeldStep) → isOver x ≡ matches (toldHeld c x) []
+over-matches : (c : List ℕ) (x : HeldStep) → isOver x ≡ matches (reportHeld c x) []
 over-matches c (HeldStep.End true) = sym same-nil
 over-matches c (HeldStep.End false) = refl
 over-matches c (HeldStep.Next n h) = go (restHeld c h)
@@ -140,8 +140,8 @@ matches-cons n k none l = sym (never (eqb n k))
 matches-cons n k (some s) l = same-cons n k s l
 
 module _ (t c : List ℕ) (a : Dots) (h : Held) (step : HeldStep) (m : Bool)
-    (inv : matches (restHeld c h) (restArcs t a) ≡ m) (told : toldHeld c step ≡ restHeld c h) where
-  sides : (l : List ℕ) → restArcs t a ≡ l → matches (toldHeld c step) l ≡ m
+    (inv : matches (restHeld c h) (restArcs t a) ≡ m) (told : reportHeld c step ≡ restHeld c h) where
+  sides : (l : List ℕ) → restArcs t a ≡ l → matches (reportHeld c step) l ≡ m
   sides l e = ap₂ matches told (sym e) ∙ inv
 
   pub arcs-over : (r : Bool) → a ≡ Dots.Over → r ≡ isOver step → r ≡ m
@@ -163,7 +163,7 @@ module _ (t c : List ℕ) (a : Dots) (h : Held) (step : HeldStep) (m : Bool)
       agree =
           ap (λ (x : Bool). both x (matches (restHeld c after) (restArcs t (arc .next)))) (tried ∙ ap (λ (z : Size). sameArc z n) (headed .clipped) ∙ same-clip (decimalFrom 0 (headed .piece)) n small)
           ∙ sym (matches-cons n (decimalFrom 0 (headed .piece)) (restHeld c after) (restArcs t (arc .next)))
-          ∙ sym (ap (λ (x : HeldStep). matches (toldHeld c x) (decimalFrom 0 (headed .piece) ∷ restArcs t (arc .next))) f)
+          ∙ sym (ap (λ (x : HeldStep). matches (reportHeld c x) (decimalFrom 0 (headed .piece) ∷ restArcs t (arc .next))) f)
           ∙ sides (decimalFrom 0 (headed .piece) ∷ restArcs t (arc .next)) (ap (map (decimalFrom 0)) left)
 
       pub arcs-differ : not u ≡ true → false ≡ m
@@ -187,4 +187,4 @@ module _ (t c : List ℕ) (a : Dots) (h : Held) (step : HeldStep) (m : Bool)
     pub arcs-ended : (whole : Bool) → step ≡ HeldStep.End whole → false ≡ m
     arcs-ended whole f =
         ended (decimalFrom 0 (some-left .piece)) (restArcs t (arcAt t at .next)) whole
-        ∙ sym (ap (λ (x : HeldStep). matches (toldHeld c x) (decimalFrom 0 (some-left .piece) ∷ restArcs t (arcAt t at .next))) f) ∙ sides _ asked
+        ∙ sym (ap (λ (x : HeldStep). matches (reportHeld c x) (decimalFrom 0 (some-left .piece) ∷ restArcs t (arcAt t at .next))) f) ∙ sides _ asked

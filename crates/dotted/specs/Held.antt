@@ -27,9 +27,9 @@ restHeld c Held.Start = splitFirst (subidentifiers c)
 restHeld c (Held.Second b next) = consed b (subidentifiers (drop next c))
 restHeld c (Held.At at) = subidentifiers (drop at c)
 
-abbrev pub toldHeld : List ℕ → HeldStep → Option (List ℕ)
-toldHeld c (HeldStep.End whole) = pick whole (some []) none
-toldHeld c (HeldStep.Next n h) = consed n (restHeld c h)
+abbrev pub reportHeld : List ℕ → HeldStep → Option (List ℕ)
+reportHeld c (HeldStep.End whole) = pick whole (some []) none
+reportHeld c (HeldStep.Next n h) = consed n (restHeld c h)
 
 abbrev pub firstStep : ℕ → ℕ → HeldStep
 firstStep n next =

@@ -223,7 +223,7 @@ fn first_arcs(n: u32, next: usize) -> HeldStep
 }
 
 fn held_start(c: &[u8]) -> HeldStep
-    ensures { λ r. ⌜ held.toldHeld (now (c .entry)) r ≡ held.restHeld (now (c .entry)) Held.Start ⌝ }
+    ensures { λ r. ⌜ held.reportHeld (now (c .entry)) r ≡ held.restHeld (now (c .entry)) Held.Start ⌝ }
 {
     let s = der::read_sub(c, 0);
     match s {
@@ -234,7 +234,7 @@ fn held_start(c: &[u8]) -> HeldStep
 }
 
 fn held_at(c: &[u8], at: usize) -> HeldStep
-    ensures { λ r. ⌜ held.toldHeld (now (c .entry)) r ≡ held.restHeld (now (c .entry)) (Held.At at) ⌝ }
+    ensures { λ r. ⌜ held.reportHeld (now (c .entry)) r ≡ held.restHeld (now (c .entry)) (Held.At at) ⌝ }
 {
     let s = der::read_sub(c, at);
     match s {
@@ -245,7 +245,7 @@ fn held_at(c: &[u8], at: usize) -> HeldStep
 }
 
 fn next_held(c: &[u8], h: Held) -> HeldStep
-    ensures { λ r. ⌜ held.toldHeld (now (c .entry)) r ≡ held.restHeld (now (c .entry)) h ⌝ }
+    ensures { λ r. ⌜ held.reportHeld (now (c .entry)) r ≡ held.restHeld (now (c .entry)) h ⌝ }
 {
     match h {
         Held::Start => held_start(c),

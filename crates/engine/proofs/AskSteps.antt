@@ -30,7 +30,7 @@ use Rattle.filter.specs.declared.Filter as declared
 use Rattle.filter.specs.declared.Reading.{Reading}
 use Rattle.filter.proofs.Laws.{parse-read, counted-some, counted-none}
 use Rattle.judge.specs.Truth.{TRUE, FALSE, UNDEFINED}
-use Rattle.judge.specs.Reading.{Outcome, settled, faulted, reading}
+use Rattle.judge.specs.Reading.{Outcome, settled, misfitAfter, reading}
 use Rattle.judge.specs.Assertion.{outcome}
 use Rattle.judge.specs.Work.{NamesDiffer, Ready, charged, judgedText}
 use Rattle.judge.proofs.Names.{names-apart}
@@ -78,7 +78,7 @@ module _ (w z : Judged) (told : w ≡ z) where
   pub judged-over : w ≡ Judged.Over → refused 5 ≡ judgedReport z
   judged-over e = ap judgedReport (sym e ∙ told)
 
-  pub judged-fault : w ≡ Judged.Fault → refused 7 ≡ judgedReport z
+  pub judged-fault : w ≡ Judged.Misfit → refused 7 ≡ judgedReport z
   judged-fault e = ap judgedReport (sym e ∙ told)
 
 judged-pick : (b : Bool) (j : Judged) → judgedReport (pick b j Judged.Over) ≡ pick b (judgedReport j) (refused 5)
@@ -91,10 +91,10 @@ unfolding charged budgeted
 budget-told budget (settled TRUE k) = let e : 0 + k ≡ k = omega arith in judged-pick (leb (0 + k) budget) (Judged.Of Verdict.True (0 + k)) ∙ rw e
 budget-told budget (settled FALSE k) = let e : 0 + k ≡ k = omega arith in judged-pick (leb (0 + k) budget) (Judged.Of Verdict.False (0 + k)) ∙ rw e
 budget-told budget (settled UNDEFINED k) = let e : 0 + k ≡ k = omega arith in judged-pick (leb (0 + k) budget) (Judged.Of Verdict.Undefined (0 + k)) ∙ rw e
-budget-told budget (faulted k) = let e : 0 + k ≡ k = omega arith in judged-pick (leb (0 + k) budget) Judged.Fault ∙ rw e
+budget-told budget (misfitAfter k) = let e : 0 + k ≡ k = omega arith in judged-pick (leb (0 + k) budget) Judged.Misfit ∙ rw e
 
 -- ---- 3, then 4
-module _ (s : List ℕ) (r : Reading) (told : filter.report r ≡ filter.counted (parse filterLimits s)) where
+module _ (s : List ℕ) (r : Reading) (told : filter.report r ≡ filter.itemsOf (parse filterLimits s)) where
   is-malformed : r ≡ Reading.Bad → parse filterLimits s ≡ none
   is-malformed e = counted-none (parse filterLimits s) (sym (ap filter.report e) ∙ told)
 
@@ -108,7 +108,7 @@ module _ (s : List ℕ) (r : Reading) (told : filter.report r ≡ filter.counted
     pub typed-read : isSome (filterAt s 0) ≡ true
     typed-read = ap isSome read-at
 
-module _ (ty : Ty) (v s : List ℕ) (budget : ℕ) (r : Reading) (told : filter.report r ≡ filter.counted (parse filterLimits s)) where
+module _ (ty : Ty) (v s : List ℕ) (budget : ℕ) (r : Reading) (told : filter.report r ≡ filter.itemsOf (parse filterLimits s)) where
   pub typed-malformed : r ≡ Reading.Bad → refused 3 ≡ withFilter ty v budget (parse filterLimits s)
   unfolding withFilter
   typed-malformed e = rw (is-malformed s r told e)

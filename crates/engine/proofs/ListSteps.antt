@@ -24,9 +24,9 @@ use Rattle.value.specs.Check.{valueFits}
 use Rattle.value.proofs.EntrySteps.{not-admitted, is-admitted, rows-are}
 use Rattle.reference.specs.Reference.{Id, readReference, givenIds}
 use Rattle.reference.specs.Allowed.{allowed}
-use Rattle.reference.specs.Work.{targetTold, leadsTo}
+use Rattle.reference.specs.Work.{reportTarget, leadsTo}
 use Rattle.reference.specs.declared.Target.{Target}
-use Rattle.trail.specs.Trail.{Trail, trail, faulty, reached}
+use Rattle.trail.specs.Trail.{Trail, trail, hasMisfit, reached}
 use Rattle.walk.specs.Run.{seen, run, idsOr}
 use Rattle.walk.specs.declared.State.{State}
 use Rattle.walk.specs.declared.Task.{Task}
@@ -59,7 +59,7 @@ module _ (given : Bool) (r : List ℕ) where
       fits-reference b f q = rw (sym fits ∙ not-false x e, sym fits-v ∙ not-false y f) q
 
 -- ---- the reference
-module _ (t s r : List ℕ) (given : Bool) (g : Target) (leads : targetTold (tableLimits .chain) t s g ≡ leadsTo given r (typeFrom (tableLimits .chain) t s 0)) where
+module _ (t s r : List ℕ) (given : Bool) (g : Target) (leads : reportTarget (tableLimits .chain) t s g ≡ leadsTo given r (typeFrom (tableLimits .chain) t s 0)) where
   pub allowed-row : (i : ℕ) → g ≡ Target.Row i → true ≡ isSome (leadsTo given r (typeFrom (tableLimits .chain) t s 0))
   allowed-row i e = ap isSome (rw e at leads)
 
@@ -74,7 +74,7 @@ module _ (limit : ℕ) (x m m' : List ℕ) (a : Trail) (w : State) (ran : seen w
   abbrev least : ℕ
   least = min limit (0 + length (reached a))
 
-  counted : seen w m' ≡ seen (pick (faulty a) State.Fault (State.Going least)) m
+  counted : seen w m' ≡ seen (pick (hasMisfit a) State.Misfit (State.Going least)) m
   counted = let z : 0 ≤ limit = omega arith in ran ∙ count-run limit x m a 0 z
 
   not-going : (x : ℕ) → OneOf (1 ∷ 2 ∷ 3 ∷ []) x → x ≡ 0 → ⊥
@@ -84,18 +84,18 @@ module _ (limit : ℕ) (x m m' : List ℕ) (a : Trail) (w : State) (ran : seen w
 
   pub walked-fault : OneOf (1 ∷ 2 ∷ 3 ∷ []) (tagOf state.the-type w) → listing (Listed.Refused 7) m' ≡ walked a m
   unfolding walked
-  walked-fault z = go (faulty a) counted
+  walked-fault z = go (hasMisfit a) counted
     where
-      go : (b : Bool) → seen w m' ≡ seen (pick b State.Fault (State.Going least)) m → listing (Listed.Refused 7) m' ≡ pick b (refusedList 7 m) (listed (reached a) m)
+      go : (b : Bool) → seen w m' ≡ seen (pick b State.Misfit (State.Going least)) m → listing (Listed.Refused 7) m' ≡ pick b (refusedList 7 m) (listed (reached a) m)
       go true q = let s : m' ≡ m = cc in rw s
       go false q = absurd (let s : w ≡ State.Going least = cc in not-going (tagOf state.the-type w) z (ap (tagOf state.the-type) s))
 
   module _ (n : ℕ) (going : w ≡ State.Going n) where
     -- what the first walk has shown
-    first : (faulty a ≡ false) × (m' ≡ m) × (n ≡ least)
-    first = go (faulty a) counted
+    first : (hasMisfit a ≡ false) × (m' ≡ m) × (n ≡ least)
+    first = go (hasMisfit a) counted
       where
-        go : (b : Bool) → seen w m' ≡ seen (pick b State.Fault (State.Going least)) m → (b ≡ false) × (m' ≡ m) × (n ≡ least)
+        go : (b : Bool) → seen w m' ≡ seen (pick b State.Misfit (State.Going least)) m → (b ≡ false) × (m' ≡ m) × (n ≡ least)
         go true q = absurd (let z : _≡_ {A = ℕ} 0 1 = cc in omega arith)
         go false q = (refl, cc, cc)
 

@@ -15,7 +15,7 @@ use Rattle.filter.specs.Filter.{Filter}
 use Rattle.filter.specs.Parse.{filterFits, parse}
 use Rattle.engine.specs.Limits.{Limits}
 use Rattle.judge.specs.Truth.{Truth, TRUE, FALSE, UNDEFINED}
-use Rattle.judge.specs.Reading.{Outcome, settled, faulted, reading}
+use Rattle.judge.specs.Reading.{Outcome, settled, misfitAfter, reading}
 use Rattle.judge.specs.Assertion.{outcome}
 use Rattle.judge.specs.declared.Verdict.{Verdict}
 use Rattle.judge.specs.declared.Judged.{Judged}
@@ -36,7 +36,7 @@ answers t n = record { refusal = 0; truth = some t; tests = n }
 -- 5: "tests needed exceed the budget"; "A budget is enough if it is at least the tests needed." 7 where a header that doesn't fit is met within it
 unfoldable pub budgeted : ℕ → Outcome → Report
 budgeted budget (settled t n) = pick (leb n budget) (answers t n) (refused 5)
-budgeted budget (faulted n) = pick (leb n budget) (refused 7) (refused 5)
+budgeted budget (misfitAfter n) = pick (leb n budget) (refused 7) (refused 5)
 
 -- 1: sizes and the budget
 unfoldable pub questionFits : Limits → List ℕ → List ℕ → List ℕ → ℕ → Bool
@@ -75,4 +75,4 @@ settledAs Verdict.Undefined n = Answer.Undefined n
 abbrev pub judgedReport : Judged → Report
 judgedReport (Judged.Of u n) = report (settledAs u n)
 judgedReport Judged.Over = refused 5
-judgedReport Judged.Fault = refused 7
+judgedReport Judged.Misfit = refused 7

@@ -2,7 +2,7 @@
 use Prim.Native.Nat.{ℕ}
 use Rattle.filter.specs.Computing.{filterComputes}
 use Rattle.trail.specs.Opened.{ownHeader, openAt}
-use Rattle.trail.specs.Trail.{then, eachFrom, countFrom, positionFrom, findMember, findAlternative, along, trail, faulty, reached}
+use Rattle.trail.specs.Trail.{then, eachFrom, countFrom, positionFrom, findMember, findAlternative, along, trail, hasMisfit, reached}
 use Rattle.judge.specs.Truth.{everyTruth, anyTruth, conjunction, disjunction, truth}
 use Rattle.judge.specs.Reading.{reading}
 use Rattle.judge.specs.Assertion.{asked, testing, outcome}
@@ -10,5 +10,5 @@ use Rattle.engine.specs.Answer.{budgeted, questionFits, evaluated, withF
 use Rattle.engine.specs.Listing.{written, listed, walked, listingFits, withIds, listingOf, listReport}
 
 unfoldable pub engineComputes : ℕ
-unfolding filterComputes ownHeader openAt then eachFrom countFrom positionFrom findMember findAlternative along trail faulty reached everyTruth anyTruth conjunction disjunction truth reading asked testing outcome budgeted questionFits evaluated withFilter questionOf askReport written listed walked listingFits withIds listingOf listReport
+unfolding filterComputes ownHeader openAt then eachFrom countFrom positionFrom findMember findAlternative along trail hasMisfit reached everyTruth anyTruth conjunction disjunction truth reading asked testing outcome budgeted questionFits evaluated withFilter questionOf askReport written listed walked listingFits withIds listingOf listReport
 engineComputes = 0

@@ -13,8 +13,8 @@ use Rattle.value.specs.Paper.{licenceRecord}
 use Rattle.reference.specs.Reference.{position, all, Id, name, index}
 use Rattle.reference.specs.Numbers.{threes}
 use Rattle.judge.specs.Truth.{TRUE, FALSE, UNDEFINED}
-use Rattle.judge.specs.Reading.{settled, faulted}
-use Rattle.trail.specs.Trail.{Trail, trail, faulty, reached}
+use Rattle.judge.specs.Reading.{settled, misfitAfter}
+use Rattle.trail.specs.Trail.{Trail, trail, hasMisfit, reached}
 use Rattle.engine.specs.Answer as answer
 use Rattle.engine.specs.Answer.{budgeted, askReport}
 use Rattle.engine.specs.Listing.{Listing, listReport, refusedList, lists}
@@ -22,7 +22,7 @@ use Rattle.engine.specs.Paper.{limits}
 use Rattle.engine.specs.Computing.{engineComputes}
 
 -- of 5 and 7 the first met: a fault after two tests
-budgets : budgeted 2 (settled TRUE 2) ∷ budgeted 1 (settled TRUE 2) ∷ budgeted 2 (faulted 2) ∷ budgeted 1 (faulted 2) ∷ [] ≡ answer.answers TRUE 2 ∷ answer.refused 5 ∷ answer.refused 7 ∷ answer.refused 5 ∷ []
+budgets : budgeted 2 (settled TRUE 2) ∷ budgeted 1 (settled TRUE 2) ∷ budgeted 2 (misfitAfter 2) ∷ budgeted 1 (misfitAfter 2) ∷ [] ≡ answer.answers TRUE 2 ∷ answer.refused 5 ∷ answer.refused 7 ∷ answer.refused 5 ∷ []
 unfolding engineComputes
 budgets = refl
 
@@ -81,7 +81,7 @@ walk is v = trail true is (typeAt tableLimits licence 0) v
 abbrev copies : List Id
 copies = name (bytes "parts") ∷ index all ∷ name (bytes "copies") ∷ []
 
-faults : map (λ v. faulty (walk copies v)) (licenceRecord ∷ set licenceRecord 15 8 ∷ set licenceRecord 14 49 ∷ set licenceRecord 0 49 ∷ set licenceRecord 12 80 ∷ []) ≡ false ∷ true ∷ true ∷ true ∷ false ∷ []
+faults : map (λ v. hasMisfit (walk copies v)) (licenceRecord ∷ set licenceRecord 15 8 ∷ set licenceRecord 14 49 ∷ set licenceRecord 0 49 ∷ set licenceRecord 12 80 ∷ []) ≡ false ∷ true ∷ true ∷ true ∷ false ∷ []
 unfolding engineComputes walk
 faults = refl
 

@@ -15,7 +15,7 @@ use Rattle.reference.specs.Reference.{Id, givenIds}
 use Rattle.reference.specs.Allowed.{allowed}
 use Rattle.reference.specs.Numbers.{Component, threes}
 use Rattle.engine.specs.Limits.{Limits}
-use Rattle.trail.specs.Trail.{Trail, trail, faulty, reached}
+use Rattle.trail.specs.Trail.{Trail, trail, hasMisfit, reached}
 use Rattle.engine.specs.declared.Listed.{Listed}
 
 -- whether it is done and not refused; the refusal's number, 0 for none; "the count in its answer is the number of named values", and 0 with a refusal
@@ -49,7 +49,7 @@ listed cs room = pick (ltb (length room) (length cs * 3)) (refusedList 6 room) (
 
 -- 7 goes before 6
 unfoldable pub walked : Trail → List ℕ → Listing
-walked a room = pick (faulty a) (refusedList 7 room) (listed (reached a) room)
+walked a room = pick (hasMisfit a) (refusedList 7 room) (listed (reached a) room)
 
 -- 1: "a listing's reference above 2,048"; where none is given its octets are not looked at
 abbrev pub referenceFits : Limits → Bool → List ℕ → Bool

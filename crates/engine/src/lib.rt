@@ -258,7 +258,7 @@ fn ask_judged(t: &[u8], s: &[usize], m: &[u64], v: &[u8], filter: &[u8], budget:
     match judge::judge(t, s, m, v, filter, budget) {
         Judged::Of(u, n) => Answer::of(u, n),
         Judged::Over => Answer::Refused(5),
-        Judged::Fault => Answer::Refused(7),
+        Judged::Misfit => Answer::Refused(7),
     }
 }
 

@@ -18,7 +18,7 @@ use Rattle.assertion.proofs.Progress.{Further}
 use Rattle.filter.specs.Limits.{Limits}
 use Rattle.filter.specs.Filter.{Filter, Filters, endFilters, next, depth, items}
 use Rattle.filter.specs.Parse.{Head, headAt, Tail, another, closed, noTail, tailAt, made, byHead, byTail, afterFirst, filterFrom, filtersFrom, filterAt, filtersAt, ifWhole, withinLimits, whole, parse, parseWithin}
-use Rattle.filter.specs.Answers.{counted}
+use Rattle.filter.specs.Answers.{itemsOf}
 use Rattle.filter.proofs.Progress.{read-on, from-on, head-on, same-head, same-first, same-filter, same-filters}
 
 -- ---- equations
@@ -102,10 +102,10 @@ parse-read l s f e =
     (whole-read s f (z .1 .0 ∙ ap some (y .1)), rw (← y .1) (leb-true _ _ (t .0), leb-true _ _ (t .1)))
 
 -- the items that were counted are those of the filter that was parsed
-pub counted-some : (x : Option Filter) (k : ℕ) → some k ≡ counted x → (f : Filter) × ((x ≡ some f) × (k ≡ items f))
+pub counted-some : (x : Option Filter) (k : ℕ) → some k ≡ itemsOf x → (f : Filter) × ((x ≡ some f) × (k ≡ items f))
 counted-some none k e = absurd (none-not (sym e))
 counted-some (some f) k e = (f, (refl, some-is e))
 
-pub counted-none : (x : Option Filter) → none ≡ counted x → x ≡ none
+pub counted-none : (x : Option Filter) → none ≡ itemsOf x → x ≡ none
 counted-none none e = refl
 counted-none (some f) e = absurd (none-not e)

@@ -14,21 +14,21 @@ use Rattle.filter.specs.declared.Span.{Span}
 use Rattle.filter.specs.declared.Reading.{Reading}
 
 -- ---- heads and tails
-abbrev pub joinOf : Join → filter.Join
-joinOf Join.And = filter.and
-joinOf Join.Or = filter.or
+abbrev pub reportJoin : Join → filter.Join
+reportJoin Join.And = filter.and
+reportJoin Join.Or = filter.or
 
-abbrev pub headOf : Head → parsing.Head
-headOf (Head.Assertion p) = parsing.assertion p
-headOf (Head.EmptyList j p) = parsing.emptyList (joinOf j) p
-headOf (Head.OpenList j p) = parsing.openList (joinOf j) p
-headOf (Head.Negation p) = parsing.negation p
-headOf Head.NoHead = parsing.noHead
+abbrev pub reportHead : Head → parsing.Head
+reportHead (Head.Assertion p) = parsing.assertion p
+reportHead (Head.EmptyList j p) = parsing.emptyList (reportJoin j) p
+reportHead (Head.OpenList j p) = parsing.openList (reportJoin j) p
+reportHead (Head.Negation p) = parsing.negation p
+reportHead Head.NoHead = parsing.noHead
 
-abbrev pub tailOf : Tail → parsing.Tail
-tailOf (Tail.Another p) = parsing.another p
-tailOf (Tail.Closed p) = parsing.closed p
-tailOf Tail.NoTail = parsing.noTail
+abbrev pub reportTail : Tail → parsing.Tail
+reportTail (Tail.Another p) = parsing.another p
+reportTail (Tail.Closed p) = parsing.closed p
+reportTail Tail.NoTail = parsing.noTail
 
 -- ---- what is read within a depth d and so many items: the place after it, and the items that are left
 abbrev pub fitting : ℕ → ℕ → ℕ → ℕ → ℕ → Span
@@ -48,6 +48,6 @@ abbrev pub report : Reading → Option ℕ
 report (Reading.Good f) = some (f .items)
 report Reading.Bad = none
 
-abbrev pub counted : Option Filter → Option ℕ
-counted none = none
-counted (some f) = some (items f)
+abbrev pub itemsOf : Option Filter → Option ℕ
+itemsOf none = none
+itemsOf (some f) = some (items f)

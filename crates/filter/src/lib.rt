@@ -77,7 +77,7 @@ pub enum Reading {
 // ---- heads and tails
 // What a list begins with, from its opening brace on.
 fn list_head(s: &[u8], at: usize, join: Join) -> Head
-    ensures { λ r. ⌜ answers.headOf r ≡ parsing.inBraces (now (s .entry)) (answers.joinOf join) (markAt openBrace (now (s .entry)) at) ⌝ }
+    ensures { λ r. ⌜ answers.reportHead r ≡ parsing.inBraces (now (s .entry)) (answers.reportJoin join) (markAt openBrace (now (s .entry)) at) ⌝ }
 {
     let Place::At(p) = assertion::mark_at(s, at, b'{') else {
         return Head::NoHead;
@@ -92,7 +92,7 @@ fn list_head(s: &[u8], at: usize, join: Join) -> Head
 }
 
 pub fn read_head(s: &[u8], at: usize) -> Head
-    ensures { λ r. ⌜ answers.headOf r ≡ parsing.headAt (now (s .entry)) at ⌝ }
+    ensures { λ r. ⌜ answers.reportHead r ≡ parsing.headAt (now (s .entry)) at ⌝ }
 {
     if let Place::At(p) = assertion::word_at(s, at, b"item:") {
         return Head::Assertion(p);
@@ -110,7 +110,7 @@ pub fn read_head(s: &[u8], at: usize) -> Head
 }
 
 pub fn read_tail(s: &[u8], at: usize) -> Tail
-    ensures { λ r. ⌜ answers.tailOf r ≡ parsing.tailAt (now (s .entry)) at ⌝ }
+    ensures { λ r. ⌜ answers.reportTail r ≡ parsing.tailAt (now (s .entry)) at ⌝ }
 {
     let p = octets::skip(s, at);
     if let Place::At(q) = assertion::mark_at(s, at, b',') {
@@ -179,7 +179,7 @@ fn read_list(s: &[u8], at: usize, depth: usize, room: usize) -> Span
 // ---- the whole text
 // The filter that a text is; malformed, too deep and too many items are one refusal.
 pub fn read(text: &[u8]) -> Reading
-    ensures { λ r. ⌜ answers.report r ≡ answers.counted (parsing.parse filterLimits (now (text .entry))) ⌝ }
+    ensures { λ r. ⌜ answers.report r ≡ answers.itemsOf (parsing.parse filterLimits (now (text .entry))) ⌝ }
 {
     if !octets::utf8(text) {
         return Reading::Bad;

@@ -14,7 +14,7 @@ use Rattle.octets.specs.Answers.{clip}
 use Rattle.octets.specs.declared.Size.{Size}
 use Rattle.octets.proofs.Laws.{part-rest}
 use Rattle.der.specs.Meaning.{Whole, sameWhole, lessWhole, integerOf}
-use Rattle.der.specs.Answers.{toldInteger}
+use Rattle.der.specs.Answers.{reportInteger}
 use Rattle.der.specs.declared.Integer.{Integer}
 use Rattle.der.proofs.MeaningLaws.{same-whole, less-whole}
 use Rattle.integers.specs.Asserted.{isMinus, isInteger, assertedInteger}
@@ -142,7 +142,7 @@ module _ (a : Asked) (w : Whole) (minus : Bool) (n : ℕ) (read : a ≡ heldOf w
 pub too-long : (c : List ℕ) (x : Bool) → 8 < length c → false ≡ both (leb (length c) 8) x
 too-long c x h = rw (lt-leb (length c) 8 h)
 
-module _ (c : List ℕ) (i : Integer) (w : Whole) (u : Bool) (short : length c ≤ 8) (read : toldInteger i ≡ integerOf c) where
+module _ (c : List ℕ) (i : Integer) (w : Whole) (u : Bool) (short : length c ≤ 8) (read : reportInteger i ≡ integerOf c) where
   pub same-contents-is : u ≡ sameWhole (record { minus = i .minus; size = i .size }) w → u ≡ both (leb (length c) 8) (sameWhole (integerOf c) w)
   same-contents-is e = rw (le-leb (length c) 8 short) (e ∙ ap (λ (x : Whole). sameWhole x w) read)
 

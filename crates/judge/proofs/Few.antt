@@ -20,13 +20,13 @@ use Rattle.trail.proofs.Spreading.{named-spread, spread-few}
 use Rattle.rules.specs.Accepts.{accepts}
 use Rattle.filter.specs.Filter.{Item, Join, Filter, Filters, item, list, inverse, endFilters, next, items, itemsIn}
 use Rattle.judge.specs.Truth.{Truth, TRUE}
-use Rattle.judge.specs.Reading.{Outcome, settled, faulted, stops, added, andThen, inverted, reading, readingIn}
+use Rattle.judge.specs.Reading.{Outcome, settled, misfitAfter, stops, added, andThen, inverted, reading, readingIn}
 use Rattle.judge.specs.Assertion.{Asked, asked, testing, outcomeOf, outcome}
 
 -- the tests made
 abbrev pub testsOf : Outcome → ℕ
 testsOf (settled t n) = n
-testsOf (faulted n) = n
+testsOf (misfitAfter n) = n
 
 -- ---- one assertion: one test a named value at most
 testing-few : (f : Component → Bool) (n : ℕ) (hs : List Held) → testsOf (testing f n (laid hs)) ≤ n + length (map component hs)
@@ -61,10 +61,10 @@ module _ (ty : Ty) (v : List ℕ) (x : Value) (stored : storedValue ty v ≡ som
 -- ---- a filter: so many for each of its items
 added-tests : (j : Join) (t : Truth) (n : ℕ) (r : Outcome) → testsOf (added j t n r) ≡ n + testsOf r
 added-tests j t n (settled u m) = refl
-added-tests j t n (faulted m) = refl
+added-tests j t n (misfitAfter m) = refl
 
 then-few : (j : Join) (o r : Outcome) → testsOf (andThen j o r) ≤ testsOf o + testsOf r
-then-few j (faulted n) r = omega arith
+then-few j (misfitAfter n) r = omega arith
 then-few j (settled t n) r = go (stops j t)
   where
     go : (b : Bool) → testsOf (pick b (settled t n) (added j t n r)) ≤ n + testsOf r
@@ -73,7 +73,7 @@ then-few j (settled t n) r = go (stops j t)
 
 inverted-tests : (o : Outcome) → testsOf (inverted o) ≡ testsOf o
 inverted-tests (settled t n) = refl
-inverted-tests (faulted n) = refl
+inverted-tests (misfitAfter n) = refl
 
 mutual
   unfolding reading items

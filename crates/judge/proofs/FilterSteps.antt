@@ -10,13 +10,13 @@ use lib.ListN.{length}
 use Rattle.octets.specs.Pick.{isSome}
 use Rattle.table.specs.Types.{Ty}
 use Rattle.assertion.specs.Assertion.{Read, assertionAt}
-use Rattle.assertion.specs.Places.{itemOf, assertionTold}
+use Rattle.assertion.specs.Places.{itemOf, reportAssertion}
 use Rattle.assertion.specs.declared.Assertion.{Assertion}
 use Rattle.assertion.specs.declared.Parts.{Parts}
 use Rattle.filter.specs.Filter as filter
 use Rattle.filter.specs.Filter.{Item, item, list, inverse as invert, Filter, Filters, endFilters, next}
 use Rattle.filter.specs.Parse.{made, filterAt, filtersAt, headAt, tailAt, Tail, another, closed, noTail, openList, negation}
-use Rattle.filter.specs.Answers.{joinOf, headOf, tailOf}
+use Rattle.filter.specs.Answers.{reportJoin, reportHead, reportTail}
 use Rattle.filter.specs.declared.Join.{Join}
 use Rattle.filter.specs.declared.Head.{Head}
 use Rattle.filter.specs.declared.Tail as tail
@@ -49,9 +49,9 @@ pub empty-at : (j : filter.Join) (live : Bool) (n after : ℕ) (p : Progress) (u
 empty-at j live n after p u e f = rw (f, e)
 
 -- ---- what follows a filter of a list
-module _ (s : List ℕ) (j : filter.Join) (p : Progress) (k q : ℕ) (t : tail.Tail) (g : tailOf t ≡ tailAt s q) where
-  turned-by : (x : tail.Tail) → t ≡ x → turnedBy j p k (tailOf x) ≡ turnedBy j p k (tailAt s q)
-  turned-by x e = ap (turnedBy j p k) (ap tailOf (sym e) ∙ g)
+module _ (s : List ℕ) (j : filter.Join) (p : Progress) (k q : ℕ) (t : tail.Tail) (g : reportTail t ≡ tailAt s q) where
+  turned-by : (x : tail.Tail) → t ≡ x → turnedBy j p k (reportTail x) ≡ turnedBy j p k (tailAt s q)
+  turned-by x e = ap (turnedBy j p k) (ap reportTail (sym e) ∙ g)
 
   pub follow-goes : (a : ℕ) → t ≡ tail.Tail.Another a → Turn.Goes p k a ≡ turnedBy j p k (tailAt s q)
   follow-goes a e = turned-by (tail.Tail.Another a) e
@@ -59,7 +59,7 @@ module _ (s : List ℕ) (j : filter.Join) (p : Progress) (k q : ℕ) (t : tail.T
   pub follow-closed : (a : ℕ) (y : Verdict) → t ≡ tail.Tail.Closed a → y ≡ atEnd j p → Turn.Ends (Judging.At y k a) ≡ turnedBy j p k (tailAt s q)
   follow-closed a y e f = ap (λ (z : Verdict). Turn.Ends (Judging.At z k a)) f ∙ turned-by (tail.Tail.Closed a) e
 
-  pub follow-lost : t ≡ tail.Tail.NoTail → Turn.Ends Judging.Fault ≡ turnedBy j p k (tailAt s q)
+  pub follow-lost : t ≡ tail.Tail.NoTail → Turn.Ends Judging.Misfit ≡ turnedBy j p k (tailAt s q)
   follow-lost e = turned-by tail.Tail.NoTail e
 
 module _ (s : List ℕ) (j : filter.Join) (p : Progress) (w : Judging) where
@@ -69,11 +69,11 @@ module _ (s : List ℕ) (j : filter.Join) (p : Progress) (w : Judging) where
   pub turn-over : w ≡ Judging.Over → Turn.Ends Judging.Over ≡ turned s j p w
   turn-over h = sym (ap (turned s j p) h)
 
-  pub turn-fault : w ≡ Judging.Fault → Turn.Ends Judging.Fault ≡ turned s j p w
+  pub turn-fault : w ≡ Judging.Misfit → Turn.Ends Judging.Misfit ≡ turned s j p w
   turn-fault h = sym (ap (turned s j p) h)
 
 -- ---- the assertion of an item
-made-none : (says : Item → Outcome) (live : Bool) (budget n : ℕ) (x : Option (Read Item)) → x ≡ none → Judging.Fault ≡ judgedFilter says live budget n (made item x)
+made-none : (says : Item → Outcome) (live : Bool) (budget n : ℕ) (x : Option (Read Item)) → x ≡ none → Judging.Misfit ≡ judgedFilter says live budget n (made item x)
 unfolding judgedFilter
 made-none says live budget n x e = rw e
 
@@ -81,13 +81,13 @@ made-some : (says : Item → Outcome) (live : Bool) (budget n : ℕ) (x : Option
 unfolding judgedFilter reading
 made-some says live budget n x i after e = rw e
 
-module _ (ty : Ty) (v f : List ℕ) (at : ℕ) (live : Bool) (budget n : ℕ) (a : Assertion) (e : assertionTold f a ≡ assertionAt f at) where
-  pub assertion-bad : a ≡ Assertion.Bad → Judging.Fault ≡ judgedFilter (outcome ty v) live budget n (made item (assertionAt f at))
-  assertion-bad q = made-none (outcome ty v) live budget n (assertionAt f at) (sym e ∙ ap (assertionTold f) q)
+module _ (ty : Ty) (v f : List ℕ) (at : ℕ) (live : Bool) (budget n : ℕ) (a : Assertion) (e : reportAssertion f a ≡ assertionAt f at) where
+  pub assertion-bad : a ≡ Assertion.Bad → Judging.Misfit ≡ judgedFilter (outcome ty v) live budget n (made item (assertionAt f at))
+  assertion-bad q = made-none (outcome ty v) live budget n (assertionAt f at) (sym e ∙ ap (reportAssertion f) q)
 
   module _ (p : Parts) (q : a ≡ Assertion.Good p) (after : ℕ) (k : after ≡ p .after) where
     good : judgedIf live budget n (outcome ty v (itemOf f p)) after ≡ judgedFilter (outcome ty v) live budget n (made item (assertionAt f at))
-    good = ap (judgedIf live budget n (outcome ty v (itemOf f p))) k ∙ made-some (outcome ty v) live budget n (assertionAt f at) (itemOf f p) (p .after) (sym e ∙ ap (assertionTold f) q)
+    good = ap (judgedIf live budget n (outcome ty v (itemOf f p))) k ∙ made-some (outcome ty v) live budget n (assertionAt f at) (itemOf f p) (p .after) (sym e ∙ ap (reportAssertion f) q)
 
     pub assertion-passed : not live ≡ true → Judging.At Verdict.Undefined n after ≡ judgedFilter (outcome ty v) live budget n (made item (assertionAt f at))
     assertion-passed h = sym (ap (λ (b : Bool). judgedIf b budget n (outcome ty v (itemOf f p)) after) (not-true live h)) ∙ good
@@ -119,37 +119,37 @@ unfolding judgedFilter reading
 empty-judged says j true budget n after h = sym (at-end j Progress.Plain budget n after h)
 empty-judged says j false budget n after h = refl
 
-module _ (ty : Ty) (v f : List ℕ) (at : ℕ) (live : Bool) (budget n : ℕ) (h : Head) (e : headOf h ≡ headAt f at) where
+module _ (ty : Ty) (v f : List ℕ) (at : ℕ) (live : Bool) (budget n : ℕ) (h : Head) (e : reportHead h ≡ headAt f at) where
   pub filter-item : (p : ℕ) (w : Judging) → h ≡ Head.Assertion p → w ≡ judgedFilter (outcome ty v) live budget n (made item (assertionAt f p)) → w ≡ judgedFilter (outcome ty v) live budget n (filterAt f at)
-  filter-item p w q d = d ∙ ap (judgedFilter (outcome ty v) live budget n) (sym (filter-by f at (sym e ∙ ap headOf q)))
+  filter-item p w q d = d ∙ ap (judgedFilter (outcome ty v) live budget n) (sym (filter-by f at (sym e ∙ ap reportHead q)))
 
-  pub filter-empty : (j : Join) (p : ℕ) (w : Judging) → n ≤ budget → h ≡ Head.EmptyList j p → w ≡ Judging.At (atEnd (joinOf j) (begun live)) n p → w ≡ judgedFilter (outcome ty v) live budget n (filterAt f at)
-  filter-empty j p w l q d = d ∙ empty-judged (outcome ty v) (joinOf j) live budget n p l ∙ ap (judgedFilter (outcome ty v) live budget n) (sym (filter-by f at (sym e ∙ ap headOf q)))
+  pub filter-empty : (j : Join) (p : ℕ) (w : Judging) → n ≤ budget → h ≡ Head.EmptyList j p → w ≡ Judging.At (atEnd (reportJoin j) (begun live)) n p → w ≡ judgedFilter (outcome ty v) live budget n (filterAt f at)
+  filter-empty j p w l q d = d ∙ empty-judged (outcome ty v) (reportJoin j) live budget n p l ∙ ap (judgedFilter (outcome ty v) live budget n) (sym (filter-by f at (sym e ∙ ap reportHead q)))
 
-  pub filter-list : (j : Join) (p : ℕ) (w : Judging) → h ≡ Head.OpenList j p → w ≡ judgedFilters (outcome ty v) (joinOf j) (begun live) budget n (filtersAt f p) → w ≡ judgedFilter (outcome ty v) live budget n (filterAt f at)
-  filter-list j p w q d = d ∙ list-judged (outcome ty v) (joinOf j) live budget n (filtersAt f p) ∙ ap (judgedFilter (outcome ty v) live budget n) (sym (filter-by f at (sym e ∙ ap headOf q)))
+  pub filter-list : (j : Join) (p : ℕ) (w : Judging) → h ≡ Head.OpenList j p → w ≡ judgedFilters (outcome ty v) (reportJoin j) (begun live) budget n (filtersAt f p) → w ≡ judgedFilter (outcome ty v) live budget n (filterAt f at)
+  filter-list j p w q d = d ∙ list-judged (outcome ty v) (reportJoin j) live budget n (filtersAt f p) ∙ ap (judgedFilter (outcome ty v) live budget n) (sym (filter-by f at (sym e ∙ ap reportHead q)))
 
   pub filter-not : (p : ℕ) (w x : Judging) → h ≡ Head.Negation p → w ≡ judgedFilter (outcome ty v) live budget n (filterAt f p) → x ≡ inverse w → x ≡ judgedFilter (outcome ty v) live budget n (filterAt f at)
-  filter-not p w x q d g = g ∙ ap inverse d ∙ not-judged (outcome ty v) live budget n (filterAt f p) ∙ ap (judgedFilter (outcome ty v) live budget n) (sym (filter-by f at (sym e ∙ ap headOf q)))
+  filter-not p w x q d g = g ∙ ap inverse d ∙ not-judged (outcome ty v) live budget n (filterAt f p) ∙ ap (judgedFilter (outcome ty v) live budget n) (sym (filter-by f at (sym e ∙ ap reportHead q)))
 
-  pub filter-none : h ≡ Head.NoHead → Judging.Fault ≡ judgedFilter (outcome ty v) live budget n (filterAt f at)
+  pub filter-none : h ≡ Head.NoHead → Judging.Misfit ≡ judgedFilter (outcome ty v) live budget n (filterAt f at)
   unfolding judgedFilter
-  filter-none q = ap (judgedFilter (outcome ty v) live budget n) (sym (filter-by f at (sym e ∙ ap headOf q)))
+  filter-none q = ap (judgedFilter (outcome ty v) live budget n) (sym (filter-by f at (sym e ∙ ap reportHead q)))
 
-module _ (f : List ℕ) (at : ℕ) (h : Head) (e : headOf h ≡ headAt f at) where
+module _ (f : List ℕ) (at : ℕ) (h : Head) (e : reportHead h ≡ headAt f at) where
   module _ (read : isSome (filterAt f at) ≡ true) where
     pub list-read : (j : Join) (p : ℕ) → h ≡ Head.OpenList j p → isSome (filtersAt f p) ≡ true
-    list-read j p q = made-is (list (joinOf j)) (filtersAt f p) (ap isSome (sym (filter-by f at (sym e ∙ ap headOf q))) ∙ read)
+    list-read j p q = made-is (list (reportJoin j)) (filtersAt f p) (ap isSome (sym (filter-by f at (sym e ∙ ap reportHead q))) ∙ read)
 
     pub not-read : (p : ℕ) → h ≡ Head.Negation p → isSome (filterAt f p) ≡ true
-    not-read p q = made-is invert (filterAt f p) (ap isSome (sym (filter-by f at (sym e ∙ ap headOf q))) ∙ read)
+    not-read p q = made-is invert (filterAt f p) (ap isSome (sym (filter-by f at (sym e ∙ ap reportHead q))) ∙ read)
 
   -- the text that is left falls
   pub list-less : (t : ℕ) (j : Join) (p : ℕ) → 2 * (length f - at) ≡ t → h ≡ Head.OpenList j p → 2 * (length f - p) + 1 < t
-  list-less t j p m q = let l : HeadOn (length f) at (openList (joinOf j) p) = subst (HeadOn (length f) at) (sym e ∙ ap headOf q) (head-on f at) in let a = l .0 in let b = l .1 in omega arith
+  list-less t j p m q = let l : HeadOn (length f) at (openList (reportJoin j) p) = subst (HeadOn (length f) at) (sym e ∙ ap reportHead q) (head-on f at) in let a = l .0 in let b = l .1 in omega arith
 
   pub not-less : (t p : ℕ) → 2 * (length f - at) ≡ t → h ≡ Head.Negation p → 2 * (length f - p) < t
-  not-less t p m q = let l : HeadOn (length f) at (negation p) = subst (HeadOn (length f) at) (sym e ∙ ap headOf q) (head-on f at) in let a = l .0 in let b = l .1 in omega arith
+  not-less t p m q = let l : HeadOn (length f) at (negation p) = subst (HeadOn (length f) at) (sym e ∙ ap reportHead q) (head-on f at) in let a = l .0 in let b = l .1 in omega arith
 
 -- ---- the filters of a list, one turn: what the turn says of those from place i on, after k tests
 abbrev TurnSays : (Item → Outcome) → List ℕ → filter.Join → Progress → ℕ → ℕ → ℕ → Turn → Type 0
@@ -194,7 +194,7 @@ module _ (says : Item → Outcome) (f : List ℕ) (j : filter.Join) (p : Progres
     says-turn : (w : Judging) → FirstSays j p budget k o (x .after) w → TurnSays says f j p budget k i (turned f j p w)
     says-turn (Judging.At u c q) s = on-tail (tailAt f q) (ap (tailAt f) (sym (s .0))) u c (s .1) (s .2)
     says-turn Judging.Over s = let y = shape (tailAt f (x .after)) refl in sym (s (readingIn says j (y .0)) (r .after)) ∙ list-is (y .0) (r .after) (y .1) refl
-    says-turn Judging.Fault s = let y = shape (tailAt f (x .after)) refl in sym (s (readingIn says j (y .0)) (r .after)) ∙ list-is (y .0) (r .after) (y .1) refl
+    says-turn Judging.Misfit s = let y = shape (tailAt f (x .after)) refl in sym (s (readingIn says j (y .0)) (r .after)) ∙ list-is (y .0) (r .after) (y .1) refl
 
   says-judged : (w : Judging) → w ≡ judgedFilter says (goesOn p) budget k (filterAt f i) → TurnSays says f j p budget k i (turned f j p w)
   unfolding judgedFilter
@@ -255,13 +255,13 @@ text-judged says budget (some r) j after e h = go j (charged budget 0 (reading s
     go : (a b : Judged) → placed after a ≡ placed (r .after) b → a ≡ b
     go (Judged.Of u k) (Judged.Of y l) q = cc
     go (Judged.Of u k) Judged.Over q = absurd (let z : _≡_ {A = ℕ} 0 1 = cc in omega arith)
-    go (Judged.Of u k) Judged.Fault q = absurd (let z : _≡_ {A = ℕ} 0 1 = cc in omega arith)
+    go (Judged.Of u k) Judged.Misfit q = absurd (let z : _≡_ {A = ℕ} 0 1 = cc in omega arith)
     go Judged.Over (Judged.Of y l) q = absurd (let z : _≡_ {A = ℕ} 0 1 = cc in omega arith)
     go Judged.Over Judged.Over q = refl
-    go Judged.Over Judged.Fault q = absurd (let z : _≡_ {A = ℕ} 0 1 = cc in omega arith)
-    go Judged.Fault (Judged.Of y l) q = absurd (let z : _≡_ {A = ℕ} 0 1 = cc in omega arith)
-    go Judged.Fault Judged.Over q = absurd (let z : _≡_ {A = ℕ} 0 1 = cc in omega arith)
-    go Judged.Fault Judged.Fault q = refl
+    go Judged.Over Judged.Misfit q = absurd (let z : _≡_ {A = ℕ} 0 1 = cc in omega arith)
+    go Judged.Misfit (Judged.Of y l) q = absurd (let z : _≡_ {A = ℕ} 0 1 = cc in omega arith)
+    go Judged.Misfit Judged.Over q = absurd (let z : _≡_ {A = ℕ} 0 1 = cc in omega arith)
+    go Judged.Misfit Judged.Misfit q = refl
 
 module _ (ty : Ty) (v f : List ℕ) (budget : ℕ) (w : Judging) (read : isSome (filterAt f 0) ≡ true) (judged : w ≡ judgedFilter (outcome ty v) true budget 0 (filterAt f 0)) where
   pub text-at : (u : Verdict) (k after : ℕ) → w ≡ Judging.At u k after → Judged.Of u k ≡ judgedText (outcome ty v) budget (filterAt f 0)
@@ -270,5 +270,5 @@ module _ (ty : Ty) (v f : List ℕ) (budget : ℕ) (w : Judging) (read : isSome 
   pub text-over : w ≡ Judging.Over → Judged.Over ≡ judgedText (outcome ty v) budget (filterAt f 0)
   text-over q = text-judged (outcome ty v) budget (filterAt f 0) Judged.Over 0 (sym q ∙ judged) read
 
-  pub text-fault : w ≡ Judging.Fault → Judged.Fault ≡ judgedText (outcome ty v) budget (filterAt f 0)
-  text-fault q = text-judged (outcome ty v) budget (filterAt f 0) Judged.Fault 0 (sym q ∙ judged) read
+  pub text-fault : w ≡ Judging.Misfit → Judged.Misfit ≡ judgedText (outcome ty v) budget (filterAt f 0)
+  text-fault q = text-judged (outcome ty v) budget (filterAt f 0) Judged.Misfit 0 (sym q ∙ judged) read

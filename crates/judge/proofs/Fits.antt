@@ -19,7 +19,7 @@ use Rattle.value.proofs.Decodes.{Decodes, is-basic, is-sequence, is-choice, is-
 use Rattle.value.proofs.Decodes.{Fielded, none-left, there, lacks, Chosen, this, other, Elements, ends, goes, decodes-stored}
 use Rattle.reference.specs.Reference.{position, fromEnd, count, all, Id, name, index}
 use Rattle.reference.specs.Allowed.{Target, ofType, ofCount, memberType, under, allowedFrom, allowed}
-use Rattle.reference.specs.Named.{Held, value, missing, counted, absentNames, memberNamed, size, each, elementAt, step, replaced, held, named}
+use Rattle.reference.specs.Named.{Held, value, defaultValue, countValue, absentNames, memberNamed, size, each, elementAt, step, replaced, held, named}
 use Rattle.reference.specs.Numbers.{component, contentsOf}
 use Rattle.rules.specs.Rule.{Syntax, booleans, integers, objectIdentifiers, octetStrings, bitStrings, strings, times, Rule, present, equal, less}
 use Rattle.rules.specs.Suits.{suits, suitsTarget}
@@ -47,8 +47,8 @@ tagged-is (filling e d q) = (_, _, _, _, d)
 unfoldable pub Fits : List ℕ → Held → Target → Type 0
 Fits v (value x) (ofType ty) = Is ty v x × Fine ty
 Fits v (value x) ofCount = ⊥
-Fits v (missing p m) g = length (contentsOf (m .presence)) ≤ 8
-Fits v (counted p n) g = Unit {0}
+Fits v (defaultValue p m) g = length (contentsOf (m .presence)) ≤ 8
+Fits v (countValue p n) g = Unit {0}
 
 unfoldable pub AllFit : List ℕ → Target → List Held → Type 0
 AllFit v g [] = Unit {0}
@@ -67,11 +67,11 @@ one-fits : (v : List ℕ) (g : Target) (ty : Ty) (y : Value) → some (ofType ty
 unfolding AllFit Fits
 one-fits v g ty y e s f = subst (λ (k : Target). AllFit v k (value y ∷ [])) (some-same (ofType ty) g e) ((s, f), tt)
 
-missing-fits : (v : List ℕ) (g : Target) (place : ℕ) (m : Member) → length (contentsOf (m .presence)) ≤ 8 → AllFit v g (missing place m ∷ [])
+missing-fits : (v : List ℕ) (g : Target) (place : ℕ) (m : Member) → length (contentsOf (m .presence)) ≤ 8 → AllFit v g (defaultValue place m ∷ [])
 unfolding AllFit Fits
 missing-fits v g place m h = (h, tt)
 
-count-fits : (v : List ℕ) (g : Target) (place n : ℕ) → AllFit v g (counted place n ∷ [])
+count-fits : (v : List ℕ) (g : Target) (place n : ℕ) → AllFit v g (countValue place n ∷ [])
 unfolding AllFit Fits
 count-fits v g place n = (tt, tt)
 
@@ -84,7 +84,7 @@ absent-fit v g defaults place m h mandatory = none-fit v g
 absent-fit v g defaults place m h optional = none-fit v g
 absent-fit v g defaults place m h (default c) = go defaults
   where
-    go : (b : Bool) → AllFit v g (pick b (missing place m ∷ []) [])
+    go : (b : Bool) → AllFit v g (pick b (defaultValue place m ∷ []) [])
     go true = missing-fits v g place m h
     go false = none-fit v g
 
@@ -193,10 +193,10 @@ module _ (defaults : Bool) (v : List ℕ) where
   unfolding Fits step
   held-step i (ofType ty) k (value x) w e = step-fits defaults v k i (w .0 .4) (w .1) e
   held-step i ofCount k (value x) w e = absurd w
-  held-step i (ofType ty) k (missing p m) w e = none-fit v k
-  held-step i ofCount k (missing p m) w e = none-fit v k
-  held-step i (ofType ty) k (counted p n) w e = none-fit v k
-  held-step i ofCount k (counted p n) w e = none-fit v k
+  held-step i (ofType ty) k (defaultValue p m) w e = none-fit v k
+  held-step i ofCount k (defaultValue p m) w e = none-fit v k
+  held-step i (ofType ty) k (countValue p n) w e = none-fit v k
+  held-step i ofCount k (countValue p n) w e = none-fit v k
 
   replaced-fit : (i : Id) (g k : Target) (hs : List Held) → AllFit v g hs → under i g ≡ some k → AllFit v k (replaced defaults i hs)
   unfolding AllFit replaced
@@ -262,10 +262,10 @@ module _ (t : List ℕ) where
     unfolding Fits acceptsRead accepts
     accepted (ofType ty) (value x) e w = ap (λ (b : Bool). both b (acceptsContents r t (spotOf x .contents))) (read-value (w .0 .4) e)
     accepted ofCount (value x) e w = absurd w
-    accepted (ofType ty) (missing p m) e w = ap (λ (b : Bool). both b (acceptsContents r t (contentsOf (m .presence)))) (read-short r (contentsOf (m .presence)) asserted w)
-    accepted ofCount (missing p m) e w = ap (λ (b : Bool). both b (acceptsContents r t (contentsOf (m .presence)))) (read-short r (contentsOf (m .presence)) asserted w)
-    accepted (ofType ty) (counted p n) e w = refl
-    accepted ofCount (counted p n) e w = refl
+    accepted (ofType ty) (defaultValue p m) e w = ap (λ (b : Bool). both b (acceptsContents r t (contentsOf (m .presence)))) (read-short r (contentsOf (m .presence)) asserted w)
+    accepted ofCount (defaultValue p m) e w = ap (λ (b : Bool). both b (acceptsContents r t (contentsOf (m .presence)))) (read-short r (contentsOf (m .presence)) asserted w)
+    accepted (ofType ty) (countValue p n) e w = refl
+    accepted ofCount (countValue p n) e w = refl
 
     laid-tests : (g : Target) (hs : List Held) (n : ℕ) → suits r g ≡ true → AllFit v g hs → testing (acceptsRead r t) n (laid hs) ≡ testing (accepts r t) n (laid hs)
     unfolding AllFit laid testing

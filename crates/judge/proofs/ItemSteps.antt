@@ -16,7 +16,7 @@ use Rattle.value.proofs.Views.{none-some}
 use Rattle.reference.specs.Reference.{Id, identifiers, givenIds}
 use Rattle.reference.specs.Allowed as allowed
 use Rattle.reference.specs.Allowed.{ofCount}
-use Rattle.reference.specs.Work.{targetTold, rowWithin, leadsTo}
+use Rattle.reference.specs.Work.{reportTarget, rowWithin, leadsTo}
 use Rattle.reference.proofs.Laws.{row-here}
 use Rattle.reference.specs.declared.Target.{Target}
 use Rattle.rules.specs.Rule as rule
@@ -24,7 +24,7 @@ use Rattle.rules.specs.Rule.{ruleOf}
 use Rattle.rules.specs.Suits.{suits}
 use Rattle.rules.specs.Asserted.{conforms}
 use Rattle.rules.specs.RuleFor.{ruleFor}
-use Rattle.rules.specs.Answers.{meant, toldRule, ruleSuitsRow}
+use Rattle.rules.specs.Answers.{meant, reportRule, ruleSuitsRow}
 use Rattle.rules.specs.declared.Rule.{Rule}
 use Rattle.rules.specs.declared.Named.{Named}
 use Rattle.rules.proofs.Laws.{suits-row, rule-for-view}
@@ -58,11 +58,11 @@ module _ (chain : ℕ) (t s m v : List ℕ) (ready : Ready chain t s m v) where
 
 -- ---- a rule for what a reference leads to
 module _ (chain : ℕ) (t s m : List ℕ) (r : Rule) (g : Target) (b : Bool) where
-  pub suits-row-told : (i : ℕ) → Sound chain t s m → rowWithin s g ≡ true → g ≡ Target.Row i → b ≡ ruleSuitsRow (meant r) t s i → b ≡ suitsAny (meant r) (targetTold chain t s g)
-  suits-row-told i ok h q e = e ∙ suits-row chain t s m ok i (row-here s g i h q) (meant r) ∙ ap (λ (y : Target). suitsAny (meant r) (targetTold chain t s y)) (sym q)
+  pub suits-row-told : (i : ℕ) → Sound chain t s m → rowWithin s g ≡ true → g ≡ Target.Row i → b ≡ ruleSuitsRow (meant r) t s i → b ≡ suitsAny (meant r) (reportTarget chain t s g)
+  suits-row-told i ok h q e = e ∙ suits-row chain t s m ok i (row-here s g i h q) (meant r) ∙ ap (λ (y : Target). suitsAny (meant r) (reportTarget chain t s y)) (sym q)
 
-  pub suits-count-told : g ≡ Target.Count → b ≡ suits (meant r) ofCount → b ≡ suitsAny (meant r) (targetTold chain t s g)
-  suits-count-told q e = e ∙ ap (λ (y : Target). suitsAny (meant r) (targetTold chain t s y)) (sym q)
+  pub suits-count-told : g ≡ Target.Count → b ≡ suits (meant r) ofCount → b ≡ suitsAny (meant r) (reportTarget chain t s g)
+  suits-count-told q e = e ∙ ap (λ (y : Target). suitsAny (meant r) (reportTarget chain t s y)) (sym q)
 
 -- ---- answers
 module _ (w : Judged) where
@@ -85,13 +85,13 @@ module _ (g o : Option allowed.Target) (told : o ≡ g) (r : rule.Rule) (text : 
   asked-if b n e = rw (suited-is ∙ not-false a n) e
 
 -- ---- the rule of an assertion
-module _ (g : Option allowed.Target) (name text : List ℕ) (w : Named) (e : toldRule w ≡ ruleOf name) where
+module _ (g : Option allowed.Target) (name text : List ℕ) (w : Named) (e : reportRule w ≡ ruleOf name) where
   pub rule-unknown : w ≡ Named.Unknown → none ≡ askedRule g name text
   unfolding askedRule ruleFor
   rule-unknown q = go g
     where
       unknown : ruleOf name ≡ none
-      unknown = sym e ∙ ap toldRule q
+      unknown = sym e ∙ ap reportRule q
 
       go : (o : Option allowed.Target) → none ≡ bind o (λ y. ruleFor y name text)
       go none = refl
@@ -99,7 +99,7 @@ module _ (g : Option allowed.Target) (name text : List ℕ) (w : Named) (e : tol
 
   module _ (r : Rule) (q : w ≡ Named.Known r) (b : Bool) (h : b ≡ both (suitsAny (meant r) g) (conforms (meant r) text)) where
     known : ruleOf name ≡ some (meant r)
-    known = sym e ∙ ap toldRule q
+    known = sym e ∙ ap reportRule q
 
     pub rule-unsuited : not b ≡ true → none ≡ askedRule g name text
     unfolding askedRule ruleFor
@@ -166,28 +166,28 @@ module _ (ty : Ty) (given : Bool) (r : List ℕ) (defaults : Bool) (name text : 
       go none p q = none-some x q
       go (some is) p q = at is p (allowed.allowed is ty) refl q
 
-  module _ (budget n : ℕ) (v : List ℕ) (w : Named) (told : toldRule w ≡ askedRule (leadsTo given r ty) name text) where
+  module _ (budget n : ℕ) (v : List ℕ) (w : Named) (told : reportRule w ≡ askedRule (leadsTo given r ty) name text) where
     -- "an Undefined assertion makes no test"
     pub item-undefined : w ≡ Named.Unknown → n ≤ budget → Judged.Of Verdict.Undefined n ≡ charged budget n (outcome ty v (itemGiven given r defaults name text))
     unfolding outcome charged
-    item-undefined q h = let z : n + 0 ≡ n = omega arith in rw (asked-none (sym (ap toldRule q) ∙ told), z, le-leb n budget h)
+    item-undefined q h = let z : n + 0 ≡ n = omega arith in rw (asked-none (sym (ap reportRule q) ∙ told), z, le-leb n budget h)
 
     pub item-read : (x : Rule) → w ≡ Named.Known x → isSome (givenIds given r) ≡ true
-    item-read x q = let f = asked-some (meant x) (sym (ap toldRule q) ∙ told) in rw (f .1)
+    item-read x q = let f = asked-some (meant x) (sym (ap reportRule q) ∙ told) in rw (f .1)
 
 -- something that is there
 pub some-there : {A : Type 0} (o : Option A) → isSome o ≡ true → (a : A) × (o ≡ some a)
 some-there none e = absurd (false≢true e)
 some-there (some a) e = (a, refl)
 
-module _ (chain : ℕ) (t s m v : List ℕ) (ready : Ready chain t s m v) (given : Bool) (r : List ℕ) (defaults : Bool) (name text : List ℕ) (budget n : ℕ) (w : Named) (told : toldRule w ≡ askedRule (leadsTo given r (typeFrom chain t s 0)) name text) where
+module _ (chain : ℕ) (t s m v : List ℕ) (ready : Ready chain t s m v) (given : Bool) (r : List ℕ) (defaults : Bool) (name text : List ℕ) (budget n : ℕ) (w : Named) (told : reportRule w ≡ askedRule (leadsTo given r (typeFrom chain t s 0)) name text) where
   -- the tests of an assertion that isn't Undefined
   pub item-tested : (x : Rule) (j : Judged) → w ≡ Named.Known x → j ≡ charged budget n (testing (acceptsRead (meant x) text) 0 (trail defaults (idsOr (givenIds given r)) (typeFrom chain t s 0) v))
       → j ≡ charged budget n (outcome (typeFrom chain t s 0) v (itemGiven given r defaults name text))
   unfolding outcome
   item-tested x j q e =
       let ty = typeFrom chain t s 0 in
-      let f = asked-some ty given r defaults name text (meant x) (sym (ap toldRule q) ∙ told) in
+      let f = asked-some ty given r defaults name text (meant x) (sym (ap reportRule q) ∙ told) in
       let y = some-there (storedValue ty v) (ready .stored) in
       let fine = fine-type chain t s m (ready .sound) (ready .names) chain 0 (ready .rows) in
       let z : testing (acceptsRead (meant x) text) 0 (trail defaults (f .0) ty v) ≡ testing (accepts (meant x) text) 0 (trail defaults (f .0) ty v) = trail-tests text (meant x) v (ready .short) (f .5) defaults (f .0) ty (f .2) (y .0) 0 fine (y .1) (f .3) (f .4) in

@@ -6,17 +6,17 @@ use Prim.Native.Nat.{ℕ}
 use Rattle.octets.specs.Pick.{pick}
 use Rattle.filter.specs.Filter.{Item, Join, and, or, Filter, Filters, item, list, inverse, endFilters, next}
 use Rattle.judge.specs.Truth.{Truth, TRUE, FALSE, UNDEFINED, isTrue, isFalse, everyTruth, anyTruth, conjunction, disjunction, joined, opposite, truth, truths}
-use Rattle.judge.specs.Reading.{Outcome, settled, faulted, ofNone, withRest, andThen, inverted, reading, readingIn}
+use Rattle.judge.specs.Reading.{Outcome, settled, misfitAfter, ofNone, withRest, andThen, inverted, reading, readingIn}
 
 -- the truth of an outcome; of a fault none is asked
 abbrev pub truthOf : Outcome → Truth
 truthOf (settled t n) = t
-truthOf (faulted n) = UNDEFINED
+truthOf (misfitAfter n) = UNDEFINED
 
 -- an outcome that settles has a truth
 abbrev pub Settles : Outcome → Truth → Type 0
 Settles (settled t n) u = t ≡ u
-Settles (faulted n) u = Unit
+Settles (misfitAfter n) u = Unit
 
 -- ---- an Undefined filter before a list
 undefined-and : (a b : Bool) → (a ≡ true → b ≡ false) → withRest and UNDEFINED (pick a TRUE (pick b FALSE UNDEFINED)) ≡ pick b FALSE UNDEFINED
@@ -48,24 +48,24 @@ no-true (UNDEFINED ∷ us) h = absurd (false≢true h)
 head-and : (t : Truth) (n : ℕ) (rest : Outcome) (us : List Truth) → Settles rest (conjunction us) → Settles (andThen and (settled t n) rest) (conjunction (t ∷ us))
 unfolding conjunction everyTruth anyTruth
 head-and TRUE n (settled w m) us h = h
-head-and TRUE n (faulted m) us h = tt
+head-and TRUE n (misfitAfter m) us h = tt
 head-and FALSE n rest us h = refl
 head-and UNDEFINED n (settled w m) us h = ap (withRest and UNDEFINED) h ∙ undefined-and (everyTruth isTrue us) (anyTruth isFalse us) (no-false us)
-head-and UNDEFINED n (faulted m) us h = tt
+head-and UNDEFINED n (misfitAfter m) us h = tt
 
 head-or : (t : Truth) (n : ℕ) (rest : Outcome) (us : List Truth) → Settles rest (disjunction us) → Settles (andThen or (settled t n) rest) (disjunction (t ∷ us))
 unfolding disjunction everyTruth anyTruth
 head-or TRUE n rest us h = refl
 head-or FALSE n (settled w m) us h = h
-head-or FALSE n (faulted m) us h = tt
+head-or FALSE n (misfitAfter m) us h = tt
 head-or UNDEFINED n (settled w m) us h = ap (withRest or UNDEFINED) h ∙ undefined-or (everyTruth isFalse us) (anyTruth isTrue us) (no-true us)
-head-or UNDEFINED n (faulted m) us h = tt
+head-or UNDEFINED n (misfitAfter m) us h = tt
 
 head : (j : Join) (o : Outcome) (u : Truth) (rest : Outcome) (us : List Truth) → Settles o u → Settles rest (joined j us) → Settles (andThen j o rest) (joined j (u ∷ us))
 head and (settled t n) u rest us e h = subst (λ (x : Truth). Settles (andThen and (settled t n) rest) (conjunction (x ∷ us))) e (head-and t n rest us h)
 head or (settled t n) u rest us e h = subst (λ (x : Truth). Settles (andThen or (settled t n) rest) (disjunction (x ∷ us))) e (head-or t n rest us h)
-head and (faulted n) u rest us e h = tt
-head or (faulted n) u rest us e h = tt
+head and (misfitAfter n) u rest us e h = tt
+head or (misfitAfter n) u rest us e h = tt
 
 empty : (j : Join) → Settles (settled (ofNone j) 0) (joined j [])
 unfolding conjunction disjunction everyTruth anyTruth
@@ -74,11 +74,11 @@ empty or = refl
 
 under-not : (o : Outcome) (u : Truth) → Settles o u → Settles (inverted o) (opposite u)
 under-not (settled t n) u e = ap opposite e
-under-not (faulted n) u e = tt
+under-not (misfitAfter n) u e = tt
 
 of-item : (o : Outcome) → Settles o (truthOf o)
 of-item (settled t n) = refl
-of-item (faulted n) = tt
+of-item (misfitAfter n) = tt
 
 mutual
   unfolding reading truth

@@ -8,7 +8,7 @@ use lib.Dec.{leb}
 use Rattle.octets.specs.Pick.{pick}
 use Rattle.filter.specs.Filter.{Join, and, or}
 use Rattle.judge.specs.Truth.{Truth, TRUE, FALSE, UNDEFINED, opposite}
-use Rattle.judge.specs.Reading.{Outcome, settled, faulted, ofNone, stops, withRest, added, andThen, inverted}
+use Rattle.judge.specs.Reading.{Outcome, settled, misfitAfter, ofNone, stops, withRest, added, andThen, inverted}
 use Rattle.judge.specs.Work.{verdictOf, opposed, charged, placed, judgedIf, inverse, unsure, judgedRest, goesOn, behind, isUndefined, stopsAt, joinedBy, noneOf, atEnd}
 use Rattle.judge.specs.declared.Verdict.{Verdict}
 use Rattle.judge.specs.declared.Judged.{Judged}
@@ -20,37 +20,37 @@ use Rattle.judge.proofs.Testing.{shifted}
 charged-shifted : (budget k n : ℕ) (o : Outcome) → charged budget k (shifted n o) ≡ charged budget (k + n) o
 unfolding charged
 charged-shifted budget k n (settled t i) = let e : k + (n + i) ≡ k + n + i = omega arith in rw e
-charged-shifted budget k n (faulted i) = let e : k + (n + i) ≡ k + n + i = omega arith in rw e
+charged-shifted budget k n (misfitAfter i) = let e : k + (n + i) ≡ k + n + i = omega arith in rw e
 
 charged-over : (budget n : ℕ) (o : Outcome) → budget < n → charged budget n o ≡ Judged.Over
 unfolding charged
 charged-over budget n (settled t i) h = let l : budget < n + i = omega arith in rw (lt-leb (n + i) budget l)
-charged-over budget n (faulted i) h = let l : budget < n + i = omega arith in rw (lt-leb (n + i) budget l)
+charged-over budget n (misfitAfter i) h = let l : budget < n + i = omega arith in rw (lt-leb (n + i) budget l)
 
 -- the rest behind a filter of truth t
 abbrev onward : Join → Truth → Outcome → Outcome
 onward j t (settled u m) = settled (withRest j t u) m
-onward j t (faulted m) = faulted m
+onward j t (misfitAfter m) = misfitAfter m
 
 added-onward : (j : Join) (t : Truth) (n : ℕ) (r : Outcome) → added j t n r ≡ shifted n (onward j t r)
 added-onward j t n (settled u m) = refl
-added-onward j t n (faulted m) = refl
+added-onward j t n (misfitAfter m) = refl
 
 onward-true : (j : Join) (r : Outcome) → onward j TRUE r ≡ r
 onward-true j (settled u m) = refl
-onward-true j (faulted m) = refl
+onward-true j (misfitAfter m) = refl
 
 onward-false : (j : Join) (r : Outcome) → onward j FALSE r ≡ r
 onward-false j (settled u m) = refl
-onward-false j (faulted m) = refl
+onward-false j (misfitAfter m) = refl
 
 onward-undefined : (j : Join) (r : Outcome) → onward j UNDEFINED r ≡ unsure j r
 onward-undefined j (settled u m) = refl
-onward-undefined j (faulted m) = refl
+onward-undefined j (misfitAfter m) = refl
 
 unsure-shifted : (j : Join) (n : ℕ) (r : Outcome) → unsure j (shifted n r) ≡ shifted n (unsure j r)
 unsure-shifted j n (settled u m) = refl
-unsure-shifted j n (faulted m) = refl
+unsure-shifted j n (misfitAfter m) = refl
 
 twice : (j : Join) (u : Truth) → withRest j UNDEFINED (withRest j UNDEFINED u) ≡ withRest j UNDEFINED u
 twice and TRUE = refl
@@ -62,7 +62,7 @@ twice or UNDEFINED = refl
 
 unsure-twice : (j : Join) (r : Outcome) → unsure j (unsure j r) ≡ unsure j r
 unsure-twice j (settled u m) = ap (λ (y : Truth). settled y m) (twice j u)
-unsure-twice j (faulted m) = refl
+unsure-twice j (misfitAfter m) = refl
 
 unsure-onward : (j : Join) (t : Truth) (r : Outcome) → unsure j (onward j t r) ≡ unsure j r
 unsure-onward j TRUE r = ap (unsure j) (onward-true j r)
@@ -171,7 +171,7 @@ module _ (j : Join) (budget k z : ℕ) where
 abbrev pub FirstSays : Join → Progress → ℕ → ℕ → Outcome → ℕ → Judging → Type 0
 FirstSays j p budget k o q (Judging.At u c a) = (a ≡ q) × (c ≤ budget) × ((r : Outcome) (z : ℕ) → judgedRest j p budget k (andThen j o r) z ≡ judgedRest j (joinedBy j p u) budget c r z)
 FirstSays j p budget k o q Judging.Over = (r : Outcome) (z : ℕ) → judgedRest j p budget k (andThen j o r) z ≡ Judging.Over
-FirstSays j p budget k o q Judging.Fault = (r : Outcome) (z : ℕ) → judgedRest j p budget k (andThen j o r) z ≡ Judging.Fault
+FirstSays j p budget k o q Judging.Misfit = (r : Outcome) (z : ℕ) → judgedRest j p budget k (andThen j o r) z ≡ Judging.Misfit
 
 first-plain : (j : Join) (budget k : ℕ) (o : Outcome) (q : ℕ) → FirstSays j Progress.Plain budget k o q (placed q (charged budget k o))
 unfolding charged
@@ -180,11 +180,11 @@ first-plain j budget k (settled t n) q = go (leb (k + n) budget) refl
     go : (b : Bool) → leb (k + n) budget ≡ b → FirstSays j Progress.Plain budget k (settled t n) q (placed q (pick b (Judged.Of (verdictOf t) (k + n)) Judged.Over))
     go true e = (refl, leb-true (k + n) budget e, λ r z. plain-first j budget k z t n r (leb-true (k + n) budget e))
     go false e = λ r z. plain-over j budget k z t n r (leb-false (k + n) budget e)
-first-plain j budget k (faulted n) q = go (leb (k + n) budget) refl
+first-plain j budget k (misfitAfter n) q = go (leb (k + n) budget) refl
   where
-    go : (b : Bool) → leb (k + n) budget ≡ b → FirstSays j Progress.Plain budget k (faulted n) q (placed q (pick b Judged.Fault Judged.Over))
-    go true e = λ r z. ap (λ (b : Bool). placed z (pick b Judged.Fault Judged.Over)) e
-    go false e = λ r z. ap (λ (b : Bool). placed z (pick b Judged.Fault Judged.Over)) e
+    go : (b : Bool) → leb (k + n) budget ≡ b → FirstSays j Progress.Plain budget k (misfitAfter n) q (placed q (pick b Judged.Misfit Judged.Over))
+    go true e = λ r z. ap (λ (b : Bool). placed z (pick b Judged.Misfit Judged.Over)) e
+    go false e = λ r z. ap (λ (b : Bool). placed z (pick b Judged.Misfit Judged.Over)) e
 
 first-unsure : (j : Join) (budget k : ℕ) (o : Outcome) (q : ℕ) → FirstSays j Progress.Unsure budget k o q (placed q (charged budget k o))
 unfolding charged
@@ -193,11 +193,11 @@ first-unsure j budget k (settled t n) q = go (leb (k + n) budget) refl
     go : (b : Bool) → leb (k + n) budget ≡ b → FirstSays j Progress.Unsure budget k (settled t n) q (placed q (pick b (Judged.Of (verdictOf t) (k + n)) Judged.Over))
     go true e = (refl, leb-true (k + n) budget e, λ r z. unsure-first j budget k z t n r (leb-true (k + n) budget e))
     go false e = λ r z. unsure-over j budget k z t n r (leb-false (k + n) budget e)
-first-unsure j budget k (faulted n) q = go (leb (k + n) budget) refl
+first-unsure j budget k (misfitAfter n) q = go (leb (k + n) budget) refl
   where
-    go : (b : Bool) → leb (k + n) budget ≡ b → FirstSays j Progress.Unsure budget k (faulted n) q (placed q (pick b Judged.Fault Judged.Over))
-    go true e = λ r z. ap (λ (b : Bool). placed z (pick b Judged.Fault Judged.Over)) e
-    go false e = λ r z. ap (λ (b : Bool). placed z (pick b Judged.Fault Judged.Over)) e
+    go : (b : Bool) → leb (k + n) budget ≡ b → FirstSays j Progress.Unsure budget k (misfitAfter n) q (placed q (pick b Judged.Misfit Judged.Over))
+    go true e = λ r z. ap (λ (b : Bool). placed z (pick b Judged.Misfit Judged.Over)) e
+    go false e = λ r z. ap (λ (b : Bool). placed z (pick b Judged.Misfit Judged.Over)) e
 
 pub first-says : (j : Join) (p : Progress) (budget k : ℕ) (o : Outcome) (q : ℕ) → k ≤ budget → FirstSays j p budget k o q (judgedIf (goesOn p) budget k o q)
 first-says j Progress.Plain budget k o q h = first-plain j budget k o q
@@ -242,8 +242,8 @@ inverse-judged true budget n (settled t k) after = go (leb (n + k) budget)
     go : (b : Bool) → inverse (placed after (pick b (Judged.Of (verdictOf t) (n + k)) Judged.Over)) ≡ placed after (pick b (Judged.Of (verdictOf (opposite t)) (n + k)) Judged.Over)
     go true = ap (λ (u : Verdict). Judging.At u (n + k) after) (opposed-same t)
     go false = refl
-inverse-judged true budget n (faulted k) after = go (leb (n + k) budget)
+inverse-judged true budget n (misfitAfter k) after = go (leb (n + k) budget)
   where
-    go : (b : Bool) → inverse (placed after (pick b Judged.Fault Judged.Over)) ≡ placed after (pick b Judged.Fault Judged.Over)
+    go : (b : Bool) → inverse (placed after (pick b Judged.Misfit Judged.Over)) ≡ placed after (pick b Judged.Misfit Judged.Over)
     go true = refl
     go false = refl

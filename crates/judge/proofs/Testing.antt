@@ -10,13 +10,13 @@ use Rattle.octets.specs.Pick.{pick}
 use Rattle.reference.specs.Numbers.{Component}
 use Rattle.rules.specs.Answers.{meant}
 use Rattle.rules.specs.declared.Rule.{Rule}
-use Rattle.trail.specs.Trail.{Trail, done, fault, reach}
+use Rattle.trail.specs.Trail.{Trail, done, misfit, reach}
 use Rattle.walk.specs.Run.{seen, acceptsRead, visited, run}
 use Rattle.walk.specs.declared.State.{State}
 use Rattle.walk.proofs.RunLaws.{run-accepted, run-over}
 use Rattle.walk.specs.declared.Task.{Task}
 use Rattle.judge.specs.Truth.{TRUE, FALSE, UNDEFINED}
-use Rattle.judge.specs.Reading.{Outcome, settled, faulted}
+use Rattle.judge.specs.Reading.{Outcome, settled, misfitAfter}
 use Rattle.judge.specs.Assertion.{testing}
 use Rattle.judge.specs.Work.{tested, charged}
 use Rattle.judge.specs.declared.Judged.{Judged}
@@ -29,7 +29,7 @@ over-pick budget k w h = rw (lt-leb k budget h)
 testing-over : (f : Component → Bool) (budget n : ℕ) (a : Trail) → budget < n → tested budget (testing f n a) ≡ State.Over
 unfolding testing tested
 testing-over f budget n done h = over-pick budget n (State.Going n) h
-testing-over f budget n fault h = over-pick budget n State.Fault h
+testing-over f budget n misfit h = over-pick budget n State.Misfit h
 testing-over f budget n (reach c a) h = go (f c) (testing-over f budget (n + 1) a (omega arith))
   where
     go : (b : Bool) → tested budget (testing f (n + 1) a) ≡ State.Over → tested budget (pick b (settled TRUE (n + 1)) (testing f (n + 1) a)) ≡ State.Over
@@ -40,7 +40,7 @@ module _ (r : Rule) (budget : ℕ) (x : List ℕ) where
   pub run-tested : (n : ℕ) (m : List ℕ) (a : Trail) → n ≤ budget → run (Task.Test r budget) x (seen (State.Going n) m) a ≡ seen (tested budget (testing (acceptsRead (meant r) x) n a)) m
   unfolding run testing tested visited
   run-tested n m done h = rw (le-leb n budget h)
-  run-tested n m fault h = rw (le-leb n budget h)
+  run-tested n m misfit h = rw (le-leb n budget h)
   run-tested n m (reach c a) h = go (ltb n budget) refl (acceptsRead (meant r) x c) (λ l. run-tested (n + 1) m a l)
     where
       go : (u : Bool) → ltb n budget ≡ u → (b : Bool) → (n + 1 ≤ budget → run (Task.Test r budget) x (seen (State.Going (n + 1)) m) a ≡ seen (tested budget (testing (acceptsRead (meant r) x) (n + 1) a)) m)
@@ -54,12 +54,12 @@ module _ (r : Rule) (budget : ℕ) (x : List ℕ) where
 -- ---- tests made before are added
 abbrev pub shifted : ℕ → Outcome → Outcome
 shifted n (settled t k) = settled t (n + k)
-shifted n (faulted k) = faulted (n + k)
+shifted n (misfitAfter k) = misfitAfter (n + k)
 
 testing-shifted : (f : Component → Bool) (n k : ℕ) (a : Trail) → shifted n (testing f k a) ≡ testing f (n + k) a
 unfolding testing
 testing-shifted f n k done = refl
-testing-shifted f n k fault = refl
+testing-shifted f n k misfit = refl
 testing-shifted f n k (reach c a) = go (f c) (testing-shifted f n (k + 1) a ∙ ap (λ (y : ℕ). testing f y a) e)
   where
     e : n + (k + 1) ≡ n + k + 1
@@ -77,7 +77,7 @@ abbrev answered : State → Judged
 answered (State.Going k) = Judged.Of Verdict.False k
 answered (State.Accepted k) = Judged.Of Verdict.True k
 answered State.Over = Judged.Over
-answered State.Fault = Judged.Fault
+answered State.Misfit = Judged.Misfit
 
 answered-pick : (b : Bool) (w : State) → answered (pick b w State.Over) ≡ pick b (answered w) Judged.Over
 answered-pick true w = refl
@@ -88,12 +88,12 @@ abbrev Decided : Outcome → Type 0
 Decided (settled TRUE k) = Unit {0}
 Decided (settled FALSE k) = Unit {0}
 Decided (settled UNDEFINED k) = ⊥
-Decided (faulted k) = Unit {0}
+Decided (misfitAfter k) = Unit {0}
 
 decided : (f : Component → Bool) (n : ℕ) (a : Trail) → Decided (testing f n a)
 unfolding testing
 decided f n done = tt
-decided f n fault = tt
+decided f n misfit = tt
 decided f n (reach c a) = go (f c) (decided f (n + 1) a)
   where
     go : (b : Bool) → Decided (testing f (n + 1) a) → Decided (pick b (settled TRUE (n + 1)) (testing f (n + 1) a))
@@ -105,7 +105,7 @@ unfolding tested charged
 answered-charged budget n (settled TRUE k) d = answered-pick (leb (n + k) budget) (State.Accepted (n + k))
 answered-charged budget n (settled FALSE k) d = answered-pick (leb (n + k) budget) (State.Going (n + k))
 answered-charged budget n (settled UNDEFINED k) d = absurd d
-answered-charged budget n (faulted k) d = answered-pick (leb (n + k) budget) State.Fault
+answered-charged budget n (misfitAfter k) d = answered-pick (leb (n + k) budget) State.Misfit
 
 -- ---- the returns: the walk's end w
 seen-state : (w z : State) (m p : List ℕ) → seen w m ≡ seen z p → w ≡ z
@@ -127,5 +127,5 @@ module _ (r : Rule) (budget : ℕ) (x : List ℕ) (n : ℕ) (a : Trail) (w : Sta
   pub end-over : w ≡ State.Over → Judged.Over ≡ charged budget n (testing (acceptsRead (meant r) x) 0 a)
   end-over o = sym (ap answered o) ∙ ended
 
-  pub end-fault : w ≡ State.Fault → Judged.Fault ≡ charged budget n (testing (acceptsRead (meant r) x) 0 a)
+  pub end-fault : w ≡ State.Misfit → Judged.Misfit ≡ charged budget n (testing (acceptsRead (meant r) x) 0 a)
   end-fault o = sym (ap answered o) ∙ ended

@@ -13,9 +13,9 @@ use Rattle.rules.specs.Rule.{Rule}
 use Rattle.rules.specs.RuleFor.{ruleFor}
 use Rattle.rules.specs.Accepts.{accepts}
 use Rattle.filter.specs.Filter.{Item}
-use Rattle.trail.specs.Trail.{Trail, done, fault, reach, trail}
+use Rattle.trail.specs.Trail.{Trail, done, misfit, reach, trail}
 use Rattle.judge.specs.Truth.{TRUE, FALSE, UNDEFINED}
-use Rattle.judge.specs.Reading.{Outcome, settled, faulted}
+use Rattle.judge.specs.Reading.{Outcome, settled, misfitAfter}
 
 -- what an assertion asks of a type, where it isn't Undefined: the identifiers of its reference, and its rule
 pub record Asked : Type 0 where
@@ -32,7 +32,7 @@ asked ty i = do
 -- "one [test] per value a rule is applied to. An assertion stops at its first accepted value": after n tests
 unfoldable pub testing : (Component → Bool) → ℕ → Trail → Outcome
 testing accepted n done = settled FALSE n
-testing accepted n fault = faulted n
+testing accepted n misfit = misfitAfter n
 testing accepted n (reach c a) =
     let rest = testing accepted (n + 1) a in
     pick (accepted c) (settled TRUE (n + 1)) rest

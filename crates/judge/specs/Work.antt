@@ -24,7 +24,7 @@ use Rattle.filter.specs.Filter.{Item, Join, and, or, Filter, Filters}
 use Rattle.filter.specs.Parse.{Tail, another, closed, noTail, tailAt}
 use Rattle.walk.specs.declared.State.{State}
 use Rattle.judge.specs.Truth.{Truth, TRUE, FALSE, UNDEFINED, opposite}
-use Rattle.judge.specs.Reading.{Outcome, settled, faulted, ofNone, withRest, reading, readingIn}
+use Rattle.judge.specs.Reading.{Outcome, settled, misfitAfter, ofNone, withRest, reading, readingIn}
 use Rattle.judge.specs.declared.Verdict.{Verdict}
 use Rattle.judge.specs.declared.Judged.{Judged}
 use Rattle.judge.specs.declared.Judging.{Judging}
@@ -76,18 +76,18 @@ unfoldable pub tested : ℕ → Outcome → State
 tested budget (settled TRUE k) = pick (leb k budget) (State.Accepted k) State.Over
 tested budget (settled FALSE k) = pick (leb k budget) (State.Going k) State.Over
 tested budget (settled UNDEFINED k) = pick (leb k budget) (State.Going k) State.Over
-tested budget (faulted k) = pick (leb k budget) State.Fault State.Over
+tested budget (misfitAfter k) = pick (leb k budget) State.Misfit State.Over
 
 -- an outcome after n tests
 unfoldable pub charged : ℕ → ℕ → Outcome → Judged
 charged budget n (settled t k) = pick (leb (n + k) budget) (Judged.Of (verdictOf t) (n + k)) Judged.Over
-charged budget n (faulted k) = pick (leb (n + k) budget) Judged.Fault Judged.Over
+charged budget n (misfitAfter k) = pick (leb (n + k) budget) Judged.Misfit Judged.Over
 
 -- the same with the place after the filter
 abbrev pub placed : ℕ → Judged → Judging
 placed after (Judged.Of u k) = Judging.At u k after
 placed after Judged.Over = Judging.Over
-placed after Judged.Fault = Judging.Fault
+placed after Judged.Misfit = Judging.Misfit
 
 -- a filter that is passed over makes no test
 abbrev pub judgedIf : Bool → ℕ → ℕ → Outcome → ℕ → Judging
@@ -98,18 +98,18 @@ judgedIf false budget n o after = Judging.At Verdict.Undefined n after
 abbrev pub inverse : Judging → Judging
 inverse (Judging.At u k after) = Judging.At (opposed u) k after
 inverse Judging.Over = Judging.Over
-inverse Judging.Fault = Judging.Fault
+inverse Judging.Misfit = Judging.Misfit
 
 -- a filter that was read
 unfoldable pub judgedFilter : (Item → Outcome) → Bool → ℕ → ℕ → Option (Read Filter) → Judging
-judgedFilter says live budget n none = Judging.Fault
+judgedFilter says live budget n none = Judging.Misfit
 judgedFilter says live budget n (some r) = judgedIf live budget n (reading says (r .is)) (r .after)
 
 -- ---- the filters of a list, from one of them on
 -- the rest's outcome behind an Undefined filter
 abbrev pub unsure : Join → Outcome → Outcome
 unsure j (settled u k) = settled (withRest j UNDEFINED u) k
-unsure j (faulted k) = faulted k
+unsure j (misfitAfter k) = misfitAfter k
 
 -- the rest of a list, by what the filters before it were
 abbrev pub judgedRest : Join → Progress → ℕ → ℕ → Outcome → ℕ → Judging
@@ -119,7 +119,7 @@ judgedRest j Progress.Stopped budget n o after = Judging.At (verdictOf (opposite
 judgedRest j Progress.Passed budget n o after = Judging.At Verdict.Undefined n after
 
 unfoldable pub judgedFilters : (Item → Outcome) → Join → Progress → ℕ → ℕ → Option (Read Filters) → Judging
-judgedFilters says j p budget n none = Judging.Fault
+judgedFilters says j p budget n none = Judging.Misfit
 judgedFilters says j p budget n (some r) = judgedRest j p budget n (readingIn says j (r .is)) (r .after)
 
 -- the same in steps: how a list begins, whether it goes on, what one filter more makes of it, and its truth at the end
@@ -168,14 +168,14 @@ atEnd j Progress.Passed = Verdict.Undefined
 abbrev pub turnedBy : Join → Progress → ℕ → Tail → Turn
 turnedBy j p k (another a) = Turn.Goes p k a
 turnedBy j p k (closed a) = Turn.Ends (Judging.At (atEnd j p) k a)
-turnedBy j p k noTail = Turn.Ends Judging.Fault
+turnedBy j p k noTail = Turn.Ends Judging.Misfit
 
 abbrev pub turned : List ℕ → Join → Progress → Judging → Turn
 turned s j p (Judging.At u k after) = turnedBy j (joinedBy j p u) k (tailAt s after)
 turned s j p Judging.Over = Turn.Ends Judging.Over
-turned s j p Judging.Fault = Turn.Ends Judging.Fault
+turned s j p Judging.Misfit = Turn.Ends Judging.Misfit
 
 -- ---- the filter of a whole text
 unfoldable pub judgedText : (Item → Outcome) → ℕ → Option (Read Filter) → Judged
-judgedText says budget none = Judged.Fault
+judgedText says budget none = Judged.Misfit
 judgedText says budget (some r) = charged budget 0 (reading says (r .is))

@@ -21,12 +21,12 @@ ghost use Rattle.table.specs.Work.{Sound};
 ghost use Rattle.reference.specs.Reference.{readReference};
 ghost use Rattle.reference.specs.Work as reference;
 ghost use Rattle.rules.specs.Asserted.{conforms};
-ghost use Rattle.rules.specs.Answers.{meant, toldRule};
+ghost use Rattle.rules.specs.Answers.{meant, reportRule};
 ghost use Rattle.assertion.specs.Assertion.{assertionAt};
 ghost use Rattle.assertion.specs.Places.{itemOf};
 ghost use Rattle.filter.specs.Filter.{item};
 ghost use Rattle.filter.specs.Parse as parsing;
-ghost use Rattle.filter.specs.Answers.{joinOf};
+ghost use Rattle.filter.specs.Answers.{reportJoin};
 ghost use Rattle.trail.specs.Trail.{trail};
 ghost use Rattle.walk.specs.Run as run;
 ghost use Rattle.judge.specs.Assertion.{testing, outcome};
@@ -44,14 +44,14 @@ pub enum Verdict {
 pub enum Judged {
     Of(Verdict, usize),
     Over,
-    Fault,
+    Misfit,
 }
 
 // The same with the place after the filter.
 pub enum Judging {
     At(Verdict, usize, usize),
     Over,
-    Fault,
+    Misfit,
 }
 
 // One filter of a list: the next one's place, with the list so far and the tests made; or the list's end.
@@ -73,7 +73,7 @@ pub enum Progress {
 fn suits_target(rule: Rule, t: &[u8], s: &[usize], m: &[u64], target: Target) -> bool
     requires sound { ⌜ Sound (tableLimits .chain) (now t) (now s) (now m) ⌝ }
     requires here { ⌜ reference.rowWithin (now s) target ≡ true ⌝ }
-    ensures { λ r. ⌜ r ≡ work.suitsAny (meant rule) (reference.targetTold (tableLimits .chain) (now (t .entry)) (now (s .entry)) target) ⌝ }
+    ensures { λ r. ⌜ r ≡ work.suitsAny (meant rule) (reference.reportTarget (tableLimits .chain) (now (t .entry)) (now (s .entry)) target) ⌝ }
 {
     match target {
         Target::Row(i) => rules::suits(rule, t, s, i),
@@ -117,7 +117,7 @@ fn asked_rule(
 ) -> Named
     requires sound { ⌜ Sound (tableLimits .chain) (now t) (now s) (now m) ⌝ }
     requires rows { ⌜ 0 < length (now s) ⌝ }
-    ensures { λ w. ⌜ toldRule w
+    ensures { λ w. ⌜ reportRule w
         ≡ work.askedRule (reference.leadsTo given (now (r .entry)) (rowType (now (t .entry)) (now (s .entry)) 0)) (now (name .entry)) (now (text .entry)) ⌝ }
 {
     let Named::Known(rule) = rules::rule_of(name) else {
@@ -157,7 +157,7 @@ fn judge_asked(
         State::Going(k) => Judged::Of(Verdict::False, k),
         State::Accepted(k) => Judged::Of(Verdict::True, k),
         State::Over => Judged::Over,
-        State::Fault => Judged::Fault,
+        State::Misfit => Judged::Misfit,
     }
 }
 
@@ -253,7 +253,7 @@ fn placed(w: Judged, after: usize) -> Judging
     match w {
         Judged::Of(u, k) => Judging::At(u, k, after),
         Judged::Over => Judging::Over,
-        Judged::Fault => Judging::Fault,
+        Judged::Misfit => Judging::Misfit,
     }
 }
 
@@ -273,7 +273,7 @@ fn inverted(w: Judging) -> Judging
     match w {
         Judging::At(u, k, after) => Judging::At(opposite(u), k, after),
         Judging::Over => Judging::Over,
-        Judging::Fault => Judging::Fault,
+        Judging::Misfit => Judging::Misfit,
     }
 }
 
@@ -322,7 +322,7 @@ fn is_false(u: Verdict) -> bool
 
 // Whether a list stops at a filter of this truth.
 fn stops(join: Join, u: Verdict) -> bool
-    ensures { λ r. ⌜ r ≡ work.stopsAt (joinOf join) u ⌝ }
+    ensures { λ r. ⌜ r ≡ work.stopsAt (reportJoin join) u ⌝ }
 {
     match join {
         Join::And => is_false(u),
@@ -342,7 +342,7 @@ fn is_undefined(u: Verdict) -> bool
 
 // A list with one filter more.
 fn joined(join: Join, p: Progress, u: Verdict) -> Progress
-    ensures { λ r. ⌜ r ≡ work.joinedBy (joinOf join) p u ⌝ }
+    ensures { λ r. ⌜ r ≡ work.joinedBy (reportJoin join) p u ⌝ }
 {
     if !goes_on(p) {
         return p;
@@ -355,7 +355,7 @@ fn joined(join: Join, p: Progress, u: Verdict) -> Progress
 
 // The truth of an empty list.
 fn of_none(join: Join) -> Verdict
-    ensures { λ r. ⌜ r ≡ work.noneOf (joinOf join) ⌝ }
+    ensures { λ r. ⌜ r ≡ work.noneOf (reportJoin join) ⌝ }
 {
     match join {
         Join::And => Verdict::True,
@@ -365,7 +365,7 @@ fn of_none(join: Join) -> Verdict
 
 // The truth of a list at its end.
 fn at_end(join: Join, p: Progress) -> Verdict
-    ensures { λ r. ⌜ r ≡ work.atEnd (joinOf join) p ⌝ }
+    ensures { λ r. ⌜ r ≡ work.atEnd (reportJoin join) p ⌝ }
 {
     match p {
         Progress::Plain => of_none(join),
@@ -395,7 +395,7 @@ fn judge_assertion(
         (parsing.made item (assertionAt (now (f .entry)) at)) ⌝ }
 {
     let Assertion::Good(parts) = assertion::read_assertion(f, at) else {
-        return Judging::Fault;
+        return Judging::Misfit;
     };
     let after = parts.after;
     if !live {
@@ -406,30 +406,30 @@ fn judge_assertion(
 
 // An empty list.
 fn empty_list(join: Join, live: bool, n: usize, after: usize) -> Judging
-    ensures { λ w. ⌜ w ≡ Judging.At (work.atEnd (joinOf join) (work.begun live)) n after ⌝ }
+    ensures { λ w. ⌜ w ≡ Judging.At (work.atEnd (reportJoin join) (work.begun live)) n after ⌝ }
 {
     Judging::At(at_end(join, begin(live)), n, after)
 }
 
 // What follows a filter of a list that ends before q, after k tests; p is the list so far.
 fn follow(f: &[u8], join: Join, p: Progress, k: usize, q: usize) -> Turn
-    ensures { λ r. ⌜ r ≡ work.turnedBy (joinOf join) p k (parsing.tailAt (now (f .entry)) q) ⌝ }
+    ensures { λ r. ⌜ r ≡ work.turnedBy (reportJoin join) p k (parsing.tailAt (now (f .entry)) q) ⌝ }
 {
     match filter::read_tail(f, q) {
         Tail::Another(a) => Turn::Goes(p, k, a),
         Tail::Closed(a) => Turn::Ends(Judging::At(at_end(join, p), k, a)),
-        Tail::NoTail => Turn::Ends(Judging::Fault),
+        Tail::NoTail => Turn::Ends(Judging::Misfit),
     }
 }
 
 // What follows a filter of a list that was judged; p is the list before it.
 fn next_turn(f: &[u8], join: Join, p: Progress, w: Judging) -> Turn
-    ensures { λ r. ⌜ r ≡ work.turned (now (f .entry)) (joinOf join) p w ⌝ }
+    ensures { λ r. ⌜ r ≡ work.turned (now (f .entry)) (reportJoin join) p w ⌝ }
 {
     match w {
         Judging::At(u, k, q) => follow(f, join, joined(join, p, u), k, q),
         Judging::Over => Turn::Ends(Judging::Over),
-        Judging::Fault => Turn::Ends(Judging::Fault),
+        Judging::Misfit => Turn::Ends(Judging::Misfit),
     }
 }
 
@@ -456,7 +456,7 @@ fn judge_filter(
         Head::EmptyList(join, p) => empty_list(join, live, n, p),
         Head::OpenList(join, p) => judge_list(t, s, m, v, f, p, join, live, budget, n),
         Head::Negation(p) => inverted(judge_filter(t, s, m, v, f, p, live, budget, n)),
-        Head::NoHead => Judging::Fault,
+        Head::NoHead => Judging::Misfit,
     }
 }
 
@@ -477,7 +477,7 @@ fn judge_list(
     requires read { ⌜ isSome (parsing.filtersAt (now f) at) ≡ true ⌝ }
     requires within { ⌜ n ≤ budget ⌝ }
     ensures { λ w. ⌜ w
-        ≡ work.judgedFilters (outcome (rowType (now (t .entry)) (now (s .entry)) 0) (now (v .entry))) (joinOf join) (work.begun live) budget n
+        ≡ work.judgedFilters (outcome (rowType (now (t .entry)) (now (s .entry)) 0) (now (v .entry))) (reportJoin join) (work.begun live) budget n
         (parsing.filtersAt (now (f .entry)) at) ⌝ }
 {
     let mut i = at;
@@ -506,6 +506,6 @@ pub fn judge(t: &[u8], s: &[usize], m: &[u64], v: &[u8], f: &[u8], budget: usize
     match judge_filter(t, s, m, v, f, 0, true, budget, 0) {
         Judging::At(u, k, _) => Judged::Of(u, k),
         Judging::Over => Judged::Over,
-        Judging::Fault => Judged::Fault,
+        Judging::Misfit => Judged::Misfit,
     }
 }

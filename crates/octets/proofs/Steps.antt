@@ -15,7 +15,7 @@ use Rattle.octets.specs.Octets.{octet, part, between, every, larger, hig
 use Rattle.octets.specs.Text.{isDigit, isAlnum, mayFollow, isNumber, starts, lead, skip, decimalFrom, decimal}
 use Rattle.octets.specs.Utf8.{afterFirst, after, utf8From, utf8, mayEnd, awaits}
 use Rattle.octets.specs.Quoted.{closing, closingAt}
-use Rattle.octets.specs.Answers.{clip, growOf, told}
+use Rattle.octets.specs.Answers.{clip, growOf, reportPlace}
 use Rattle.octets.specs.declared.Size.{Size}
 use Rattle.octets.specs.declared.Place.{Place}
 use Rattle.octets.specs.declared.Awaiting.{Awaiting}
@@ -36,24 +36,24 @@ pub between-none : (s t : List ℕ) (a b : ℕ) → t ≡ part s a 0 → b ≤ a
 between-none s t a b e h = let z : 0 ≡ b - a = omega arith in e ∙ ap (part s a) z
 
 -- ---- names: an octet after another
-module _ (a b : ℕ) (u : Bool) (told : u ≡ isAlnum b) where
+module _ (a b : ℕ) (u : Bool) (asked : u ≡ isAlnum b) where
   pub follow-alnum : u ≡ true → true ≡ mayFollow a b
   unfolding mayFollow
-  follow-alnum h = rw (sym told ∙ h)
+  follow-alnum h = rw (sym asked ∙ h)
 
   module _ (h : u ≡ false) where
     pub follow-other : (b ≡ 45 → ⊥) → false ≡ mayFollow a b
     unfolding mayFollow
-    follow-other e = rw (sym told ∙ h, ne-eqb b 45 e)
+    follow-other e = rw (sym asked ∙ h, ne-eqb b 45 e)
 
     module _ (e : b ≡ 45) where
       pub follow-double : a ≡ 45 → false ≡ mayFollow a b
       unfolding mayFollow
-      follow-double f = rw (sym told ∙ h, eq-eqb b 45 e, eq-eqb a 45 f)
+      follow-double f = rw (sym asked ∙ h, eq-eqb b 45 e, eq-eqb a 45 f)
 
       pub follow-hyphen : (a ≡ 45 → ⊥) → true ≡ mayFollow a b
       unfolding mayFollow
-      follow-hyphen f = rw (sym told ∙ h, eq-eqb b 45 e, ne-eqb a 45 f)
+      follow-hyphen f = rw (sym asked ∙ h, eq-eqb b 45 e, ne-eqb a 45 f)
 
 -- ---- skip
 module _ (s : List ℕ) (at i : ℕ) (inv : skip s at ≡ skip s i) where
@@ -256,7 +256,7 @@ pub opening-other : (s : List ℕ) (at : ℕ) → (octet s at ≡ 34 → ⊥) �
 unfolding closingAt
 opening-other s at e = rw (ne-eqb _ _ e)
 
-pub opening-is : (s : List ℕ) (at : ℕ) (r : Place) → octet s at ≡ 34 → told r ≡ closing (drop (at + 1) s) (at + 1) → told r ≡ closingAt s at
+pub opening-is : (s : List ℕ) (at : ℕ) (r : Place) → octet s at ≡ 34 → reportPlace r ≡ closing (drop (at + 1) s) (at + 1) → reportPlace r ≡ closingAt s at
 unfolding closingAt
 opening-is s at r e h = rw (eq-eqb _ _ e) h
 

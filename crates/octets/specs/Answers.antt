@@ -16,6 +16,6 @@ growOf Size.Beyond d = Size.Beyond
 growOf (Size.Of n) d = clip (n * 10 + d)
 
 -- a place, or none
-abbrev pub told : Place → Option ℕ
-told Place.Nowhere = none
-told (Place.At i) = some i
+abbrev pub reportPlace : Place → Option ℕ
+reportPlace Place.Nowhere = none
+reportPlace (Place.At i) = some i

@@ -6,7 +6,7 @@ ghost use Rattle.octets.specs.Octets as octets;
 ghost use Rattle.octets.specs.Text as text;
 ghost use Rattle.octets.specs.Utf8 as unicode;
 ghost use Rattle.octets.specs.Quoted.{closingAt, closing};
-ghost use Rattle.octets.specs.Answers.{clip, told, growOf};
+ghost use Rattle.octets.specs.Answers.{clip, reportPlace, growOf};
 
 // A number of any size: below 2^64, or beyond.
 pub enum Size {
@@ -371,7 +371,7 @@ pub fn utf8(s: &[u8]) -> bool
 // ---- quoted strings
 // The closing quote from a place on: the first quote that is not one of a doubled pair.
 fn find_closing(s: &[u8], at: usize) -> Place
-    ensures { λ r. ⌜ told r ≡ closing (drop at (now (s .entry))) at ⌝ }
+    ensures { λ r. ⌜ reportPlace r ≡ closing (drop at (now (s .entry))) at ⌝ }
 {
     let mut i = at;
     while i < s.len() {
@@ -392,7 +392,7 @@ fn find_closing(s: &[u8], at: usize) -> Place
 
 // The closing quote of the quoted string that opens at a place.
 pub fn closing_at(s: &[u8], at: usize) -> Place
-    ensures { λ r. ⌜ told r ≡ closingAt (now (s .entry)) at ⌝ }
+    ensures { λ r. ⌜ reportPlace r ≡ closingAt (now (s .entry)) at ⌝ }
 {
     if s.len() <= at {
         return Place::Nowhere;

@@ -13,7 +13,7 @@ use Rattle.table.specs.Types.{typeFrom}
 use Rattle.reference.specs.Reference.{Id, name, index, position, fromEnd, count, all}
 use Rattle.reference.specs.Allowed as allowed
 use Rattle.reference.specs.Allowed.{allowedFrom}
-use Rattle.reference.specs.Work.{headCapped, idsAt, stepTold, rises, advances, stepId, placeAfter, targetTold, atTold, along, leadsTo}
+use Rattle.reference.specs.Work.{headCapped, idsAt, reportIdStep, rises, advances, stepId, placeAfter, reportTarget, atTold, along, leadsTo}
 use Rattle.reference.specs.declared.Step.{Step}
 use Rattle.reference.specs.declared.After.{After}
 use Rattle.reference.specs.declared.Target.{Target}
@@ -23,7 +23,7 @@ use Rattle.reference.proofs.Laws.{under-capped, ids-all, rises-by}
 record Placed (r : List ℕ) (k : ℕ) (step : Step) (n : ℕ) : Type 0 where
   pub id : Id
   pub is : stepId r step ≡ some id
-  pub told : stepTold r step ≡ consed id (idsAt r n)
+  pub told : reportIdStep r step ≡ consed id (idsAt r n)
   pub rising : advances r k step ≡ rises r k n
 
 placed : (r : List ℕ) (k : ℕ) (step : Step) (n : ℕ) → After.At n ≡ placeAfter step → Placed r k step n
@@ -35,7 +35,7 @@ placed r k (Step.All j) n e = let q : n ≡ j = cc in rw q (record { id = index 
 placed r k Step.End n e = absurd (let z : _≡_ {A = ℕ} 0 1 = cc in omega arith)
 placed r k Step.Bad n e = absurd (let z : _≡_ {A = ℕ} 0 1 = cc in omega arith)
 
-ended : (r : List ℕ) (step : Step) → After.End ≡ placeAfter step → stepTold r step ≡ some []
+ended : (r : List ℕ) (step : Step) → After.End ≡ placeAfter step → reportIdStep r step ≡ some []
 ended r (Step.Name a b j) e = absurd (let z : _≡_ {A = ℕ} 0 1 = cc in omega arith)
 ended r (Step.Position i j) e = absurd (let z : _≡_ {A = ℕ} 0 1 = cc in omega arith)
 ended r (Step.FromEnd i j) e = absurd (let z : _≡_ {A = ℕ} 0 1 = cc in omega arith)
@@ -44,7 +44,7 @@ ended r (Step.All j) e = absurd (let z : _≡_ {A = ℕ} 0 1 = cc in omega arith
 ended r Step.End e = refl
 ended r Step.Bad e = absurd (let z : _≡_ {A = ℕ} 0 1 = cc in omega arith)
 
-broken : (r : List ℕ) (step : Step) → After.Bad ≡ placeAfter step → stepTold r step ≡ none
+broken : (r : List ℕ) (step : Step) → After.Bad ≡ placeAfter step → reportIdStep r step ≡ none
 broken r (Step.Name a b j) e = absurd (let z : _≡_ {A = ℕ} 0 1 = cc in omega arith)
 broken r (Step.Position i j) e = absurd (let z : _≡_ {A = ℕ} 0 1 = cc in omega arith)
 broken r (Step.FromEnd i j) e = absurd (let z : _≡_ {A = ℕ} 0 1 = cc in omega arith)
@@ -74,21 +74,21 @@ along-end (some h) = refl
 
 -- ---- the loop
 module _ (chain : ℕ) (t s r : List ℕ) (target : Target) (k : ℕ) (m : Option allowed.Target) (step : Step) (after : After)
-    (inv : along (idsAt r k) (targetTold chain t s target) ≡ m) (told : stepTold r step ≡ headCapped (idsAt r k)) (next : after ≡ placeAfter step) where
-  from-step : (o : Option (List Id)) → stepTold r step ≡ o → along o (targetTold chain t s target) ≡ m
-  from-step o e = ap (λ (y : Option (List Id)). along y (targetTold chain t s target)) (sym e ∙ told) ∙ along-capped (idsAt r k) (targetTold chain t s target) ∙ inv
+    (inv : along (idsAt r k) (reportTarget chain t s target) ≡ m) (told : reportIdStep r step ≡ headCapped (idsAt r k)) (next : after ≡ placeAfter step) where
+  from-step : (o : Option (List Id)) → reportIdStep r step ≡ o → along o (reportTarget chain t s target) ≡ m
+  from-step o e = ap (λ (y : Option (List Id)). along y (reportTarget chain t s target)) (sym e ∙ told) ∙ along-capped (idsAt r k) (reportTarget chain t s target) ∙ inv
 
-  pub follow-end : after ≡ After.End → targetTold chain t s target ≡ m
-  follow-end e = along-end (targetTold chain t s target) ∙ from-step (some []) (ended r step (sym e ∙ next))
+  pub follow-end : after ≡ After.End → reportTarget chain t s target ≡ m
+  follow-end e = along-end (reportTarget chain t s target) ∙ from-step (some []) (ended r step (sym e ∙ next))
 
-  pub follow-bad : after ≡ After.Bad → targetTold chain t s Target.No ≡ m
+  pub follow-bad : after ≡ After.Bad → reportTarget chain t s Target.No ≡ m
   follow-bad e = from-step none (broken r step (sym e ∙ next))
 
-  pub follow-on : (n : ℕ) (g : Target) → after ≡ After.At n → targetTold chain t s g ≡ atTold (stepId r step) (targetTold chain t s target) → along (idsAt r n) (targetTold chain t s g) ≡ m
+  pub follow-on : (n : ℕ) (g : Target) → after ≡ After.At n → reportTarget chain t s g ≡ atTold (stepId r step) (reportTarget chain t s target) → along (idsAt r n) (reportTarget chain t s g) ≡ m
   follow-on n g e h =
       let w = placed r k step n (sym e ∙ next) in
-      ap (along (idsAt r n)) (h ∙ ap (λ (y : Option Id). atTold y (targetTold chain t s target)) (w .is))
-      ∙ sym (along-next (w .id) (idsAt r n) (targetTold chain t s target))
+      ap (along (idsAt r n)) (h ∙ ap (λ (y : Option Id). atTold y (reportTarget chain t s target)) (w .is))
+      ∙ sym (along-next (w .id) (idsAt r n) (reportTarget chain t s target))
       ∙ from-step (consed (w .id) (idsAt r n)) (w .told)
 
 module _ (r : List ℕ) (k n : ℕ) (step : Step) (after : After) (rising : advances r k step ≡ true) (next : after ≡ placeAfter step) (at : after ≡ After.At n) where
@@ -103,10 +103,10 @@ module _ (r : List ℕ) (k n : ℕ) (step : Step) (after : After) (rising : adva
 
 -- ---- where a reference is given
 module _ (chain : ℕ) (t s r : List ℕ) (given : Bool) where
-  pub target-whole : not given ≡ true → targetTold chain t s (Target.Row 0) ≡ leadsTo given r (typeFrom chain t s 0)
+  pub target-whole : not given ≡ true → reportTarget chain t s (Target.Row 0) ≡ leadsTo given r (typeFrom chain t s 0)
   unfolding allowed.allowed allowedFrom
   target-whole h = rw (not-true given h)
 
-  pub target-is : (g : Target) → not given ≡ false → targetTold chain t s g ≡ along (idsAt r 0) (targetTold chain t s (Target.Row 0)) → targetTold chain t s g ≡ leadsTo given r (typeFrom chain t s 0)
+  pub target-is : (g : Target) → not given ≡ false → reportTarget chain t s g ≡ along (idsAt r 0) (reportTarget chain t s (Target.Row 0)) → reportTarget chain t s g ≡ leadsTo given r (typeFrom chain t s 0)
   unfolding allowed.allowed
-  target-is g h e = e ∙ ap (λ (y : Option (List Id)). along y (targetTold chain t s (Target.Row 0))) (ids-all r) ∙ sym (rw (not-false given h))
+  target-is g h e = e ∙ ap (λ (y : Option (List Id)). along y (reportTarget chain t s (Target.Row 0))) (ids-all r) ∙ sym (rw (not-false given h))

@@ -18,7 +18,7 @@ use Rattle.octets.specs.declared.Size.{Size}
 use Rattle.octets.proofs.Laws.{rest-cons, rest-none, rest-length, part-rest}
 use Rattle.octets.proofs.TextLaws.{every-cons, number-nil, number-cons, pieces-nil, pieces-cons, same-nil, same-cons}
 use Rattle.reference.specs.Reference.{Id, index, position, fromEnd, isPosition, idOf, idsOf, readReference}
-use Rattle.reference.specs.Work.{cap, headCapped, idsAt, dotless, endAt, wordId, otherId, numberId, cappedId, pieceTold, stepTold, rises, advances, stepOf}
+use Rattle.reference.specs.Work.{cap, headCapped, idsAt, dotless, endAt, wordId, otherId, numberId, cappedId, reportPiece, reportIdStep, rises, advances, stepOf}
 use Rattle.reference.specs.declared.Piece.{Piece}
 use Rattle.reference.specs.declared.Step.{Step}
 
@@ -115,14 +115,14 @@ module _ (size : Size) (n : ℕ) (told : size ≡ clip n) where
 -- ---- one identifier
 module _ (p : List ℕ) where
   module _ (u : Bool) (told : u ≡ isName p) where
-    pub word-is : u ≡ true → pieceTold p Piece.Name ≡ cappedId (wordId p)
+    pub word-is : u ≡ true → reportPiece p Piece.Name ≡ cappedId (wordId p)
     word-is h = rw (sym told ∙ h)
 
-    pub word-bad : u ≡ false → pieceTold p Piece.Bad ≡ cappedId (wordId p)
+    pub word-bad : u ≡ false → reportPiece p Piece.Bad ≡ cappedId (wordId p)
     word-bad h = rw (sym told ∙ h)
 
   module _ (o : ℕ) (read : o ≡ octet p 0) where
-    pub other-word : (r : Piece) → (o ≡ 45 → ⊥) → pieceTold p r ≡ cappedId (wordId p) → pieceTold p r ≡ cappedId (otherId p)
+    pub other-word : (r : Piece) → (o ≡ 45 → ⊥) → reportPiece p r ≡ cappedId (wordId p) → reportPiece p r ≡ cappedId (otherId p)
     other-word r n e = e ∙ sym (rw (ne-eqb (octet p 0) 45 (λ z. n (read ∙ z))))
 
     module _ (hyphen : o ≡ 45) (q : List ℕ) (cut : q ≡ part p 1 (length p)) (u : Bool) (told : u ≡ isPosition q) where
@@ -132,30 +132,30 @@ module _ (p : List ℕ) where
       told-rest : u ≡ isPosition (drop 1 p)
       told-rest = told ∙ ap isPosition rest-is
 
-      pub other-end : (n : ℕ) → u ≡ true → n ≡ cap (decimal q) → pieceTold p (Piece.FromEnd n) ≡ cappedId (otherId p)
+      pub other-end : (n : ℕ) → u ≡ true → n ≡ cap (decimal q) → reportPiece p (Piece.FromEnd n) ≡ cappedId (otherId p)
       other-end n h e = ap (λ (x : ℕ). some (index (fromEnd x))) (e ∙ ap (λ (x : List ℕ). cap (decimal x)) rest-is) ∙ sym (rw (eq-eqb (octet p 0) 45 (sym read ∙ hyphen), sym told-rest ∙ h))
 
-      pub other-name : (r : Piece) → u ≡ false → pieceTold p r ≡ cappedId (wordId p) → pieceTold p r ≡ cappedId (otherId p)
+      pub other-name : (r : Piece) → u ≡ false → reportPiece p r ≡ cappedId (wordId p) → reportPiece p r ≡ cappedId (otherId p)
       other-name r h e = e ∙ sym (rw (eq-eqb (octet p 0) 45 (sym read ∙ hyphen), sym told-rest ∙ h))
 
   module _ (u : Bool) (told : u ≡ isPosition p) where
-    pub number-position : (n : ℕ) → u ≡ true → n ≡ cap (decimal p) → pieceTold p (Piece.Position n) ≡ cappedId (numberId p)
+    pub number-position : (n : ℕ) → u ≡ true → n ≡ cap (decimal p) → reportPiece p (Piece.Position n) ≡ cappedId (numberId p)
     number-position n h e = ap (λ (x : ℕ). some (index (position x))) e ∙ sym (rw (sym told ∙ h))
 
-    pub number-other : (r : Piece) → u ≡ false → pieceTold p r ≡ cappedId (otherId p) → pieceTold p r ≡ cappedId (numberId p)
+    pub number-other : (r : Piece) → u ≡ false → reportPiece p r ≡ cappedId (otherId p) → reportPiece p r ≡ cappedId (numberId p)
     number-other r h e = e ∙ sym (rw (sym told ∙ h))
 
   module _ (u : Bool) (star : u ≡ same p (bytes "*")) where
-    pub id-all : u ≡ true → pieceTold p Piece.All ≡ cappedId (idOf p)
+    pub id-all : u ≡ true → reportPiece p Piece.All ≡ cappedId (idOf p)
     unfolding idOf
     id-all h = rw (sym star ∙ h)
 
     module _ (h : u ≡ false) (v : Bool) (nought : v ≡ same p (bytes "0")) where
-      pub id-count : v ≡ true → pieceTold p Piece.Count ≡ cappedId (idOf p)
+      pub id-count : v ≡ true → reportPiece p Piece.Count ≡ cappedId (idOf p)
       unfolding idOf
       id-count g = rw (sym star ∙ h, sym nought ∙ g)
 
-      pub id-other : (r : Piece) → v ≡ false → pieceTold p r ≡ cappedId (numberId p) → pieceTold p r ≡ cappedId (idOf p)
+      pub id-other : (r : Piece) → v ≡ false → reportPiece p r ≡ cappedId (numberId p) → reportPiece p r ≡ cappedId (idOf p)
       unfolding idOf
       id-other r g e = e ∙ sym (rw (sym star ∙ h, sym nought ∙ g))
 
@@ -240,11 +240,11 @@ module _ (piece : Piece) (a b n : ℕ) where
 
 -- ---- one step
 module _ (r : List ℕ) (k : ℕ) where
-  pub next-end : length r < k → stepTold r Step.End ≡ headCapped (idsAt r k)
+  pub next-end : length r < k → reportIdStep r Step.End ≡ headCapped (idsAt r k)
   unfolding idsAt
   next-end h = rw (lt-leb k (length r) h)
 
-  step-told : (piece : Piece) (e n : ℕ) → stepTold r (stepOf piece k e n) ≡ bind (pieceTold (part r k (e - k)) piece) (λ i. consed i (idsAt r n))
+  step-told : (piece : Piece) (e n : ℕ) → reportIdStep r (stepOf piece k e n) ≡ bind (reportPiece (part r k (e - k)) piece) (λ i. consed i (idsAt r n))
   step-told Piece.Name e n = refl
   step-told (Piece.Position m) e n = refl
   step-told (Piece.FromEnd m) e n = refl
@@ -258,10 +258,10 @@ module _ (r : List ℕ) (k : ℕ) where
   head-told (some i) (some is) = refl
 
   module _ (e : ℕ) (within : k ≤ length r) (q : List ℕ) (piece : Piece) (s : Step) (made : s ≡ stepOf piece k e (e + 1)) where
-    pub next-is : e ≡ endAt r k → q ≡ part r k (e - k) → pieceTold q piece ≡ cappedId (idOf q) → stepTold r s ≡ headCapped (idsAt r k)
+    pub next-is : e ≡ endAt r k → q ≡ part r k (e - k) → reportPiece q piece ≡ cappedId (idOf q) → reportIdStep r s ≡ headCapped (idsAt r k)
     next-is ends cut told =
-        ap (stepTold r) made ∙ step-told piece e (e + 1)
-        ∙ ap (λ (o : Option Id). bind o (λ i. consed i (idsAt r (e + 1)))) (ap (λ (x : List ℕ). pieceTold x piece) (sym cut) ∙ told ∙ ap (λ (x : List ℕ). cappedId (idOf x)) cut)
+        ap (reportIdStep r) made ∙ step-told piece e (e + 1)
+        ∙ ap (λ (o : Option Id). bind o (λ i. consed i (idsAt r (e + 1)))) (ap (λ (x : List ℕ). reportPiece x piece) (sym cut) ∙ told ∙ ap (λ (x : List ℕ). cappedId (idOf x)) cut)
         ∙ head-told (idOf (part r k (e - k))) (idsAt r (e + 1))
         ∙ ap headCapped (sym (ids-step r k e within ends))
 

@@ -20,7 +20,7 @@ use Rattle.table.specs.Types.{basic, sequence, choice, listOf}
 use Rattle.reference.specs.Reference.{position, fromEnd, count, all, Id, name, index, isPosition, idOf, idsOf, readReference}
 use Rattle.reference.specs.Allowed as allowed
 use Rattle.reference.specs.Allowed.{ofType, ofCount, under, allowed}
-use Rattle.reference.specs.Work.{cap, capped, headCapped, idsAt, stepTold, rises, advances, rowWithin}
+use Rattle.reference.specs.Work.{cap, capped, headCapped, idsAt, reportIdStep, rises, advances, rowWithin}
 use Rattle.reference.specs.declared.Step.{Step}
 use Rattle.reference.specs.declared.Target.{Target}
 
@@ -96,10 +96,10 @@ as-all (index (fromEnd m)) e = absurd (let z : _≡_ {A = ℕ} 0 1 = cc in omega
 as-all (index count) e = absurd (let z : _≡_ {A = ℕ} 0 1 = cc in omega arith)
 as-all (index all) e = refl
 
-module _ (r : List ℕ) (k : ℕ) (s : Step) (step : stepTold r s ≡ headCapped (idsAt r k)) where
+module _ (r : List ℕ) (k : ℕ) (s : Step) (step : reportIdStep r s ≡ headCapped (idsAt r k)) where
   -- no identifier stands there
   pub bad-step : s ≡ Step.Bad → idsAt r k ≡ none
-  bad-step e = go (idsAt r k) (sym (ap (stepTold r) e) ∙ step)
+  bad-step e = go (idsAt r k) (sym (ap (reportIdStep r) e) ∙ step)
     where
       go : (o : Option (List Id)) → none ≡ headCapped o → o ≡ none
       go none q = refl
@@ -108,7 +108,7 @@ module _ (r : List ℕ) (k : ℕ) (s : Step) (step : stepTold r s ≡ headCapped
 
   -- no more identifiers
   pub end-step : s ≡ Step.End → idsAt r k ≡ some []
-  end-step e = go (idsAt r k) (sym (ap (stepTold r) e) ∙ step)
+  end-step e = go (idsAt r k) (sym (ap (reportIdStep r) e) ∙ step)
     where
       go : (o : Option (List Id)) → some [] ≡ headCapped o → o ≡ some []
       go none q = absurd (let z : _≡_ {A = ℕ} 0 1 = cc in omega arith)
@@ -119,29 +119,29 @@ module _ (r : List ℕ) (k : ℕ) (s : Step) (step : stepTold r s ≡ headCapped
   module _ (is : List Id) (read : idsAt r k ≡ some is) where
     pub name-step : (a b n : ℕ) → s ≡ Step.Name a b n → (js : List Id) × (is ≡ name (part r a (b - a)) ∷ js) × (idsAt r n ≡ some js)
     name-step a b n e =
-        let w = headed (name (part r a (b - a))) (idsAt r n) (idsAt r k) is (sym (ap (stepTold r) e) ∙ step) read in
+        let w = headed (name (part r a (b - a))) (idsAt r n) (idsAt r k) is (sym (ap (reportIdStep r) e) ∙ step) read in
         (w .1, w .2 ∙ ap (λ (j : Id). j ∷ w .1) (as-name (w .0) (part r a (b - a)) (w .4)), w .3)
 
     pub position-step : (i n : ℕ) → s ≡ Step.Position i n → (m : ℕ) × (js : List Id) × (is ≡ index (position m) ∷ js) × (i ≡ cap m) × (idsAt r n ≡ some js)
     position-step i n e =
-        let w = headed (index (position i)) (idsAt r n) (idsAt r k) is (sym (ap (stepTold r) e) ∙ step) read in
+        let w = headed (index (position i)) (idsAt r n) (idsAt r k) is (sym (ap (reportIdStep r) e) ∙ step) read in
         let z = as-position (w .0) i (w .4) in
         (z .0, w .1, w .2 ∙ ap (λ (j : Id). j ∷ w .1) (z .1), z .2, w .3)
 
     pub from-end-step : (i n : ℕ) → s ≡ Step.FromEnd i n → (m : ℕ) × (js : List Id) × (is ≡ index (fromEnd m) ∷ js) × (i ≡ cap m) × (idsAt r n ≡ some js)
     from-end-step i n e =
-        let w = headed (index (fromEnd i)) (idsAt r n) (idsAt r k) is (sym (ap (stepTold r) e) ∙ step) read in
+        let w = headed (index (fromEnd i)) (idsAt r n) (idsAt r k) is (sym (ap (reportIdStep r) e) ∙ step) read in
         let z = as-from-end (w .0) i (w .4) in
         (z .0, w .1, w .2 ∙ ap (λ (j : Id). j ∷ w .1) (z .1), z .2, w .3)
 
     pub count-step : (n : ℕ) → s ≡ Step.Count n → (js : List Id) × (is ≡ index count ∷ js) × (idsAt r n ≡ some js)
     count-step n e =
-        let w = headed (index count) (idsAt r n) (idsAt r k) is (sym (ap (stepTold r) e) ∙ step) read in
+        let w = headed (index count) (idsAt r n) (idsAt r k) is (sym (ap (reportIdStep r) e) ∙ step) read in
         (w .1, w .2 ∙ ap (λ (j : Id). j ∷ w .1) (as-count (w .0) (w .4)), w .3)
 
     pub all-step : (n : ℕ) → s ≡ Step.All n → (js : List Id) × (is ≡ index all ∷ js) × (idsAt r n ≡ some js)
     all-step n e =
-        let w = headed (index all) (idsAt r n) (idsAt r k) is (sym (ap (stepTold r) e) ∙ step) read in
+        let w = headed (index all) (idsAt r n) (idsAt r k) is (sym (ap (reportIdStep r) e) ∙ step) read in
         (w .1, w .2 ∙ ap (λ (j : Id). j ∷ w .1) (as-all (w .0) (w .4)), w .3)
 
 -- ---- next places rise

@@ -18,7 +18,7 @@ use Rattle.value.proofs.LeafSteps.{first-none, first-step}
 use Rattle.reference.specs.Reference.{Id, name}
 use Rattle.reference.specs.Allowed as allowed
 use Rattle.reference.specs.Allowed.{ofType, memberType, underMembers, under}
-use Rattle.reference.specs.Work.{namedOf, stepId, placeAfter, targetTold, rowWithin, amongMembers, inList, atTarget, atTold}
+use Rattle.reference.specs.Work.{namedOf, stepId, placeAfter, reportTarget, rowWithin, amongMembers, inList, atTarget, atTold}
 use Rattle.reference.specs.declared.Step.{Step}
 use Rattle.reference.specs.declared.After.{After}
 use Rattle.reference.specs.declared.Target.{Target}
@@ -107,11 +107,11 @@ module _ (chain : ℕ) (t s : List ℕ) (row : ℕ) where
           ∙ by-first (membersAt t (rowAt s row)) 0
           ∙ ap₂ (λ (y z : ℕ). pick (ltb y z) (taken y) none) (sym search) (d ∙ counting)
 
-      pub name-none : n ≤ j → targetTold chain t s Target.No ≡ underMembers (name (part r a (b - a))) parts
+      pub name-none : n ≤ j → reportTarget chain t s Target.No ≡ underMembers (name (part r a (b - a))) parts
       name-none h = sym (ap (λ (o : Option Ty). bind o (λ ty. some (ofType ty))) (whole ∙ ap (λ (y : Bool). pick y (taken j) none) (le-ltb j n h)))
 
       module _ (l : j < n) (i : ℕ) (typed-by : i ≡ typeRowAt t (rowAt s (row + 1 + j))) where
-        pub name-found : targetTold chain t s (Target.Row i) ≡ underMembers (name (part r a (b - a))) parts
+        pub name-found : reportTarget chain t s (Target.Row i) ≡ underMembers (name (part r a (b - a))) parts
         name-found =
             ap (λ (y : ℕ). some (ofType (typeFrom chain t s y))) typed-by
             ∙ sym (ap (λ (o : Option Ty). bind o (λ ty. some (ofType ty))) (whole ∙ ap (λ (y : Bool). pick y (taken j) none) (lt-ltb j n l)))
@@ -126,37 +126,37 @@ module _ (chain : ℕ) (t s : List ℕ) (row : ℕ) where
 
   -- ---- members
   module _ (r : List ℕ) (step : Step) (g : Target) where
-    pub members-name : (a b n : ℕ) → step ≡ Step.Name a b n → targetTold chain t s g ≡ underMembers (name (part r a (b - a))) parts → targetTold chain t s g ≡ amongMembers (stepId r step) parts
+    pub members-name : (a b n : ℕ) → step ≡ Step.Name a b n → reportTarget chain t s g ≡ underMembers (name (part r a (b - a))) parts → reportTarget chain t s g ≡ amongMembers (stepId r step) parts
     members-name a b n e h = h ∙ sym (ap (λ (y : Step). amongMembers (stepId r y) parts) e)
 
   -- ---- lists
   module _ (r : List ℕ) (step : Step) where
-    pub list-name : (a b n : ℕ) → step ≡ Step.Name a b n → targetTold chain t s Target.No ≡ inList (stepId r step) element
+    pub list-name : (a b n : ℕ) → step ≡ Step.Name a b n → reportTarget chain t s Target.No ≡ inList (stepId r step) element
     list-name a b n e = rw e
 
-    pub list-count : (n : ℕ) → step ≡ Step.Count n → targetTold chain t s Target.Count ≡ inList (stepId r step) element
+    pub list-count : (n : ℕ) → step ≡ Step.Count n → reportTarget chain t s Target.Count ≡ inList (stepId r step) element
     list-count n e = rw e
 
-    pub list-end : step ≡ Step.End → targetTold chain t s Target.No ≡ inList (stepId r step) element
+    pub list-end : step ≡ Step.End → reportTarget chain t s Target.No ≡ inList (stepId r step) element
     list-end e = rw e
 
-    pub list-bad : step ≡ Step.Bad → targetTold chain t s Target.No ≡ inList (stepId r step) element
+    pub list-bad : step ≡ Step.Bad → reportTarget chain t s Target.No ≡ inList (stepId r step) element
     list-bad e = rw e
 
     module _ (p i : ℕ) (placed : p ≡ rowAt s row) (read : i ≡ elementAt t p) where
       element-is : i ≡ elementAt t (rowAt s row)
       element-is = read ∙ ap (elementAt t) placed
 
-      to-element : targetTold chain t s (Target.Row i) ≡ some (ofType element)
+      to-element : reportTarget chain t s (Target.Row i) ≡ some (ofType element)
       to-element = ap (λ (y : ℕ). some (ofType (typeFrom chain t s y))) element-is
 
-      pub list-position : (j n : ℕ) → step ≡ Step.Position j n → targetTold chain t s (Target.Row i) ≡ inList (stepId r step) element
+      pub list-position : (j n : ℕ) → step ≡ Step.Position j n → reportTarget chain t s (Target.Row i) ≡ inList (stepId r step) element
       list-position j n e = to-element ∙ sym (ap (λ (y : Step). inList (stepId r y) element) e)
 
-      pub list-from-end : (j n : ℕ) → step ≡ Step.FromEnd j n → targetTold chain t s (Target.Row i) ≡ inList (stepId r step) element
+      pub list-from-end : (j n : ℕ) → step ≡ Step.FromEnd j n → reportTarget chain t s (Target.Row i) ≡ inList (stepId r step) element
       list-from-end j n e = to-element ∙ sym (ap (λ (y : Step). inList (stepId r y) element) e)
 
-      pub list-all : (n : ℕ) → step ≡ Step.All n → targetTold chain t s (Target.Row i) ≡ inList (stepId r step) element
+      pub list-all : (n : ℕ) → step ≡ Step.All n → reportTarget chain t s (Target.Row i) ≡ inList (stepId r step) element
       list-all n e = to-element ∙ sym (ap (λ (y : Step). inList (stepId r y) element) e)
 
       pub element-within : (m : List ℕ) → Sound chain t s m → row < length s → isList (kindAt t (rowAt s row)) ≡ true → rowWithin s (Target.Row i) ≡ true
@@ -197,28 +197,28 @@ module _ (chain : ℕ) (t s : List ℕ) (row : ℕ) where
         go false false false q = nothing o
 
     module _ (r : List ℕ) (step : Step) (u : Bool) (group : u ≡ isGroup k) where
-      pub row-members : (g : Target) → u ≡ true → targetTold chain t s g ≡ amongMembers (stepId r step) parts → targetTold chain t s g ≡ atTarget (stepId r step) (ofType (typeFrom chain t s row))
+      pub row-members : (g : Target) → u ≡ true → reportTarget chain t s g ≡ amongMembers (stepId r step) parts → reportTarget chain t s g ≡ atTarget (stepId r step) (ofType (typeFrom chain t s row))
       row-members g h e = e ∙ group-under (stepId r step) (sym group ∙ h) ∙ ap (λ (y : Ty). atTarget (stepId r step) (ofType y)) (sym the-type)
 
       module _ (h : u ≡ false) (v : Bool) (listed : v ≡ isList k) where
-        pub row-elements : (g : Target) → v ≡ true → targetTold chain t s g ≡ inList (stepId r step) element → targetTold chain t s g ≡ atTarget (stepId r step) (ofType (typeFrom chain t s row))
+        pub row-elements : (g : Target) → v ≡ true → reportTarget chain t s g ≡ inList (stepId r step) element → reportTarget chain t s g ≡ atTarget (stepId r step) (ofType (typeFrom chain t s row))
         row-elements g f e = e ∙ other-under (stepId r step) true (sym listed ∙ f) (sym group ∙ h) ∙ ap (λ (y : Ty). atTarget (stepId r step) (ofType y)) (sym the-type)
 
-        pub row-basic : v ≡ false → targetTold chain t s Target.No ≡ atTarget (stepId r step) (ofType (typeFrom chain t s row))
+        pub row-basic : v ≡ false → reportTarget chain t s Target.No ≡ atTarget (stepId r step) (ofType (typeFrom chain t s row))
         row-basic f = other-under (stepId r step) false (sym listed ∙ f) (sym group ∙ h) ∙ ap (λ (y : Ty). atTarget (stepId r step) (ofType y)) (sym the-type)
 
 -- ---- a target
 module _ (chain : ℕ) (t s r : List ℕ) (step : Step) (target : Target) where
-  pub target-row : (row : ℕ) (g : Target) → target ≡ Target.Row row → targetTold chain t s g ≡ atTarget (stepId r step) (ofType (typeFrom chain t s row)) → targetTold chain t s g ≡ atTold (stepId r step) (targetTold chain t s target)
-  target-row row g e h = h ∙ sym (ap (λ (y : Target). atTold (stepId r step) (targetTold chain t s y)) e)
+  pub target-row : (row : ℕ) (g : Target) → target ≡ Target.Row row → reportTarget chain t s g ≡ atTarget (stepId r step) (ofType (typeFrom chain t s row)) → reportTarget chain t s g ≡ atTold (stepId r step) (reportTarget chain t s target)
+  target-row row g e h = h ∙ sym (ap (λ (y : Target). atTold (stepId r step) (reportTarget chain t s y)) e)
 
-  pub target-count : target ≡ Target.Count → targetTold chain t s Target.No ≡ atTold (stepId r step) (targetTold chain t s target)
+  pub target-count : target ≡ Target.Count → reportTarget chain t s Target.No ≡ atTold (stepId r step) (reportTarget chain t s target)
   unfolding under
-  target-count e = go (stepId r step) ∙ sym (ap (λ (y : Target). atTold (stepId r step) (targetTold chain t s y)) e)
+  target-count e = go (stepId r step) ∙ sym (ap (λ (y : Target). atTold (stepId r step) (reportTarget chain t s y)) e)
     where
       go : (o : Option Id) → none ≡ atTarget o allowed.ofCount
       go none = refl
       go (some i) = refl
 
-  pub target-none : target ≡ Target.No → targetTold chain t s Target.No ≡ atTold (stepId r step) (targetTold chain t s target)
-  target-none e = sym (ap (λ (y : Target). atTold (stepId r step) (targetTold chain t s y)) e)
+  pub target-none : target ≡ Target.No → reportTarget chain t s Target.No ≡ atTold (stepId r step) (reportTarget chain t s target)
+  target-none e = sym (ap (λ (y : Target). atTold (stepId r step) (reportTarget chain t s y)) e)

@@ -13,14 +13,14 @@ use Rattle.reference.specs.Reference.{Index, position, fromEnd, count, a
 -- a held value: a stored one; the default of a member that is absent from the SEQUENCE at a place; the count of the list at a place
 pub data Held : Type 0 where
   value : Value → Held
-  missing : ℕ → Member → Held
-  counted : ℕ → ℕ → Held
+  defaultValue : ℕ → Member → Held
+  countValue : ℕ → ℕ → Held
 
 -- "An alternative not chosen or an optional member absent names nothing. An absent default member names its default, or nothing if defaults are off."
 abbrev pub absentNames : Bool → ℕ → Member → Presence → List Held
 absentNames defaults place m mandatory = []
 absentNames defaults place m optional = []
-absentNames defaults place m (default c) = pick defaults (missing place m ∷ []) []
+absentNames defaults place m (default c) = pick defaults (defaultValue place m ∷ []) []
 
 unfoldable pub memberNamed : Bool → ℕ → List ℕ → Fields → List Held
 memberNamed defaults place x endFields = []
@@ -58,7 +58,7 @@ inChosen (index i) m y = []
 abbrev pub indexedBy : Index → ℕ → Values → List Held
 indexedBy (position n) place xs = elementAt n xs
 indexedBy (fromEnd n) place xs = elementFromEnd n xs
-indexedBy count place xs = counted place (size xs) ∷ []
+indexedBy count place xs = countValue place (size xs) ∷ []
 indexedBy all place xs = each xs
 
 abbrev pub inElements : Id → ℕ → Values → List Held
@@ -71,8 +71,8 @@ step defaults i (value (leaf k s)) = []
 step defaults i (value (fields s fs)) = inFields defaults i (s .place) fs
 step defaults i (value (chosen s m y)) = inChosen i m y
 step defaults i (value (elements s xs)) = inElements i (s .place) xs
-step defaults i (missing place m) = []
-step defaults i (counted place n) = []
+step defaults i (defaultValue place m) = []
+step defaults i (countValue place n) = []
 
 -- each held value is replaced by those that the identifier names there
 unfoldable pub replaced : Bool → Id → List Held → List Held

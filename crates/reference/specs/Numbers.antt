@@ -3,19 +3,19 @@ use Prim.Native.Nat.{ℕ}
 use mathlib.Core.List.{List, [], _∷_}
 use Rattle.table.specs.Types.{Presence, mandatory, optional, default, Member}
 use Rattle.value.specs.Value.{Spot, spotOf}
-use Rattle.reference.specs.Named.{Held, value, missing, counted}
+use Rattle.reference.specs.Named.{Held, value, defaultValue, countValue}
 
 -- a component value, as the octets have it: a stored one by its spot; a default by the place of the enclosing SEQUENCE's own tag octet and its
 -- member; a count by the list's place and the elements
 pub data Component : Type 0 where
   stored : Spot → Component
-  defaulted : ℕ → Member → Component
-  tallied : ℕ → ℕ → Component
+  byDefault : ℕ → Member → Component
+  byCount : ℕ → ℕ → Component
 
 abbrev pub component : Held → Component
 component (value x) = stored (spotOf x)
-component (missing place m) = defaulted place m
-component (counted place n) = tallied place n
+component (defaultValue place m) = byDefault place m
+component (countValue place n) = byCount place n
 
 pub record Numbers : Type 0 where
   pub source : ℕ
@@ -26,8 +26,8 @@ pub record Numbers : Type 0 where
 -- Count: 2, the list's place, the elements.
 unfoldable pub numbersOf : Component → Numbers
 numbersOf (stored s) = record { source = 0; place = s .place; number = s .size }
-numbersOf (defaulted place m) = record { source = 1; place = place; number = m .row }
-numbersOf (tallied place n) = record { source = 2; place = place; number = n }
+numbersOf (byDefault place m) = record { source = 1; place = place; number = m .row }
+numbersOf (byCount place n) = record { source = 2; place = place; number = n }
 
 -- the contents that a default stands for
 abbrev pub contentsOf : Presence → List ℕ

@@ -68,23 +68,23 @@ cappedId none = none
 cappedId (some i) = some (capped i)
 
 -- what the code says of the text p
-abbrev pub pieceTold : List ℕ → Piece → Option Id
-pieceTold p Piece.Name = some (name p)
-pieceTold p (Piece.Position n) = some (index (position n))
-pieceTold p (Piece.FromEnd n) = some (index (fromEnd n))
-pieceTold p Piece.Count = some (index count)
-pieceTold p Piece.All = some (index all)
-pieceTold p Piece.Bad = none
+abbrev pub reportPiece : List ℕ → Piece → Option Id
+reportPiece p Piece.Name = some (name p)
+reportPiece p (Piece.Position n) = some (index (position n))
+reportPiece p (Piece.FromEnd n) = some (index (fromEnd n))
+reportPiece p Piece.Count = some (index count)
+reportPiece p Piece.All = some (index all)
+reportPiece p Piece.Bad = none
 
 -- ---- one step along the text r
-abbrev pub stepTold : List ℕ → Step → Option (List Id)
-stepTold r (Step.Name a b k) = consed (name (part r a (b - a))) (idsAt r k)
-stepTold r (Step.Position n k) = consed (index (position n)) (idsAt r k)
-stepTold r (Step.FromEnd n k) = consed (index (fromEnd n)) (idsAt r k)
-stepTold r (Step.Count k) = consed (index count) (idsAt r k)
-stepTold r (Step.All k) = consed (index all) (idsAt r k)
-stepTold r Step.End = some []
-stepTold r Step.Bad = none
+abbrev pub reportIdStep : List ℕ → Step → Option (List Id)
+reportIdStep r (Step.Name a b k) = consed (name (part r a (b - a))) (idsAt r k)
+reportIdStep r (Step.Position n k) = consed (index (position n)) (idsAt r k)
+reportIdStep r (Step.FromEnd n k) = consed (index (fromEnd n)) (idsAt r k)
+reportIdStep r (Step.Count k) = consed (index count) (idsAt r k)
+reportIdStep r (Step.All k) = consed (index all) (idsAt r k)
+reportIdStep r Step.End = some []
+reportIdStep r Step.Bad = none
 
 -- the next place lies after k, at most one past the end of r
 unfoldable pub rises : List ℕ → ℕ → ℕ → Bool
@@ -138,10 +138,10 @@ placeAfter Step.End = After.End
 placeAfter Step.Bad = After.Bad
 
 -- ---- what a reference leads to
-abbrev pub targetTold : ℕ → List ℕ → List ℕ → Target → Option allowed.Target
-targetTold chain t s (Target.Row i) = some (allowed.ofType (typeFrom chain t s i))
-targetTold chain t s Target.Count = some allowed.ofCount
-targetTold chain t s Target.No = none
+abbrev pub reportTarget : ℕ → List ℕ → List ℕ → Target → Option allowed.Target
+reportTarget chain t s (Target.Row i) = some (allowed.ofType (typeFrom chain t s i))
+reportTarget chain t s Target.Count = some allowed.ofCount
+reportTarget chain t s Target.No = none
 
 -- a row that it names is one of the rows s
 abbrev pub rowWithin : List ℕ → Target → Bool
@@ -175,21 +175,21 @@ abbrev pub rowMembers : ℕ → List ℕ → List ℕ → ℕ → Members
 rowMembers chain t s row = membersFrom (typeFrom chain t s) t s (row + 1) (membersAt t (rowAt s row))
 
 abbrev pub LeadsByName : ℕ → List ℕ → List ℕ → ℕ → List ℕ → Target → Type 0
-LeadsByName chain t s row x g = targetTold chain t s g ≡ allowed.underMembers (name x) (rowMembers chain t s row)
+LeadsByName chain t s row x g = reportTarget chain t s g ≡ allowed.underMembers (name x) (rowMembers chain t s row)
 
 -- what an identifier leads to among them; in the list of a row; from another target
 abbrev pub LeadsInMembers : ℕ → List ℕ → List ℕ → ℕ → Option Id → Target → Type 0
-LeadsInMembers chain t s row o g = targetTold chain t s g ≡ amongMembers o (rowMembers chain t s row)
+LeadsInMembers chain t s row o g = reportTarget chain t s g ≡ amongMembers o (rowMembers chain t s row)
 
 abbrev pub LeadsInList : ℕ → List ℕ → List ℕ → ℕ → Option Id → Target → Type 0
-LeadsInList chain t s row o g = targetTold chain t s g ≡ inList o (typeFrom chain t s (elementAt t (rowAt s row)))
+LeadsInList chain t s row o g = reportTarget chain t s g ≡ inList o (typeFrom chain t s (elementAt t (rowAt s row)))
 
 abbrev pub LeadsFrom : ℕ → List ℕ → List ℕ → Target → Option Id → Target → Type 0
-LeadsFrom chain t s from o g = targetTold chain t s g ≡ atTold o (targetTold chain t s from)
+LeadsFrom chain t s from o g = reportTarget chain t s g ≡ atTold o (reportTarget chain t s from)
 
 -- what identifiers lead to from row 0, and a reference, where one is given
 abbrev pub LeadsAlong : ℕ → List ℕ → List ℕ → Option (List Id) → Target → Type 0
-LeadsAlong chain t s is g = targetTold chain t s g ≡ along is (targetTold chain t s (Target.Row 0))
+LeadsAlong chain t s is g = reportTarget chain t s g ≡ along is (reportTarget chain t s (Target.Row 0))
 
 abbrev pub Leads : ℕ → List ℕ → List ℕ → Bool → List ℕ → Target → Type 0
-Leads chain t s given r g = targetTold chain t s g ≡ leadsTo given r (typeFrom chain t s 0)
+Leads chain t s given r g = reportTarget chain t s g ≡ leadsTo given r (typeFrom chain t s 0)

@@ -97,7 +97,7 @@ fn number_of(p: &[u8]) -> usize
 
 // A name, or nothing.
 fn read_word(p: &[u8]) -> Piece
-    ensures { λ r. ⌜ work.pieceTold (now (p .entry)) r ≡ work.cappedId (work.wordId (now (p .entry))) ⌝ }
+    ensures { λ r. ⌜ work.reportPiece (now (p .entry)) r ≡ work.cappedId (work.wordId (now (p .entry))) ⌝ }
 {
     if is_name(p) {
         return Piece::Name;
@@ -107,7 +107,7 @@ fn read_word(p: &[u8]) -> Piece
 
 // A position from the end, a name, or nothing.
 fn read_other(p: &[u8]) -> Piece
-    ensures { λ r. ⌜ work.pieceTold (now (p .entry)) r ≡ work.cappedId (work.otherId (now (p .entry))) ⌝ }
+    ensures { λ r. ⌜ work.reportPiece (now (p .entry)) r ≡ work.cappedId (work.otherId (now (p .entry))) ⌝ }
 {
     if octets::octet(p, 0) != 45 {
         return read_word(p);
@@ -120,7 +120,7 @@ fn read_other(p: &[u8]) -> Piece
 }
 
 fn read_number(p: &[u8]) -> Piece
-    ensures { λ r. ⌜ work.pieceTold (now (p .entry)) r ≡ work.cappedId (work.numberId (now (p .entry))) ⌝ }
+    ensures { λ r. ⌜ work.reportPiece (now (p .entry)) r ≡ work.cappedId (work.numberId (now (p .entry))) ⌝ }
 {
     if is_position(p) {
         return Piece::Position(number_of(p));
@@ -129,7 +129,7 @@ fn read_number(p: &[u8]) -> Piece
 }
 
 fn read_id(p: &[u8]) -> Piece
-    ensures { λ r. ⌜ work.pieceTold (now (p .entry)) r ≡ work.cappedId (reference.idOf (now (p .entry))) ⌝ }
+    ensures { λ r. ⌜ work.reportPiece (now (p .entry)) r ≡ work.cappedId (reference.idOf (now (p .entry))) ⌝ }
 {
     if octets::same(p, b"*") {
         return Piece::All;
@@ -173,7 +173,7 @@ fn step_of(piece: Piece, a: usize, b: usize, next: usize) -> Step
 
 // The identifier that starts at a place of a reference.
 pub fn next_id(r: &[u8], k: usize) -> Step
-    ensures step { λ s. ⌜ work.stepTold (now (r .entry)) s ≡ work.headCapped (work.idsAt (now (r .entry)) k) ⌝ }
+    ensures step { λ s. ⌜ work.reportIdStep (now (r .entry)) s ≡ work.headCapped (work.idsAt (now (r .entry)) k) ⌝ }
     ensures rises { λ s. ⌜ work.advances (now (r .entry)) k s ≡ true ⌝ }
 {
     if r.len() < k {

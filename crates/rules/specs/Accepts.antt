@@ -12,7 +12,7 @@ use Rattle.integers.specs.Asserted.{assertedInteger}
 use Rattle.binary.specs.Asserted.{assertedOctets, assertedBits}
 use Rattle.strings.specs.Asserted.{assertedText}
 use Rattle.strings.specs.Prepared.{prepared}
-use Rattle.reference.specs.Numbers.{Component, stored, defaulted, tallied, contentsOf}
+use Rattle.reference.specs.Numbers.{Component, stored, byDefault, byCount, contentsOf}
 use Rattle.rules.specs.Rule.{Syntax, booleans, integers, objectIdentifiers, octetStrings, bitStrings, strings, times, Rule, present, equal, less}
 
 -- an equal one; bits "equal in number and bit by bit"
@@ -48,5 +48,5 @@ acceptsCount (less s) t n = lessWhole (plus n) (assertedInteger t)
 
 unfoldable pub accepts : Rule → List ℕ → Component → Bool
 accepts r t (stored s) = acceptsContents r t (s .contents)
-accepts r t (defaulted place m) = acceptsContents r t (contentsOf (m .presence))
-accepts r t (tallied place n) = acceptsCount r t n
+accepts r t (byDefault place m) = acceptsContents r t (contentsOf (m .presence))
+accepts r t (byCount place n) = acceptsCount r t n

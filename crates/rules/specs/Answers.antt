@@ -36,9 +36,9 @@ meant rule.Rule.Present = present
 meant (rule.Rule.Equal s) = equal (syntaxOf s)
 meant (rule.Rule.Less s) = less (syntaxOf s)
 
-abbrev pub toldRule : named.Named → Option Rule
-toldRule named.Named.Unknown = none
-toldRule (named.Named.Known r) = some (meant r)
+abbrev pub reportRule : named.Named → Option Rule
+reportRule named.Named.Unknown = none
+reportRule (named.Named.Known r) = some (meant r)
 
 -- a text is a rule's name or OID
 unfoldable pub called : List ℕ → List ℕ → List ℕ → Bool

@@ -9,7 +9,7 @@ use Rattle.octets.specs.Pick.{bind}
 use Rattle.octets.specs.Octets.{bytes, hex}
 use Rattle.table.specs.Types.{Tagging, untagged, explicit, mandatory, Ty, basic, sequence, choice, noMore, more}
 use Rattle.reference.specs.Allowed.{Target, ofType, ofCount}
-use Rattle.reference.specs.Numbers.{Component, stored, tallied}
+use Rattle.reference.specs.Numbers.{Component, stored, byCount}
 use Rattle.rules.specs.RuleFor.{ruleFor}
 use Rattle.strings.specs.Prepared.{prepared}
 use Rattle.rules.specs.Accepts.{accepts}
@@ -111,8 +111,8 @@ time-order = refl
 
 -- ---- which rule is for which target
 -- INTEGER rules on a count; not on ENUMERATED; string rules on kinds 8, 9, 10
-targets : test ofCount "integerMatch" (tallied 6 2) "2" ∷ test ofCount "integerOrderingMatch" (tallied 6 2) "3"
-    ∷ test ofCount "presentMatch" (tallied 6 2) "NULL" ∷ test ofCount "booleanMatch" (tallied 6 2) "TRUE"
+targets : test ofCount "integerMatch" (byCount 6 2) "2" ∷ test ofCount "integerOrderingMatch" (byCount 6 2) "3"
+    ∷ test ofCount "presentMatch" (byCount 6 2) "NULL" ∷ test ofCount "booleanMatch" (byCount 6 2) "TRUE"
     ∷ test (ofType (basic 3)) "integerMatch" (contents (hex "02")) "2" ∷ test (ofType (basic 6)) "caseIgnoreMatch" (contents []) "\"a\""
     ∷ test (ofType (sequence noMore)) "presentMatch" (contents []) "NULL" ∷ []
     ≡ some true ∷ some true ∷ some true ∷ none ∷ none ∷ none ∷ some true ∷ []

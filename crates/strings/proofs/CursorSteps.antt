@@ -13,7 +13,7 @@ use Rattle.octets.specs.Quoted.{undoubled}
 use Rattle.octets.proofs.TextLaws.{same-nil, same-shorter, same-longer, same-cons}
 use Rattle.strings.specs.Asserted.{assertedText}
 use Rattle.strings.specs.Prepared.{afterSpace, spaced, squeezed, prepared}
-use Rattle.strings.specs.Cursor.{charactersOf, lettersAt, toldLetter, restAt, rest, told, emitted, isEnd}
+use Rattle.strings.specs.Cursor.{charactersOf, lettersAt, reportLetter, restAt, rest, reportStep, emitted, isEnd}
 use Rattle.strings.specs.declared.Before.{Before}
 use Rattle.strings.specs.declared.Letter.{Letter}
 use Rattle.strings.specs.declared.Cursor.{Cursor}
@@ -32,14 +32,14 @@ module _ (p : Before) (b at after : ℕ) where
 
 -- ---- the next octet
 module _ (fold quoted : Bool) (s : List ℕ) (at : ℕ) (p : Before) (l : List ℕ) (inv : restAt fold quoted s at p ≡ l)
-    (r : Letter) (read : toldLetter fold quoted s r ≡ lettersAt fold quoted s at) where
-  pub next-end : r ≡ Letter.End → told fold quoted s Step.End ≡ l
+    (r : Letter) (read : reportLetter fold quoted s r ≡ lettersAt fold quoted s at) where
+  pub next-end : r ≡ Letter.End → reportStep fold quoted s Step.End ≡ l
   unfolding restAt squeezed
-  next-end e = sym (ap (squeezed p) (sym read ∙ ap (toldLetter fold quoted s) e)) ∙ inv
+  next-end e = sym (ap (squeezed p) (sym read ∙ ap (reportLetter fold quoted s) e)) ∙ inv
 
   module _ (b after : ℕ) (e : r ≡ Letter.Got b after) where
     letters : lettersAt fold quoted s at ≡ b ∷ lettersAt fold quoted s after
-    letters = sym read ∙ ap (toldLetter fold quoted s) e
+    letters = sym read ∙ ap (reportLetter fold quoted s) e
 
     step : squeezed p (b ∷ lettersAt fold quoted s after) ≡ l
     unfolding restAt
@@ -56,14 +56,14 @@ module _ (fold quoted : Bool) (s : List ℕ) (at : ℕ) (p : Before) (l : List �
     unfolding squeezed
     taken n x = rw (ne-eqb b 32 n)
 
-    emit-told : (b ≡ 32 → ⊥) → (x : Before) → told fold quoted s (emitted b x at after) ≡ spaced x (b ∷ squeezed Before.Character (lettersAt fold quoted s after))
+    emit-told : (b ≡ 32 → ⊥) → (x : Before) → reportStep fold quoted s (emitted b x at after) ≡ spaced x (b ∷ squeezed Before.Character (lettersAt fold quoted s after))
     unfolding restAt
     emit-told n Before.Nothing = refl
     emit-told n Before.Character = refl
     emit-told n Before.Space = ap (λ (y : List ℕ). 32 ∷ y) (ap (squeezed Before.Nothing) letters ∙ taken n Before.Nothing)
 
-    pub next-emits : (x : Step) → (b ≡ 32 → ⊥) → x ≡ emitted b p at after → told fold quoted s x ≡ l
-    next-emits x n q = ap (told fold quoted s) q ∙ emit-told n p ∙ sym (taken n p) ∙ step
+    pub next-emits : (x : Step) → (b ≡ 32 → ⊥) → x ≡ emitted b p at after → reportStep fold quoted s x ≡ l
+    next-emits x n q = ap (reportStep fold quoted s) q ∙ emit-told n p ∙ sym (taken n p) ∙ step
 
 -- ---- two prepared strings
 abbrev pub begun : Cursor
@@ -77,30 +77,30 @@ pub match-start : (fold : Bool) (c q : List ℕ) → same (rest fold false c beg
 match-start fold c q = ap₂ same (rest-begun fold false c) (rest-begun fold true q)
 
 module _ (fold : Bool) (c q : List ℕ) (a b : Cursor) (sa sb : Step) (m : Bool) (inv : same (rest fold false c a) (rest fold true q b) ≡ m)
-    (ea : told fold false c sa ≡ rest fold false c a) (eb : told fold true q sb ≡ rest fold true q b) where
-  sides : same (told fold false c sa) (told fold true q sb) ≡ m
+    (ea : reportStep fold false c sa ≡ rest fold false c a) (eb : reportStep fold true q sb ≡ rest fold true q b) where
+  sides : same (reportStep fold false c sa) (reportStep fold true q sb) ≡ m
   sides = ap₂ same ea eb ∙ inv
 
-  ended : (x : Step) → isEnd x ≡ same [] (told fold true q x)
+  ended : (x : Step) → isEnd x ≡ same [] (reportStep fold true q x)
   ended Step.End = sym same-nil
   ended (Step.Octet y z) = sym (same-shorter y (rest fold true q z))
 
   pub match-ended : (r : Bool) → sa ≡ Step.End → r ≡ isEnd sb → r ≡ m
-  match-ended r e h = h ∙ ended sb ∙ sym (ap (λ (x : Step). same (told fold false c x) (told fold true q sb)) e) ∙ sides
+  match-ended r e h = h ∙ ended sb ∙ sym (ap (λ (x : Step). same (reportStep fold false c x) (reportStep fold true q sb)) e) ∙ sides
 
   module _ (x : ℕ) (a2 : Cursor) (ex : sa ≡ Step.Octet x a2) where
     left : x ∷ rest fold false c a2 ≡ rest fold false c a
-    left = sym (ap (told fold false c) ex) ∙ ea
+    left = sym (ap (reportStep fold false c) ex) ∙ ea
 
     pub match-falls : length (rest fold false c a2) < length (rest fold false c a)
     match-falls = omega (arith, ap length left)
 
     pub match-longer : sb ≡ Step.End → false ≡ m
-    match-longer e = sym (same-longer x (rest fold false c a2)) ∙ sym (ap₂ (λ (u : Step) (v : Step). same (told fold false c u) (told fold true q v)) ex e) ∙ sides
+    match-longer e = sym (same-longer x (rest fold false c a2)) ∙ sym (ap₂ (λ (u : Step) (v : Step). same (reportStep fold false c u) (reportStep fold true q v)) ex e) ∙ sides
 
     module _ (y : ℕ) (b2 : Cursor) (ey : sb ≡ Step.Octet y b2) where
       both-sides : both (eqb x y) (same (rest fold false c a2) (rest fold true q b2)) ≡ m
-      both-sides = sym (same-cons x y (rest fold false c a2) (rest fold true q b2)) ∙ sym (ap₂ (λ (u : Step) (v : Step). same (told fold false c u) (told fold true q v)) ex ey) ∙ sides
+      both-sides = sym (same-cons x y (rest fold false c a2) (rest fold true q b2)) ∙ sym (ap₂ (λ (u : Step) (v : Step). same (reportStep fold false c u) (reportStep fold true q v)) ex ey) ∙ sides
 
       pub match-differs : (x ≡ y → ⊥) → false ≡ m
       match-differs n = rw (ne-eqb x y n) at both-sides

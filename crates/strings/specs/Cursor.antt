@@ -18,9 +18,9 @@ abbrev pub charactersOf : Bool → List ℕ → List ℕ
 charactersOf false s = s
 charactersOf true s = undoubled s
 
-abbrev pub toldCharacter : Bool → List ℕ → Letter → List ℕ
-toldCharacter quoted s Letter.End = []
-toldCharacter quoted s (Letter.Got b next) = b ∷ charactersOf quoted (drop next s)
+abbrev pub reportCharacter : Bool → List ℕ → Letter → List ℕ
+reportCharacter quoted s Letter.End = []
+reportCharacter quoted s (Letter.Got b next) = b ∷ charactersOf quoted (drop next s)
 
 -- ---- the same, folded
 abbrev pub foldOctet : Bool → ℕ → ℕ
@@ -29,9 +29,9 @@ foldOctet fold b = pick fold (lower b) b
 unfoldable pub lettersAt : Bool → Bool → List ℕ → ℕ → List ℕ
 lettersAt fold quoted s at = folded fold (charactersOf quoted (drop at s))
 
-abbrev pub toldLetter : Bool → Bool → List ℕ → Letter → List ℕ
-toldLetter fold quoted s Letter.End = []
-toldLetter fold quoted s (Letter.Got b next) = b ∷ lettersAt fold quoted s next
+abbrev pub reportLetter : Bool → Bool → List ℕ → Letter → List ℕ
+reportLetter fold quoted s Letter.End = []
+reportLetter fold quoted s (Letter.Got b next) = b ∷ lettersAt fold quoted s next
 
 -- ---- what is left of the prepared string at a cursor, and what a step says of it
 unfoldable pub restAt : Bool → Bool → List ℕ → ℕ → Before → List ℕ
@@ -40,9 +40,9 @@ restAt fold quoted s at p = squeezed p (lettersAt fold quoted s at)
 abbrev pub rest : Bool → Bool → List ℕ → Cursor → List ℕ
 rest fold quoted s c = restAt fold quoted s (c .at) (c .before)
 
-abbrev pub told : Bool → Bool → List ℕ → Step → List ℕ
-told fold quoted s Step.End = []
-told fold quoted s (Step.Octet b c) = b ∷ rest fold quoted s c
+abbrev pub reportStep : Bool → Bool → List ℕ → Step → List ℕ
+reportStep fold quoted s Step.End = []
+reportStep fold quoted s (Step.Octet b c) = b ∷ rest fold quoted s c
 
 -- a character that is no space, at a place with the next after it: after a space it gives that space first, and stays
 abbrev pub emitted : ℕ → Before → ℕ → ℕ → Step

@@ -64,7 +64,7 @@ pub fn is_text(t: &[u8]) -> bool
 // ---- characters
 // The octet at a place; in a quoted string two quotes are one.
 fn read_character(s: &[u8], quoted: bool, at: usize) -> Letter
-    ensures { λ r. ⌜ cursor.toldCharacter quoted (now (s .entry)) r ≡ cursor.charactersOf quoted (drop at (now (s .entry))) ⌝ }
+    ensures { λ r. ⌜ cursor.reportCharacter quoted (now (s .entry)) r ≡ cursor.charactersOf quoted (drop at (now (s .entry))) ⌝ }
 {
     if s.len() <= at {
         return Letter::End;
@@ -95,7 +95,7 @@ fn fold_octet(fold: bool, b: u8) -> u8
 }
 
 fn read_letter(s: &[u8], quoted: bool, fold: bool, at: usize) -> Letter
-    ensures { λ r. ⌜ cursor.toldLetter fold quoted (now (s .entry)) r ≡ cursor.lettersAt fold quoted (now (s .entry)) at ⌝ }
+    ensures { λ r. ⌜ cursor.reportLetter fold quoted (now (s .entry)) r ≡ cursor.lettersAt fold quoted (now (s .entry)) at ⌝ }
 {
     let Letter::Got(b, after) = read_character(s, quoted, at) else {
         return Letter::End;
@@ -145,7 +145,7 @@ fn emit(b: u8, before: Before, at: usize, after: usize) -> Step
 
 // The next octet of the prepared string.
 fn next(s: &[u8], quoted: bool, fold: bool, c: Cursor) -> Step
-    ensures { λ r. ⌜ cursor.told fold quoted (now (s .entry)) r ≡ cursor.rest fold quoted (now (s .entry)) c ⌝ }
+    ensures { λ r. ⌜ cursor.reportStep fold quoted (now (s .entry)) r ≡ cursor.rest fold quoted (now (s .entry)) c ⌝ }
 {
     let mut at = c.at;
     let mut before = c.before;

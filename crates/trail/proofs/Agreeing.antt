@@ -19,11 +19,11 @@ use Rattle.value.proofs.Decodes.{Decodes, is-basic, is-sequence, is-choice, is-
 use Rattle.value.proofs.Decodes.{Fielded, none-left, there, lacks, Chosen, this, other, Elements, ends, goes, decodes-stored}
 use Rattle.value.proofs.Before.{choice-before}
 use Rattle.reference.specs.Reference.{Index, position, fromEnd, count, all, Id, name, index}
-use Rattle.reference.specs.Named.{Held, value, missing, counted, absentNames, memberNamed, size, each, elementAt, indexedBy, step, replaced, held, named}
-use Rattle.reference.specs.Numbers.{Component, stored, defaulted, tallied, component}
+use Rattle.reference.specs.Named.{Held, value, defaultValue, countValue, absentNames, memberNamed, size, each, elementAt, indexedBy, step, replaced, held, named}
+use Rattle.reference.specs.Numbers.{Component, stored, byDefault, byCount, component}
 use Rattle.trail.specs.Opened.{Opened, after, openAt}
 use Rattle.trail.specs.Trail.{Trail, done, reach, then, eachFrom, countFrom, positionFrom, Found, found, lacking, nothing, findMember}
-use Rattle.trail.specs.Trail.{findAlternative, ending, lackingTrail, onFound, inMembers, alongIndex, inList, inValue, along, trail, faulty, reached}
+use Rattle.trail.specs.Trail.{findAlternative, ending, lackingTrail, onFound, inMembers, alongIndex, inList, inValue, along, trail, hasMisfit, reached}
 use Rattle.trail.proofs.Standing.{Stands, open-decoded, same-start, same-span}
 
 -- ---- held values, and the walk that reaches their components and ends well
@@ -55,8 +55,8 @@ unfoldable pub laid : List Held → Trail
 laid [] = done
 laid (h ∷ hs) = reach (component h) (laid hs)
 
-pub laid-sound : (hs : List Held) → faulty (laid hs) ≡ false
-unfolding faulty laid
+pub laid-sound : (hs : List Held) → hasMisfit (laid hs) ≡ false
+unfolding hasMisfit laid
 laid-sound [] = refl
 laid-sound (h ∷ hs) = laid-sound hs
 
@@ -70,19 +70,19 @@ unfolding then laid
 laid-then [] b = refl
 laid-then (x ∷ a) b = ap (reach (component x)) (laid-then a b)
 
-none-left-default : (defaults : Bool) (place : ℕ) (m : Member) → ending [] (defaulted place m) ≡ laid (held defaults [] (missing place m ∷ []))
+none-left-default : (defaults : Bool) (place : ℕ) (m : Member) → ending [] (byDefault place m) ≡ laid (held defaults [] (defaultValue place m ∷ []))
 unfolding held laid
 none-left-default defaults place m = refl
 
-some-left-default : (defaults : Bool) (j : Id) (js : List Id) (place : ℕ) (m : Member) → ending (j ∷ js) (defaulted place m) ≡ laid (held defaults (j ∷ js) (missing place m ∷ []))
+some-left-default : (defaults : Bool) (j : Id) (js : List Id) (place : ℕ) (m : Member) → ending (j ∷ js) (byDefault place m) ≡ laid (held defaults (j ∷ js) (defaultValue place m ∷ []))
 unfolding held replaced step laid
 some-left-default defaults j js place m = ap laid (sym (held-none defaults js))
 
-none-left-count : (defaults : Bool) (place n : ℕ) → ending [] (tallied place n) ≡ laid (held defaults [] (counted place n ∷ []))
+none-left-count : (defaults : Bool) (place n : ℕ) → ending [] (byCount place n) ≡ laid (held defaults [] (countValue place n ∷ []))
 unfolding held laid
 none-left-count defaults place n = refl
 
-some-left-count : (defaults : Bool) (j : Id) (js : List Id) (place n : ℕ) → ending (j ∷ js) (tallied place n) ≡ laid (held defaults (j ∷ js) (counted place n ∷ []))
+some-left-count : (defaults : Bool) (j : Id) (js : List Id) (place n : ℕ) → ending (j ∷ js) (byCount place n) ≡ laid (held defaults (j ∷ js) (countValue place n ∷ []))
 unfolding held replaced step laid
 some-left-count defaults j js place n = ap laid (sym (held-none defaults js))
 
@@ -93,17 +93,17 @@ module _ (defaults : Bool) (is : List Id) (v : List ℕ) (f : Ty → Opened → 
   nothing-held = ap laid (sym (held-none defaults is))
 
   -- a default and a count have no components of their own
-  ends-default : (place : ℕ) (m : Member) → ending is (defaulted place m) ≡ laid (held defaults is (missing place m ∷ []))
+  ends-default : (place : ℕ) (m : Member) → ending is (byDefault place m) ≡ laid (held defaults is (defaultValue place m ∷ []))
   ends-default place m = go is
     where
-      go : (js : List Id) → ending js (defaulted place m) ≡ laid (held defaults js (missing place m ∷ []))
+      go : (js : List Id) → ending js (byDefault place m) ≡ laid (held defaults js (defaultValue place m ∷ []))
       go [] = none-left-default defaults place m
       go (j ∷ js) = some-left-default defaults j js place m
 
-  ends-count : (place n : ℕ) → ending is (tallied place n) ≡ laid (held defaults is (counted place n ∷ []))
+  ends-count : (place n : ℕ) → ending is (byCount place n) ≡ laid (held defaults is (countValue place n ∷ []))
   ends-count place n = go is
     where
-      go : (js : List Id) → ending js (tallied place n) ≡ laid (held defaults js (counted place n ∷ []))
+      go : (js : List Id) → ending js (byCount place n) ≡ laid (held defaults js (countValue place n ∷ []))
       go [] = none-left-count defaults place n
       go (j ∷ js) = some-left-count defaults j js place n
 
@@ -113,7 +113,7 @@ module _ (defaults : Bool) (is : List Id) (v : List ℕ) (f : Ty → Opened → 
   lacking-named place m optional = nothing-held
   lacking-named place m (default c) = go defaults refl
     where
-      go : (x : Bool) → defaults ≡ x → pick x (ending is (defaulted place m)) done ≡ laid (held defaults is (pick x (missing place m ∷ []) []))
+      go : (x : Bool) → defaults ≡ x → pick x (ending is (byDefault place m)) done ≡ laid (held defaults is (pick x (defaultValue place m ∷ []) []))
       go true q = ends-default place m
       go false q = nothing-held
 

@@ -19,7 +19,7 @@ use Rattle.value.proofs.LeafSteps.{first-none, first-step}
 use Rattle.value.proofs.MemberSteps.{starts-as}
 use Rattle.trail.specs.Opened.{Opened, openAt}
 use Rattle.trail.specs.Trail as trail
-use Rattle.trail.specs.Work.{openingTold, landsIn, chosenAs}
+use Rattle.trail.specs.Work.{reportOpening, landsIn, chosenAs}
 use Rattle.trail.specs.declared.Opening.{Opening}
 use Rattle.trail.specs.declared.Found.{Found}
 
@@ -34,13 +34,13 @@ module _ (chain : ℕ) (t s : List ℕ) (row : ℕ) (x : List ℕ) (o : Option O
   pub chosen-other : (ty : Ty) → not u ≡ true → trail.nothing ≡ chosenAs (same (unfilled (nameAt t (rowAt s row))) x) ty o
   chosen-other ty h = rw (is-named ∙ not-true u h)
 
-  module _ (yes-named : not u ≡ false) (c : Opening) (told : openingTold c ≡ o) where
+  module _ (yes-named : not u ≡ false) (c : Opening) (told : reportOpening c ≡ o) where
     pub chosen-broken : (ty : Ty) → c ≡ Opening.Misfit → trail.broken ≡ chosenAs (same (unfilled (nameAt t (rowAt s row))) x) ty o
-    chosen-broken ty e = rw (is-named ∙ not-false u yes-named, (sym told ∙ ap openingTold e))
+    chosen-broken ty e = rw (is-named ∙ not-false u yes-named, (sym told ∙ ap reportOpening e))
 
     pub chosen-at : (target place start span : ℕ) → c ≡ Opening.Of place start span → target ≡ typeRowAt t p
         → trail.found (typeFrom chain t s target) (record { place = place; start = start; span = span }) ≡ chosenAs (same (unfilled (nameAt t (rowAt s row))) x) (typeFrom chain t s (typeRowAt t (rowAt s row))) o
-    chosen-at target place start span e f = rw (is-named ∙ not-false u yes-named, (sym told ∙ ap openingTold e)) (ap (λ (y : ℕ). trail.found (typeFrom chain t s y) (record { place = place; start = start; span = span })) (f ∙ ap (typeRowAt t) placed))
+    chosen-at target place start span e f = rw (is-named ∙ not-false u yes-named, (sym told ∙ ap reportOpening e)) (ap (λ (y : ℕ). trail.found (typeFrom chain t s y) (record { place = place; start = start; span = span })) (f ∙ ap (typeRowAt t) placed))
 
 -- ---- the first that can begin here
 module _ (chain : ℕ) (t s m : List ℕ) (row : ℕ) (ok : Sound chain t s m) (here : row < length s) (x v : List ℕ) (at stop : ℕ) where

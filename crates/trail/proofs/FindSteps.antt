@@ -20,7 +20,7 @@ use Rattle.value.specs.Work.{marked}
 use Rattle.value.proofs.MemberSteps.{starts-as}
 use Rattle.trail.specs.Opened.{Opened, openAt}
 use Rattle.trail.specs.Trail as trail
-use Rattle.trail.specs.Work.{openingTold, looksIn, Looked, onward, landed, lookTold, thereOr, orBroken, memberLook, thenLook}
+use Rattle.trail.specs.Work.{reportOpening, looksIn, Looked, onward, landed, reportLook, thereOr, orBroken, memberLook, thenLook}
 use Rattle.trail.specs.declared.Opening.{Opening}
 use Rattle.trail.specs.declared.Look.{Look}
 use Rattle.trail.proofs.OpenSteps.{open-long}
@@ -43,14 +43,14 @@ none-lands = refl
 
 -- the value of a member row's type, as the code has opened it
 pub opened-lands : (t s : List ℕ) (row p target : ℕ) (ty : Ty) (g : Tagging) (v : List ℕ) (i stop place start span : ℕ) (c : Opening) → p ≡ rowAt s row → target ≡ typeRowAt t p → typeRowAt t (rowAt s row) < length s
-    → openingTold c ≡ openAt ty g v i stop → c ≡ Opening.Of place start span → both (ltb target (length s)) (leb (start + span) stop) ≡ true
+    → reportOpening c ≡ openAt ty g v i stop → c ≡ Opening.Of place start span → both (ltb target (length s)) (leb (start + span) stop) ≡ true
 opened-lands t s row p target ty g v i stop place start span c placed targeted h told e =
-    let w = open-long ty g v i stop (record { place = place; start = start; span = span }) (sym told ∙ ap openingTold e) .1 in
+    let w = open-long ty g v i stop (record { place = place; start = start; span = span }) (sym told ∙ ap reportOpening e) .1 in
     let q : target ≡ typeRowAt t (rowAt s row) = targeted ∙ ap (typeRowAt t) placed in
     both-hold (ltb target (length s)) (leb (start + span) stop) (lt-ltb target (length s) (omega arith)) (le-leb (start + span) stop w)
 
 -- a member that is absent
-pub absent-lands : (chain : ℕ) (t s : List ℕ) (stop i : ℕ) (b : Bool) (m : Member) (l : Look) → lookTold chain t s l ≡ pick b (landed (trail.lacking m)) (onward i) → looksIn s stop l ≡ true
+pub absent-lands : (chain : ℕ) (t s : List ℕ) (stop i : ℕ) (b : Bool) (m : Member) (l : Look) → reportLook chain t s l ≡ pick b (landed (trail.lacking m)) (onward i) → looksIn s stop l ≡ true
 absent-lands chain t s stop i b m (Look.Next j) e = refl
 absent-lands chain t s stop i b m (Look.Lacking row) e = refl
 absent-lands chain t s stop i b m Look.Broken e = refl
@@ -75,9 +75,9 @@ module _ (chain : ℕ) (t s : List ℕ) (row : ℕ) (x : List ℕ) (p : ℕ) (pl
     pub absent-other : (i : ℕ) → u ≡ false → onward i ≡ pick (same (unfilled (nameAt t (rowAt s row))) x) (landed (trail.lacking (memberOf t row (rowAt s row)))) (onward i)
     absent-other i h = rw (is-named ∙ h)
 
-    module _ (o : Option Opened) (c : Opening) (told : openingTold c ≡ o) (place start span : ℕ) (found : c ≡ Opening.Of place start span) where
+    module _ (o : Option Opened) (c : Opening) (told : reportOpening c ≡ o) (place start span : ℕ) (found : c ≡ Opening.Of place start span) where
       opened-is : o ≡ some (record { place = place; start = start; span = span })
-      opened-is = sym told ∙ ap openingTold found
+      opened-is = sym told ∙ ap reportOpening found
 
       pub there-named : (target : ℕ) → target ≡ typeRowAt t p → u ≡ true → landed (trail.found (typeFrom chain t s target) (record { place = place; start = start; span = span })) ≡ orBroken (thereOr (same (unfilled (nameAt t (rowAt s row))) x) (typeFrom chain t s (typeRowAt t (rowAt s row)))) o
       there-named target e h = rw (opened-is, is-named ∙ h) (ap (λ (y : ℕ). landed (trail.found (typeFrom chain t s y) (record { place = place; start = start; span = span }))) (e ∙ ap (typeRowAt t) placed))
@@ -85,11 +85,11 @@ module _ (chain : ℕ) (t s : List ℕ) (row : ℕ) (x : List ℕ) (p : ℕ) (pl
       pub there-other : u ≡ false → onward (start + span) ≡ orBroken (thereOr (same (unfilled (nameAt t (rowAt s row))) x) (typeFrom chain t s (typeRowAt t (rowAt s row)))) o
       there-other h = rw (opened-is, is-named ∙ h)
 
-pub there-broken : (n : Bool) (ty : Ty) (o : Option Opened) (c : Opening) → openingTold c ≡ o → c ≡ Opening.Misfit → landed trail.broken ≡ orBroken (thereOr n ty) o
-there-broken n ty o c told e = rw (sym told ∙ ap openingTold e)
+pub there-broken : (n : Bool) (ty : Ty) (o : Option Opened) (c : Opening) → reportOpening c ≡ o → c ≡ Opening.Misfit → landed trail.broken ≡ orBroken (thereOr n ty) o
+there-broken n ty o c told e = rw (sym told ∙ ap reportOpening e)
 
-pub there-fits : (ty : Ty) (g : Tagging) (v : List ℕ) (i stop place start span : ℕ) (c : Opening) → openingTold c ≡ openAt ty g v i stop → c ≡ Opening.Of place start span → stop < 18446744073709551616 → start + span < 18446744073709551616
-there-fits ty g v i stop place start span c told e h = let w = open-long ty g v i stop (record { place = place; start = start; span = span }) (sym told ∙ ap openingTold e) .1 in omega arith
+pub there-fits : (ty : Ty) (g : Tagging) (v : List ℕ) (i stop place start span : ℕ) (c : Opening) → reportOpening c ≡ openAt ty g v i stop → c ≡ Opening.Of place start span → stop < 18446744073709551616 → start + span < 18446744073709551616
+there-fits ty g v i stop place start span c told e h = let w = open-long ty g v i stop (record { place = place; start = start; span = span }) (sym told ∙ ap reportOpening e) .1 in omega arith
 
 module _ (chain : ℕ) (t s m : List ℕ) (row : ℕ) (ok : Sound chain t s m) (here : row < length s) (member : kindAt t (rowAt s row) ≡ 16) (target : typeRowAt t (rowAt s row) < length s) (x v : List ℕ) (stop i : ℕ)
     (p : ℕ) (b : Bool) (placed : p ≡ rowAt s row) (told : b ≡ either (eqb (presenceAt t p) 0) (marked m t p v stop i)) where
@@ -166,9 +166,9 @@ module _ (chain : ℕ) (t s m : List ℕ) (row : ℕ) (ok : Sound chain t s m) (
           ap (λ (y : ℕ). trail.findMember x (membersFrom (typeFrom chain t s) t s (row + 1 + j) y) v stop i) q
           ∙ find-next x (memberOf t (row + 1 + j) (rowAt s (row + 1 + j))) (typeFrom chain t s (typeRowAt t (rowAt s (row + 1 + j)))) (membersFrom (typeFrom chain t s) t s (row + 1 + j + 1) (n - (j + 1))) v stop i
 
-      module _ (c : Look) (told : lookTold chain t s c ≡ memberLook x (memberOf t (row + 1 + j) (rowAt s (row + 1 + j))) (typeFrom chain t s (typeRowAt t (rowAt s (row + 1 + j)))) v stop i) where
-        step : (d : Look) → c ≡ d → thenLook (λ k. trail.findMember x (membersFrom (typeFrom chain t s) t s (row + 1 + j + 1) (n - (j + 1))) v stop k) (lookTold chain t s d) ≡ trail.findMember x (membersFrom (typeFrom chain t s) t s (row + 1) (membersAt t (rowAt s row))) v stop start
-        step d e = ap (λ (y : Look). thenLook (λ k. trail.findMember x (membersFrom (typeFrom chain t s) t s (row + 1 + j + 1) (n - (j + 1))) v stop k) (lookTold chain t s y)) (sym e)
+      module _ (c : Look) (told : reportLook chain t s c ≡ memberLook x (memberOf t (row + 1 + j) (rowAt s (row + 1 + j))) (typeFrom chain t s (typeRowAt t (rowAt s (row + 1 + j)))) v stop i) where
+        step : (d : Look) → c ≡ d → thenLook (λ k. trail.findMember x (membersFrom (typeFrom chain t s) t s (row + 1 + j + 1) (n - (j + 1))) v stop k) (reportLook chain t s d) ≡ trail.findMember x (membersFrom (typeFrom chain t s) t s (row + 1) (membersAt t (rowAt s row))) v stop start
+        step d e = ap (λ (y : Look). thenLook (λ k. trail.findMember x (membersFrom (typeFrom chain t s) t s (row + 1 + j + 1) (n - (j + 1))) v stop k) (reportLook chain t s y)) (sym e)
             ∙ ap (thenLook (λ k. trail.findMember x (membersFrom (typeFrom chain t s) t s (row + 1 + j + 1) (n - (j + 1))) v stop k)) told ∙ sym opens ∙ w .same-found
 
         pub find-again : (next : ℕ) → c ≡ Look.Next next → Finding chain t s row x v start stop n next (j + 1)

@@ -18,7 +18,7 @@ use Rattle.value.proofs.Views.{none-some, some-same, opened-view, in-bare}
 use Rattle.trail.specs.Opened.{Opened, after, ownHeader, openedAs, openOwn, openAt}
 use Rattle.trail.specs.Trail as trail
 use Rattle.trail.specs.Trail.{countFrom}
-use Rattle.trail.specs.Work.{standing, openingTold, foundTold, landsIn, elementFound, nthFound, ofLast, lastFound, Reached, reached, past, unfit, orUnfit, reachedOr, nthFrom, keep, keptAt, keptAs, Ended, landed, short, broken, tailTold, preceded, orEnded, tailFrom, folded, isNear}
+use Rattle.trail.specs.Work.{standing, reportOpening, reportFound, landsIn, elementFound, nthFound, ofLast, lastFound, Reached, reached, past, unfit, orUnfit, reachedOr, nthFrom, keep, keptAt, keptAs, Ended, landed, short, broken, reportTail, preceded, orEnded, tailFrom, folded, isNear}
 use Rattle.trail.specs.declared.Opening.{Opening}
 use Rattle.trail.specs.declared.Tail.{Tail}
 use Rattle.trail.specs.declared.Found.{Found}
@@ -147,8 +147,8 @@ module _ (kept : List ℕ) (n i behind : ℕ) (h : behind < i) where
     pub tail-room : n * 3 ≤ length kept → (n - (i - behind)) * 3 + 3 ≤ length kept
     tail-room r = omega arith
 
-    pub tail-kept : (r : Tail) → r ≡ keptAs kept (n - (i - behind)) → tailTold r ≡ folded i kept n (short behind)
-    tail-kept r e = ap tailTold e ∙ sym (folded-short i kept n behind h ∙ rw (le-ltb (behind + n) i l))
+    pub tail-kept : (r : Tail) → r ≡ keptAs kept (n - (i - behind)) → reportTail r ≡ folded i kept n (short behind)
+    tail-kept r e = ap reportTail e ∙ sym (folded-short i kept n behind h ∙ rw (le-ltb (behind + n) i l))
 
 -- ---- the loop: n elements are kept, and those from p on are left
 pub record Keeping (ty : Ty) (v : List ℕ) (stop i at : ℕ) (kept : List ℕ) (p n : ℕ) : Type 0 where
@@ -221,10 +221,10 @@ module _ (ty : Ty) (v : List ℕ) (stop i at : ℕ) where
     keep-small = let a = w .most in omega arith
 
     -- where the list ends
-    pub keep-ends : (r : Tail) → stop ≤ p → tailTold r ≡ folded i kept n (short 0) → tailTold r ≡ tailFrom (openAt ty untagged v) (stop - at) stop i at
+    pub keep-ends : (r : Tail) → stop ≤ p → reportTail r ≡ folded i kept n (short 0) → reportTail r ≡ tailFrom (openAt ty untagged v) (stop - at) stop i at
     keep-ends r h e = e ∙ ap (folded i kept n) (sym (tail-end (openAt ty untagged v) (w .k) stop i p h)) ∙ w .same
 
-    module _ (l : p < stop) (c : Opening) (told : openingTold c ≡ openAt ty (taggingOf 0 0) v p stop) where
+    module _ (l : p < stop) (c : Opening) (told : reportOpening c ≡ openAt ty (taggingOf 0 0) v p stop) where
       opens : (j : ℕ) × (w .k ≡ suc j) × (tailFrom (openAt ty untagged v) (w .k) stop i p ≡ orEnded (λ x. preceded i x (tailFrom (openAt ty untagged v) j stop i (after x))) (openAt ty untagged v p stop))
       opens = go (w .k) (w .enough)
         where
@@ -234,7 +234,7 @@ module _ (ty : Ty) (v : List ℕ) (stop i at : ℕ) where
 
       pub keep-misfit : c ≡ Opening.Misfit → broken ≡ tailFrom (openAt ty untagged v) (stop - at) stop i at
       keep-misfit e =
-          sym (ap (folded i kept n) (opens .2 ∙ ap (orEnded (λ x. preceded i x (tailFrom (openAt ty untagged v) (opens .0) stop i (after x)))) (sym (plainly ty v p stop) ∙ sym told ∙ ap openingTold e)) ∙ folded-broken i kept n)
+          sym (ap (folded i kept n) (opens .2 ∙ ap (orEnded (λ x. preceded i x (tailFrom (openAt ty untagged v) (opens .0) stop i (after x)))) (sym (plainly ty v p stop) ∙ sym told ∙ ap reportOpening e)) ∙ folded-broken i kept n)
           ∙ w .same
 
       module _ (place from size : ℕ) (e : c ≡ Opening.Of place from size) where
@@ -289,19 +289,19 @@ module _ (ty : Ty) (v : List ℕ) (stop i at : ℕ) where
       pub keep-falls : (z : ℕ) → stop - at ≡ z → stop - p < z
       keep-falls z e = let a = w .few in let b = w .high in omega arith
 
-      module _ (u : Tail) (told : tailTold u ≡ tailFrom (openAt ty untagged v) (stop - p) stop i p) where
-        left : (e : Ended) → tailTold u ≡ e → tailFrom (openAt ty untagged v) (w .k) stop i p ≡ e
+      module _ (u : Tail) (told : reportTail u ≡ tailFrom (openAt ty untagged v) (stop - p) stop i p) where
+        left : (e : Ended) → reportTail u ≡ e → tailFrom (openAt ty untagged v) (w .k) stop i p ≡ e
         left e q = tail-enough ty v (w .k) (stop - p) stop i p (w .enough) (omega arith) ∙ sym told ∙ q
 
         pub keep-landed : (place from size : ℕ) → u ≡ Tail.At place from size → landed (standing place from size) ≡ tailFrom (openAt ty untagged v) (stop - at) stop i at
-        keep-landed place from size q = sym (ap (folded i kept n) (left _ (ap tailTold q)) ∙ folded-landed i kept n (standing place from size)) ∙ w .same
+        keep-landed place from size q = sym (ap (folded i kept n) (left _ (ap reportTail q)) ∙ folded-landed i kept n (standing place from size)) ∙ w .same
 
         pub keep-broken : u ≡ Tail.Broken → broken ≡ tailFrom (openAt ty untagged v) (stop - at) stop i at
-        keep-broken q = sym (ap (folded i kept n) (left _ (ap tailTold q)) ∙ folded-broken i kept n) ∙ w .same
+        keep-broken q = sym (ap (folded i kept n) (left _ (ap reportTail q)) ∙ folded-broken i kept n) ∙ w .same
 
         module _ (behind : ℕ) (q : u ≡ Tail.Short behind) where
           bounded : 0 < i → (behind < i) × (behind + p ≤ stop)
-          bounded h = subst (Bounded stop i p) (sym told ∙ ap tailTold q) (tail-bounded ty v (stop - p) stop i p h (w .high))
+          bounded h = subst (Bounded stop i p) (sym told ∙ ap reportTail q) (tail-bounded ty v (stop - p) stop i p h (w .high))
 
           pub keep-below : 0 < i → behind < i
           keep-below h = bounded h .0
@@ -309,8 +309,8 @@ module _ (ty : Ty) (v : List ℕ) (stop i at : ℕ) where
           pub keep-sum : 0 < i → stop < 65536 → behind + n < 18446744073709551616
           keep-sum h l = let a = bounded h .1 in let b = w .most in omega arith
 
-          pub keep-short : (r : Tail) → tailTold r ≡ folded i kept n (short behind) → tailTold r ≡ tailFrom (openAt ty untagged v) (stop - at) stop i at
-          keep-short r e = e ∙ ap (folded i kept n) (sym (left _ (ap tailTold q))) ∙ w .same
+          pub keep-short : (r : Tail) → reportTail r ≡ folded i kept n (short behind) → reportTail r ≡ tailFrom (openAt ty untagged v) (stop - at) stop i at
+          keep-short r e = e ∙ ap (folded i kept n) (sym (left _ (ap reportTail q))) ∙ w .same
 
 -- ---- the element at position i from the end, by the count
 abbrev asEnded : Reached → Ended
@@ -441,23 +441,23 @@ tail-last ty v start span i positive = ap (endedFound ty) (tail-count (openAt ty
         (λ q. rw q (same (nthFrom (openAt ty untagged v) span (start + span) (size + 1 - i) start) (let h = leb-true i size q in nth-there (openAt ty untagged v) span (start + span) start size (size + 1 - i) e (omega arith) (omega arith))))
         (λ q. rw q)
 
-module _ (chain : ℕ) (t s v : List ℕ) (row start span i : ℕ) (u : Tail) (told : tailTold u ≡ tailFrom (openAt (typeFrom chain t s row) untagged v) (start + span - start) (start + span) i start) (r : Bool) (near : r ≡ isNear (start + span) i) (h : not r ≡ false) where
-  tail-is : endedFound (typeFrom chain t s row) (tailTold u) ≡ lastFound (typeFrom chain t s row) v start span i
+module _ (chain : ℕ) (t s v : List ℕ) (row start span i : ℕ) (u : Tail) (told : reportTail u ≡ tailFrom (openAt (typeFrom chain t s row) untagged v) (start + span - start) (start + span) i start) (r : Bool) (near : r ≡ isNear (start + span) i) (h : not r ≡ false) where
+  tail-is : endedFound (typeFrom chain t s row) (reportTail u) ≡ lastFound (typeFrom chain t s row) v start span i
   tail-is =
       let q : start + span - start ≡ span = omega arith in
       ap (endedFound (typeFrom chain t s row)) (told ∙ ap (λ (k : ℕ). tailFrom (openAt (typeFrom chain t s row) untagged v) k (start + span) i start) q)
       ∙ tail-last (typeFrom chain t s row) v start span i (near-some (start + span) i r near h)
 
-  pub last-at : (place from size : ℕ) → u ≡ Tail.At place from size → foundTold chain t s (Found.At row place from size) ≡ lastFound (typeFrom chain t s row) v start span i
-  last-at place from size e = sym (ap (λ (y : Tail). endedFound (typeFrom chain t s row) (tailTold y)) e) ∙ tail-is
+  pub last-at : (place from size : ℕ) → u ≡ Tail.At place from size → reportFound chain t s (Found.At row place from size) ≡ lastFound (typeFrom chain t s row) v start span i
+  last-at place from size e = sym (ap (λ (y : Tail). endedFound (typeFrom chain t s row) (reportTail y)) e) ∙ tail-is
 
   pub last-lands : (place from size : ℕ) → u ≡ Tail.At place from size → row < length s → start + span ≤ length v → landsIn s (length v) (Found.At row place from size) ≡ true
   last-lands place from size e here ends =
-      let w : from + size ≤ start + span = subst (Bounded (start + span) i start) (sym told ∙ ap tailTold e) (tail-bounded (typeFrom chain t s row) v (start + span - start) (start + span) i start (near-some (start + span) i r near h) (omega arith)) in
+      let w : from + size ≤ start + span = subst (Bounded (start + span) i start) (sym told ∙ ap reportTail e) (tail-bounded (typeFrom chain t s row) v (start + span - start) (start + span) i start (near-some (start + span) i r near h) (omega arith)) in
       both-hold (ltb row (length s)) (leb (from + size) (length v)) (lt-ltb row (length s) here) (le-leb (from + size) (length v) (omega arith))
 
   pub last-short : (n : ℕ) → u ≡ Tail.Short n → trail.nothing ≡ lastFound (typeFrom chain t s row) v start span i
-  last-short n e = sym (ap (λ (y : Tail). endedFound (typeFrom chain t s row) (tailTold y)) e) ∙ tail-is
+  last-short n e = sym (ap (λ (y : Tail). endedFound (typeFrom chain t s row) (reportTail y)) e) ∙ tail-is
 
   pub last-unfit : u ≡ Tail.Broken → trail.broken ≡ lastFound (typeFrom chain t s row) v start span i
-  last-unfit e = sym (ap (λ (y : Tail). endedFound (typeFrom chain t s row) (tailTold y)) e) ∙ tail-is
+  last-unfit e = sym (ap (λ (y : Tail). endedFound (typeFrom chain t s row) (reportTail y)) e) ∙ tail-is

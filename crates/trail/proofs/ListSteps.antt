@@ -10,8 +10,8 @@ use lib.Dec.{ltb, eqb}
 use Rattle.octets.specs.Pick.{pick, bind}
 use Rattle.table.specs.Types.{untagged, taggingOf, Ty}
 use Rattle.trail.specs.Opened.{Opened, after, openAt}
-use Rattle.trail.specs.Trail.{Trail, done, fault, orFault, atPosition, positionFrom, countFrom}
-use Rattle.trail.specs.Work.{openingTold, Reached, reached, past, unfit, orUnfit, reachedOr, nthFrom}
+use Rattle.trail.specs.Trail.{Trail, done, misfit, orMisfit, atPosition, positionFrom, countFrom}
+use Rattle.trail.specs.Work.{reportOpening, Reached, reached, past, unfit, orUnfit, reachedOr, nthFrom}
 use Rattle.trail.specs.declared.Opening.{Opening}
 use Rattle.trail.proofs.OpenSteps.{open-long}
 
@@ -20,13 +20,13 @@ unfolding taggingOf
 plainly ty v i stop = refl
 
 -- what the code has of the element at i, before stop
-module _ (ty : Ty) (v : List ℕ) (i stop : ℕ) (c : Opening) (told : openingTold c ≡ openAt ty (taggingOf 0 0) v i stop) where
+module _ (ty : Ty) (v : List ℕ) (i stop : ℕ) (c : Opening) (told : reportOpening c ≡ openAt ty (taggingOf 0 0) v i stop) where
   is-unfit : c ≡ Opening.Misfit → openAt ty untagged v i stop ≡ none
-  is-unfit e = sym (plainly ty v i stop) ∙ sym told ∙ ap openingTold e
+  is-unfit e = sym (plainly ty v i stop) ∙ sym told ∙ ap reportOpening e
 
   module _ (place start span : ℕ) (e : c ≡ Opening.Of place start span) where
     pub is-open : openAt ty untagged v i stop ≡ some (record { place = place; start = start; span = span })
-    is-open = sym (plainly ty v i stop) ∙ sym told ∙ ap openingTold e
+    is-open = sym (plainly ty v i stop) ∙ sym told ∙ ap reportOpening e
 
     pub element-long : i + 2 ≤ start + span
     element-long = open-long ty untagged v i stop _ is-open .0
@@ -64,7 +64,7 @@ module _ (ty : Ty) (v : List ℕ) (start stop : ℕ) where
   pub count-done : (i n : ℕ) → Counting ty v start stop i n → stop ≤ i → some n ≡ countFrom (openAt ty untagged v) (stop - start) stop 0 start
   count-done i n w h = sym (count-end (openAt ty untagged v) (w .k) stop n i h) ∙ w .same
 
-  module _ (i n : ℕ) (w : Counting ty v start stop i n) (l : i < stop) (c : Opening) (told : openingTold c ≡ openAt ty (taggingOf 0 0) v i stop) where
+  module _ (i n : ℕ) (w : Counting ty v start stop i n) (l : i < stop) (c : Opening) (told : reportOpening c ≡ openAt ty (taggingOf 0 0) v i stop) where
     count-opens : (r : ℕ) × (w .k ≡ suc r) × (countFrom (openAt ty untagged v) (w .k) stop n i ≡ bind (openAt ty untagged v i stop) (λ x. countFrom (openAt ty untagged v) r stop (n + 1) (after x)))
     count-opens = go (w .k) (w .enough)
       where
@@ -117,7 +117,7 @@ module _ (ty : Ty) (v : List ℕ) (start stop n : ℕ) where
   pub nth-done : (i left : ℕ) → Seeking ty v start stop n i left → stop ≤ i → past ≡ nthFrom (openAt ty untagged v) (stop - start) stop n start
   nth-done i left w h = sym (nth-end (openAt ty untagged v) (w .k) stop left i h) ∙ w .same
 
-  module _ (i left : ℕ) (w : Seeking ty v start stop n i left) (l : i < stop) (c : Opening) (told : openingTold c ≡ openAt ty (taggingOf 0 0) v i stop) where
+  module _ (i left : ℕ) (w : Seeking ty v start stop n i left) (l : i < stop) (c : Opening) (told : reportOpening c ≡ openAt ty (taggingOf 0 0) v i stop) where
     nth-opens : (r : ℕ) × (w .k ≡ suc r) × (nthFrom (openAt ty untagged v) (w .k) stop left i ≡ orUnfit (reachedOr left (λ j. nthFrom (openAt ty untagged v) r stop (left - 1) j)) (openAt ty untagged v i stop))
     nth-opens = go (w .k) (w .enough)
       where
@@ -153,13 +153,13 @@ module _ (ty : Ty) (v : List ℕ) (start stop n : ℕ) where
 abbrev pub onReached : (Opened → Trail) → Reached → Trail
 onReached f (reached x) = f x
 onReached f past = done
-onReached f unfit = fault
+onReached f unfit = misfit
 
 pub position-as : (o : ℕ → ℕ → Option Opened) (f : Opened → Trail) (k stop n i : ℕ) → positionFrom o f k stop n i ≡ onReached f (nthFrom o k stop n i)
 unfolding positionFrom nthFrom
 position-as o f zero stop n i = go (ltb i stop)
   where
-    go : (x : Bool) → pick x fault done ≡ onReached f (pick x unfit past)
+    go : (x : Bool) → pick x misfit done ≡ onReached f (pick x unfit past)
     go true = refl
     go false = refl
 position-as o f (suc k) stop n i = go (ltb i stop) (o i stop) (λ m j. position-as o f k stop m j)
@@ -172,7 +172,7 @@ position-as o f (suc k) stop n i = go (ltb i stop) (o i stop) (λ m j. position-
         pick-one false = rest (n - 1) (after x)
 
     go : (x : Bool) (y : Option Opened) → ((m j : ℕ) → positionFrom o f k stop m j ≡ onReached f (nthFrom o k stop m j))
-        → pick x (orFault (atPosition n f (λ j. positionFrom o f k stop (n - 1) j)) y) done ≡ onReached f (pick x (orUnfit (reachedOr n (λ j. nthFrom o k stop (n - 1) j)) y) past)
+        → pick x (orMisfit (atPosition n f (λ j. positionFrom o f k stop (n - 1) j)) y) done ≡ onReached f (pick x (orUnfit (reachedOr n (λ j. nthFrom o k stop (n - 1) j)) y) past)
     go true none rest = refl
     go true (some x) rest = one x rest
     go false y rest = refl

@@ -19,7 +19,7 @@ use Rattle.reference.specs.Reference.{Index, position, fromEnd, name, index}
 use Rattle.trail.specs.Opened.{Opened, after, openAt}
 use Rattle.trail.specs.Trail as trail
 use Rattle.trail.specs.Trail.{countFrom}
-use Rattle.trail.specs.Work.{standing, countedTold, landsIn, reached, past, unfit, nthTold, orUnfit, reachedOr, nthFrom, elementFound, nthFound, ofLast, lastFound, located}
+use Rattle.trail.specs.Work.{standing, reportCounted, landsIn, reached, past, unfit, reportNth, orUnfit, reachedOr, nthFrom, elementFound, nthFound, ofLast, lastFound, located}
 use Rattle.trail.specs.declared.Counted.{Counted}
 use Rattle.trail.specs.declared.Nth.{Nth}
 use Rattle.trail.specs.declared.Found.{Found}
@@ -63,26 +63,26 @@ nth-within ty v (suc k) stop n i x e = go (ltb i stop) (openAt ty untagged v i s
         one true g = let w = open-long ty untagged v i stop y q .1 in let z : y ≡ x = cc in rw (← z) w
         one false g = rest (n - 1) (after y) g
 
-module _ (ty : Ty) (v : List ℕ) (start span i : ℕ) (c : Nth) (told : nthTold c ≡ nthFrom (openAt ty untagged v) (start + span - start) (start + span) i start) where
-  all-of : nthTold c ≡ nthFrom (openAt ty untagged v) span (start + span) i start
+module _ (ty : Ty) (v : List ℕ) (start span i : ℕ) (c : Nth) (told : reportNth c ≡ nthFrom (openAt ty untagged v) (start + span - start) (start + span) i start) where
+  all-of : reportNth c ≡ nthFrom (openAt ty untagged v) span (start + span) i start
   all-of = let q : start + span - start ≡ span = omega arith in told ∙ ap (λ (k : ℕ). nthFrom (openAt ty untagged v) k (start + span) i start) q
 
   pub nth-past : c ≡ Nth.Past → trail.nothing ≡ nthFound ty v start span i
   unfolding nthFound
-  nth-past e = ap (elementFound ty) (sym (ap nthTold e) ∙ all-of)
+  nth-past e = ap (elementFound ty) (sym (ap reportNth e) ∙ all-of)
 
   pub nth-misfit : c ≡ Nth.Misfit → trail.broken ≡ nthFound ty v start span i
   unfolding nthFound
-  nth-misfit e = ap (elementFound ty) (sym (ap nthTold e) ∙ all-of)
+  nth-misfit e = ap (elementFound ty) (sym (ap reportNth e) ∙ all-of)
 
   module _ (place from n : ℕ) (e : c ≡ Nth.Of place from n) where
     pub nth-of : trail.found ty (record { place = place; start = from; span = n }) ≡ nthFound ty v start span i
     unfolding nthFound
-    nth-of = ap (elementFound ty) (sym (ap nthTold e) ∙ all-of)
+    nth-of = ap (elementFound ty) (sym (ap reportNth e) ∙ all-of)
 
     pub nth-lands : (s : List ℕ) (row : ℕ) → row < length s → start + span ≤ length v → both (ltb row (length s)) (leb (from + n) (length v)) ≡ true
     nth-lands s row here h =
-        let w = nth-within ty v span (start + span) i start (standing place from n) (sym all-of ∙ ap nthTold e) in
+        let w = nth-within ty v span (start + span) i start (standing place from n) (sym all-of ∙ ap reportNth e) in
         both-hold (ltb row (length s)) (leb (from + n) (length v)) (lt-ltb row (length s) here) (le-leb (from + n) (length v) (omega arith))
 
 -- ---- elements from the end: each has two octets
@@ -106,18 +106,18 @@ count-half ty v (suc k) stop n i z l e = go (ltb i stop) (openAt ty untagged v i
         let r = rest (n + 1) (after x) b f in
         omega arith
 
-module _ (ty : Ty) (v : List ℕ) (start span i : ℕ) (c : Counted) (told : countedTold c ≡ countFrom (openAt ty untagged v) (start + span - start) (start + span) 0 start) where
-  number : countedTold c ≡ countFrom (openAt ty untagged v) span (start + span) 0 start
+module _ (ty : Ty) (v : List ℕ) (start span i : ℕ) (c : Counted) (told : reportCounted c ≡ countFrom (openAt ty untagged v) (start + span - start) (start + span) 0 start) where
+  number : reportCounted c ≡ countFrom (openAt ty untagged v) span (start + span) 0 start
   number = let q : start + span - start ≡ span = omega arith in told ∙ ap (λ (k : ℕ). countFrom (openAt ty untagged v) k (start + span) 0 start) q
 
   pub last-broken : c ≡ Counted.Misfit → trail.broken ≡ lastFound ty v start span i
   unfolding lastFound
-  last-broken e = ap (ofLast i (nthFound ty v start span)) (sym (ap countedTold e) ∙ number)
+  last-broken e = ap (ofLast i (nthFound ty v start span)) (sym (ap reportCounted e) ∙ number)
 
   module _ (size : ℕ) (e : c ≡ Counted.Of size) where
     counted : lastFound ty v start span i ≡ pick (leb i size) (nthFound ty v start span (size + 1 - i)) trail.nothing
     unfolding lastFound
-    counted = sym (ap (ofLast i (nthFound ty v start span)) (sym (ap countedTold e) ∙ number))
+    counted = sym (ap (ofLast i (nthFound ty v start span)) (sym (ap reportCounted e) ∙ number))
 
     pub last-past : size < i → trail.nothing ≡ lastFound ty v start span i
     last-past h = sym (counted ∙ ap (λ (b : Bool). pick b (nthFound ty v start span (size + 1 - i)) trail.nothing) (lt-leb i size h))
@@ -126,7 +126,7 @@ module _ (ty : Ty) (v : List ℕ) (start span i : ℕ) (c : Counted) (told : cou
     last-of f h q = q ∙ sym (counted ∙ ap (λ (b : Bool). pick b (nthFound ty v start span (size + 1 - i)) trail.nothing) (le-leb i size h))
 
     pub last-fits : start + span ≤ length v → length v < 18446744073709551616 → size + 1 < 18446744073709551616
-    last-fits h l = let w = count-half ty v span (start + span) 0 start size (ends-after start span) (sym number ∙ ap countedTold e) in omega arith
+    last-fits h l = let w = count-half ty v span (start + span) 0 start size (ends-after start span) (sym number ∙ ap reportCounted e) in omega arith
 
 -- ---- by the kind of a row
 module _ (chain : ℕ) (t s m : List ℕ) (row : ℕ) (ok : Sound chain t s m) (here : row < length s) (p k : ℕ) (placed : p ≡ rowAt s row) (read : k ≡ kindAt t p) (v : List ℕ) (place start span : ℕ) where

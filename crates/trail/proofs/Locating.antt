@@ -14,11 +14,11 @@ use Rattle.octets.specs.Pick.{pick, bind}
 use Rattle.table.specs.Types.{untagged, Ty, basic, sequence, choice, listOf, Members}
 use Rattle.value.proofs.Views.{none-some, some-same}
 use Rattle.reference.specs.Reference.{Index, position, fromEnd, count, all, Id, name, index}
-use Rattle.reference.specs.Numbers.{stored, tallied}
+use Rattle.reference.specs.Numbers.{stored, byCount}
 use Rattle.reference.specs.Work.{cap}
 use Rattle.reference.proofs.Laws.{cap-cases}
 use Rattle.trail.specs.Opened.{Opened, openedSpot, after, openAt}
-use Rattle.trail.specs.Trail.{Trail, done, reach, orFault, eachFrom, countFrom, positionFrom, Found, nothing, ending, onFound, fromLast, along, trail}
+use Rattle.trail.specs.Trail.{Trail, done, reach, orMisfit, eachFrom, countFrom, positionFrom, Found, nothing, ending, onFound, fromLast, along, trail}
 use Rattle.trail.specs.Work.{Reached, reached, past, unfit, orUnfit, reachedOr, nthFrom, elementFound, nthFound, ofLast, lastFound, located}
 use Rattle.trail.proofs.ListSteps.{onReached, position-as}
 
@@ -35,7 +35,7 @@ module _ (d : Bool) (is : List Id) where
   nth-found place f ty v start span n = position-as (openAt ty untagged v) (f ty) span (start + span) n start ∙ reached-found place f ty (nthFrom (openAt ty untagged v) span (start + span) n start)
 
   last-found : (place : ℕ) (f : Ty → Opened → Trail) (ty : Ty) (v : List ℕ) (start span n : ℕ) (c : Option ℕ)
-      → orFault (fromLast n (λ p. positionFrom (openAt ty untagged v) (f ty) span (start + span) p start)) c ≡ onFound d is place f (ofLast n (nthFound ty v start span) c)
+      → orMisfit (fromLast n (λ p. positionFrom (openAt ty untagged v) (f ty) span (start + span) p start)) c ≡ onFound d is place f (ofLast n (nthFound ty v start span) c)
   last-found place f ty v start span n none = refl
   last-found place f ty v start span n (some size) = go (leb n size)
     where
@@ -66,7 +66,7 @@ along-from-end d n is (listOf k ty) v o = last-found d is (o .place) (λ u p. al
 
 -- the count and all elements are of a list alone
 module _ (d : Bool) (is : List Id) where
-  pub along-count : (k : ℕ) (ty : Ty) (v : List ℕ) (o : Opened) → along d (index count ∷ is) (listOf k ty) v o ≡ orFault (λ n. ending is (tallied (o .place) n)) (countFrom (openAt ty untagged v) (o .span) (after o) 0 (o .start))
+  pub along-count : (k : ℕ) (ty : Ty) (v : List ℕ) (o : Opened) → along d (index count ∷ is) (listOf k ty) v o ≡ orMisfit (λ n. ending is (byCount (o .place) n)) (countFrom (openAt ty untagged v) (o .span) (after o) 0 (o .start))
   unfolding along
   along-count k ty v o = refl
 
@@ -92,7 +92,7 @@ unfolding along
 along-end d ty v o = refl
 
 -- from the value's first octet
-pub trail-by : (d : Bool) (is : List Id) (ty : Ty) (v : List ℕ) → trail d is ty v ≡ orFault (λ o. along d is ty v o) (openAt ty untagged v 0 (length v))
+pub trail-by : (d : Bool) (is : List Id) (ty : Ty) (v : List ℕ) → trail d is ty v ≡ orMisfit (λ o. along d is ty v o) (openAt ty untagged v 0 (length v))
 unfolding trail
 trail-by d is ty v = refl
 

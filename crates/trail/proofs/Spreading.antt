@@ -15,7 +15,7 @@ use Rattle.value.specs.Lies.{InSpot, endOf, Lies, LieInFields, LieInTurn}
 use Rattle.value.specs.Decode.{storedValue}
 use Rattle.value.proofs.Laws.{lies-wider, stored-lies}
 use Rattle.reference.specs.Reference.{Index, position, fromEnd, count, all, Id, name, index}
-use Rattle.reference.specs.Named.{Held, value, missing, counted, absentNames, memberNamed, size, each, elementAt, indexedBy, step, replaced, held, named}
+use Rattle.reference.specs.Named.{Held, value, defaultValue, countValue, absentNames, memberNamed, size, each, elementAt, indexedBy, step, replaced, held, named}
 use Rattle.reference.specs.Numbers.{Component, component, numbersOf}
 use Rattle.trail.specs.Spread.{Spread}
 
@@ -23,8 +23,8 @@ use Rattle.trail.specs.Spread.{Spread}
 unfoldable Ranged : ℕ → ℕ → List Held → Type 0
 Ranged lo hi [] = lo ≤ hi
 Ranged lo hi (value x ∷ hs) = Lies lo hi x × Ranged (endOf x) hi hs
-Ranged lo hi (missing p m ∷ hs) = (lo ≤ p) × Ranged (p + 2) hi hs
-Ranged lo hi (counted p n ∷ hs) = (lo ≤ p) × Ranged (p + 2) hi hs
+Ranged lo hi (defaultValue p m ∷ hs) = (lo ≤ p) × Ranged (p + 2) hi hs
+Ranged lo hi (countValue p n ∷ hs) = (lo ≤ p) × Ranged (p + 2) hi hs
 
 in-spot : (lo hi : ℕ) (x : Value) → Lies lo hi x → InSpot lo hi (spotOf x)
 unfolding Lies
@@ -37,16 +37,16 @@ ranged-low : (lo hi : ℕ) (hs : List Held) → Ranged lo hi hs → lo ≤ hi
 unfolding Ranged
 ranged-low lo hi [] w = w
 ranged-low lo hi (value x ∷ hs) w = let s = in-spot lo hi x (w .0) in let a = s .from in let b = s .long in let c = s .to in omega arith
-ranged-low lo hi (missing p m ∷ hs) w = let a = w .0 in let b = ranged-low (p + 2) hi hs (w .1) in omega arith
-ranged-low lo hi (counted p n ∷ hs) w = let a = w .0 in let b = ranged-low (p + 2) hi hs (w .1) in omega arith
+ranged-low lo hi (defaultValue p m ∷ hs) w = let a = w .0 in let b = ranged-low (p + 2) hi hs (w .1) in omega arith
+ranged-low lo hi (countValue p n ∷ hs) w = let a = w .0 in let b = ranged-low (p + 2) hi hs (w .1) in omega arith
 
 -- from an earlier place on
 ranged-wider : (a lo hi : ℕ) (hs : List Held) → a ≤ lo → Ranged lo hi hs → Ranged a hi hs
 unfolding Ranged
 ranged-wider a lo hi [] p w = let h : lo ≤ hi = w in omega arith
 ranged-wider a lo hi (value x ∷ hs) p w = let h : hi ≤ hi = omega arith in (lies-wider a hi lo hi x p h (w .0), w .1)
-ranged-wider a lo hi (missing q m ∷ hs) p w = let h = w .0 in (omega arith, w .1)
-ranged-wider a lo hi (counted q n ∷ hs) p w = let h = w .0 in (omega arith, w .1)
+ranged-wider a lo hi (defaultValue q m ∷ hs) p w = let h = w .0 in (omega arith, w .1)
+ranged-wider a lo hi (countValue q n ∷ hs) p w = let h = w .0 in (omega arith, w .1)
 
 ranged-append : (lo mid hi : ℕ) (a b : List Held) → Ranged lo mid a → Ranged mid hi b → Ranged lo hi (a ++ b)
 unfolding Ranged
@@ -55,8 +55,8 @@ ranged-append lo mid hi (value x ∷ a) b u w =
     let h : mid ≤ hi = ranged-low mid hi b w in
     let l : lo ≤ lo = omega arith in
     (lies-wider lo hi lo mid x l h (u .0), ranged-append (endOf x) mid hi a b (u .1) w)
-ranged-append lo mid hi (missing p m ∷ a) b u w = (u .0, ranged-append (p + 2) mid hi a b (u .1) w)
-ranged-append lo mid hi (counted p n ∷ a) b u w = (u .0, ranged-append (p + 2) mid hi a b (u .1) w)
+ranged-append lo mid hi (defaultValue p m ∷ a) b u w = (u .0, ranged-append (p + 2) mid hi a b (u .1) w)
+ranged-append lo mid hi (countValue p n ∷ a) b u w = (u .0, ranged-append (p + 2) mid hi a b (u .1) w)
 
 -- ---- what one identifier names lies within the value
 one-value : (lo hi : ℕ) (x : Value) → Lies lo hi x → Ranged lo hi (value x ∷ [])
@@ -67,11 +67,11 @@ nothing-held : (lo hi : ℕ) → lo ≤ hi → Ranged lo hi []
 unfolding Ranged
 nothing-held lo hi h = h
 
-header-held : (lo hi p : ℕ) (m : Member) → lo ≤ p → p + 2 ≤ hi → Ranged lo hi (missing p m ∷ [])
+header-held : (lo hi p : ℕ) (m : Member) → lo ≤ p → p + 2 ≤ hi → Ranged lo hi (defaultValue p m ∷ [])
 unfolding Ranged
 header-held lo hi p m a b = (a, b)
 
-count-held : (lo hi p n : ℕ) → lo ≤ p → p + 2 ≤ hi → Ranged lo hi (counted p n ∷ [])
+count-held : (lo hi p n : ℕ) → lo ≤ p → p + 2 ≤ hi → Ranged lo hi (countValue p n ∷ [])
 unfolding Ranged
 count-held lo hi p n a b = (a, b)
 
@@ -80,7 +80,7 @@ absent-ranged defaults lo place hi m mandatory a b = nothing-held lo hi (omega a
 absent-ranged defaults lo place hi m optional a b = nothing-held lo hi (omega arith)
 absent-ranged defaults lo place hi m (default c) a b = go defaults
   where
-    go : (x : Bool) → Ranged lo hi (pick x (missing place m ∷ []) [])
+    go : (x : Bool) → Ranged lo hi (pick x (defaultValue place m ∷ []) [])
     go true = header-held lo hi place m a b
     go false = nothing-held lo hi (omega arith)
 
@@ -135,11 +135,11 @@ step-ranged defaults (index j) lo hi (chosen s m y) w = let a = w .0 .from in no
 step-ranged defaults (name x) lo hi (elements s xs) w = let a = w .0 .from in nothing-held lo (s .place + s .size) (omega arith)
 step-ranged defaults (index j) lo hi (elements s xs) w = let a = w .0 .from in let b = w .0 .long in index-ranged j lo (s .place) (s .place + s .size) xs a (omega arith) (w .1)
 
-no-step-missing : (defaults : Bool) (i : Id) (lo hi p : ℕ) (m : Member) (hs : List Held) → Ranged lo hi (replaced defaults i hs) → Ranged lo hi (step defaults i (missing p m) ++ replaced defaults i hs)
+no-step-missing : (defaults : Bool) (i : Id) (lo hi p : ℕ) (m : Member) (hs : List Held) → Ranged lo hi (replaced defaults i hs) → Ranged lo hi (step defaults i (defaultValue p m) ++ replaced defaults i hs)
 unfolding step
 no-step-missing defaults i lo hi p m hs w = w
 
-no-step-counted : (defaults : Bool) (i : Id) (lo hi p n : ℕ) (hs : List Held) → Ranged lo hi (replaced defaults i hs) → Ranged lo hi (step defaults i (counted p n) ++ replaced defaults i hs)
+no-step-counted : (defaults : Bool) (i : Id) (lo hi p n : ℕ) (hs : List Held) → Ranged lo hi (replaced defaults i hs) → Ranged lo hi (step defaults i (countValue p n) ++ replaced defaults i hs)
 unfolding step
 no-step-counted defaults i lo hi p n hs w = w
 
@@ -147,8 +147,8 @@ replaced-ranged : (defaults : Bool) (i : Id) (lo hi : ℕ) (hs : List Held) → 
 unfolding Ranged replaced
 replaced-ranged defaults i lo hi [] w = w
 replaced-ranged defaults i lo hi (value x ∷ hs) w = ranged-append lo (endOf x) hi (step defaults i (value x)) (replaced defaults i hs) (step-ranged defaults i lo hi x (w .0)) (replaced-ranged defaults i (endOf x) hi hs (w .1))
-replaced-ranged defaults i lo hi (missing p m ∷ hs) w = let a = w .0 in no-step-missing defaults i lo hi p m hs (ranged-wider lo (p + 2) hi (replaced defaults i hs) (omega arith) (replaced-ranged defaults i (p + 2) hi hs (w .1)))
-replaced-ranged defaults i lo hi (counted p n ∷ hs) w = let a = w .0 in no-step-counted defaults i lo hi p n hs (ranged-wider lo (p + 2) hi (replaced defaults i hs) (omega arith) (replaced-ranged defaults i (p + 2) hi hs (w .1)))
+replaced-ranged defaults i lo hi (defaultValue p m ∷ hs) w = let a = w .0 in no-step-missing defaults i lo hi p m hs (ranged-wider lo (p + 2) hi (replaced defaults i hs) (omega arith) (replaced-ranged defaults i (p + 2) hi hs (w .1)))
+replaced-ranged defaults i lo hi (countValue p n ∷ hs) w = let a = w .0 in no-step-counted defaults i lo hi p n hs (ranged-wider lo (p + 2) hi (replaced defaults i hs) (omega arith) (replaced-ranged defaults i (p + 2) hi hs (w .1)))
 
 held-ranged : (defaults : Bool) (is : List Id) (lo hi : ℕ) (hs : List Held) → Ranged lo hi hs → Ranged lo hi (held defaults is hs)
 unfolding held
@@ -163,8 +163,8 @@ spread lo hi (value x ∷ hs) w =
     let s = in-spot lo hi x (w .0) in
     let a = s .long in
     (s .from, spread (spotOf x .place + 2) hi hs (ranged-wider (spotOf x .place + 2) (endOf x) hi hs (omega arith) (w .1)))
-spread lo hi (missing p m ∷ hs) w = (w .0, spread (p + 2) hi hs (w .1))
-spread lo hi (counted p n ∷ hs) w = (w .0, spread (p + 2) hi hs (w .1))
+spread lo hi (defaultValue p m ∷ hs) w = (w .0, spread (p + 2) hi hs (w .1))
+spread lo hi (countValue p n ∷ hs) w = (w .0, spread (p + 2) hi hs (w .1))
 
 -- what a reference names in a stored value: places rise, from the first octet on, within the value
 pub named-spread : (defaults : Bool) (is : List Id) (ty : Ty) (v : List ℕ) (x : Value) → storedValue ty v ≡ some x → Spread 0 (length v) (map component (named defaults is x))

@@ -12,31 +12,31 @@ use Rattle.table.specs.Types.{untagged, Presence, mandatory, optional, default,
 use Rattle.table.specs.Begins.{isMandatory}
 use Rattle.value.specs.Decode.{startsHere}
 use Rattle.reference.specs.Reference.{Index, position, fromEnd, count, all, Id, name, index}
-use Rattle.reference.specs.Numbers.{Component, stored, defaulted, tallied}
+use Rattle.reference.specs.Numbers.{Component, stored, byDefault, byCount}
 use Rattle.trail.specs.Opened.{Opened, openedSpot, after, openAt}
 
 -- the components in the order in which the walk reaches them; it ends well, or in a fault
 pub data Trail : Type 0 where
   done : Trail
-  fault : Trail
+  misfit : Trail
   reach : Component → Trail → Trail
 
 -- one walk after another
 unfoldable pub then : Trail → Trail → Trail
 then done b = b
-then fault b = fault
+then misfit b = misfit
 then (reach c a) b = reach c (then a b)
 
 -- what f makes of a thing, where the headers fit
-abbrev pub orFault : {A : Type 0} → (A → Trail) → Option A → Trail
-orFault f none = fault
-orFault f (some a) = f a
+abbrev pub orMisfit : {A : Type 0} → (A → Trail) → Option A → Trail
+orMisfit f none = misfit
+orMisfit f (some a) = f a
 
 -- ---- elements of a list: o opens one, and they are from i up to stop, at most k of them
 unfoldable pub eachFrom : (ℕ → ℕ → Option Opened) → (Opened → Trail) → ℕ → ℕ → ℕ → Trail
-eachFrom o f zero stop i = pick (ltb i stop) fault done
+eachFrom o f zero stop i = pick (ltb i stop) misfit done
 eachFrom o f (suc k) stop i =
-    let elements = orFault (λ x. then (f x) (eachFrom o f k stop (after x))) (o i stop) in
+    let elements = orMisfit (λ x. then (f x) (eachFrom o f k stop (after x))) (o i stop) in
     pick (ltb i stop) elements done
 
 -- their number, after n of them; none where a header doesn't fit
@@ -51,9 +51,9 @@ abbrev pub atPosition : ℕ → (Opened → Trail) → (ℕ → Trail) → Opene
 atPosition n f rest x = pick (eqb n 1) (f x) (rest (after x))
 
 unfoldable pub positionFrom : (ℕ → ℕ → Option Opened) → (Opened → Trail) → ℕ → ℕ → ℕ → ℕ → Trail
-positionFrom o f zero stop n i = pick (ltb i stop) fault done
+positionFrom o f zero stop n i = pick (ltb i stop) misfit done
 positionFrom o f (suc k) stop n i =
-    let elements = orFault (atPosition n f (λ j. positionFrom o f k stop (n - 1) j)) (o i stop) in
+    let elements = orMisfit (atPosition n f (λ j. positionFrom o f k stop (n - 1) j)) (o i stop) in
     pick (ltb i stop) elements done
 
 -- ---- members of a SEQUENCE, alternatives of a CHOICE
@@ -97,13 +97,13 @@ ending (i ∷ is) c = done
 abbrev pub lackingTrail : Bool → List Id → ℕ → Member → Presence → Trail
 lackingTrail defaults is place m mandatory = done
 lackingTrail defaults is place m optional = done
-lackingTrail defaults is place m (default c) = pick defaults (ending is (defaulted place m)) done
+lackingTrail defaults is place m (default c) = pick defaults (ending is (byDefault place m)) done
 
 abbrev pub onFound : Bool → List Id → ℕ → (Ty → Opened → Trail) → Found → Trail
 onFound defaults is place f (found ty o) = f ty o
 onFound defaults is place f (lacking m) = lackingTrail defaults is place m (m .presence)
 onFound defaults is place f nothing = done
-onFound defaults is place f broken = fault
+onFound defaults is place f broken = misfit
 
 -- the one at a position from the end, among so many; f walks to a position from 1
 abbrev pub fromLast : ℕ → (ℕ → Trail) → ℕ → Trail
@@ -115,8 +115,8 @@ inMembers defaults (index i) is find place f = done
 
 abbrev pub alongIndex : Index → List Id → (ℕ → ℕ → Option Opened) → Opened → (Opened → Trail) → Trail
 alongIndex (position n) is o l f = positionFrom o f (l .span) (after l) n (l .start)
-alongIndex (fromEnd n) is o l f = orFault (fromLast n (λ p. positionFrom o f (l .span) (after l) p (l .start))) (countFrom o (l .span) (after l) 0 (l .start))
-alongIndex count is o l f = orFault (λ n. ending is (tallied (l .place) n)) (countFrom o (l .span) (after l) 0 (l .start))
+alongIndex (fromEnd n) is o l f = orMisfit (fromLast n (λ p. positionFrom o f (l .span) (after l) p (l .start))) (countFrom o (l .span) (after l) 0 (l .start))
+alongIndex count is o l f = orMisfit (λ n. ending is (byCount (l .place) n)) (countFrom o (l .span) (after l) 0 (l .start))
 alongIndex all is o l f = eachFrom o f (l .span) (after l) (l .start)
 
 abbrev pub inList : Id → List Id → (ℕ → ℕ → Option Opened) → Opened → (Opened → Trail) → Trail
@@ -136,16 +136,16 @@ along defaults (i ∷ is) ty v o = inValue defaults i is ty v o (λ u p. along d
 
 -- from the value's first octet
 unfoldable pub trail : Bool → List Id → Ty → List ℕ → Trail
-trail defaults is ty v = orFault (along defaults is ty v) (openAt ty untagged v 0 (length v))
+trail defaults is ty v = orMisfit (along defaults is ty v) (openAt ty untagged v 0 (length v))
 
 -- the walk has a fault
-unfoldable pub faulty : Trail → Bool
-faulty done = false
-faulty fault = true
-faulty (reach c a) = faulty a
+unfoldable pub hasMisfit : Trail → Bool
+hasMisfit done = false
+hasMisfit misfit = true
+hasMisfit (reach c a) = hasMisfit a
 
 -- the components it reaches
 unfoldable pub reached : Trail → List Component
 reached done = []
-reached fault = []
+reached misfit = []
 reached (reach c a) = c ∷ reached a

@@ -31,24 +31,24 @@ abbrev pub standing : ℕ → ℕ → ℕ → Opened
 standing place start span = record { place = place; start = start; span = span }
 
 -- a value that has been opened
-abbrev pub openingTold : Opening → Option Opened
-openingTold Opening.Misfit = none
-openingTold (Opening.Of place start span) = some (record { place = place; start = start; span = span })
+abbrev pub reportOpening : Opening → Option Opened
+reportOpening Opening.Misfit = none
+reportOpening (Opening.Of place start span) = some (record { place = place; start = start; span = span })
 
 -- the header of the CHOICE of a row: any, whose tag is in the row's set
 unfoldable pub choiceHeader : List ℕ → ℕ → List ℕ → ℕ → ℕ → Inside
 choiceHeader m row v at end = pick (bitOf (rowAt m row) (tagOf (octet v at))) (anyTag (headerAt v at end)) Inside.Misfit
 
-abbrev pub countedTold : Counted → Option ℕ
-countedTold Counted.Misfit = none
-countedTold (Counted.Of n) = some n
+abbrev pub reportCounted : Counted → Option ℕ
+reportCounted Counted.Misfit = none
+reportCounted (Counted.Of n) = some n
 
 -- the member or alternative with a name
-abbrev pub foundTold : ℕ → List ℕ → List ℕ → Found → trail.Found
-foundTold chain t s (Found.At row place start span) = trail.found (typeFrom chain t s row) (record { place = place; start = start; span = span })
-foundTold chain t s (Found.Lacking row) = trail.lacking (memberOf t row (rowAt s row))
-foundTold chain t s Found.Nothing = trail.nothing
-foundTold chain t s Found.Broken = trail.broken
+abbrev pub reportFound : ℕ → List ℕ → List ℕ → Found → trail.Found
+reportFound chain t s (Found.At row place start span) = trail.found (typeFrom chain t s row) (record { place = place; start = start; span = span })
+reportFound chain t s (Found.Lacking row) = trail.lacking (memberOf t row (rowAt s row))
+reportFound chain t s Found.Nothing = trail.nothing
+reportFound chain t s Found.Broken = trail.broken
 
 -- what is found is of one of the rows s, and its value ends at stop or before
 abbrev pub landsIn : List ℕ → ℕ → Found → Bool
@@ -66,11 +66,11 @@ pub data Looked : Type 0 where
   onward : ℕ → Looked
   landed : trail.Found → Looked
 
-abbrev pub lookTold : ℕ → List ℕ → List ℕ → Look → Looked
-lookTold chain t s (Look.Next i) = onward i
-lookTold chain t s (Look.At row place start span) = landed (trail.found (typeFrom chain t s row) (record { place = place; start = start; span = span }))
-lookTold chain t s (Look.Lacking row) = landed (trail.lacking (memberOf t row (rowAt s row)))
-lookTold chain t s Look.Broken = landed trail.broken
+abbrev pub reportLook : ℕ → List ℕ → List ℕ → Look → Looked
+reportLook chain t s (Look.Next i) = onward i
+reportLook chain t s (Look.At row place start span) = landed (trail.found (typeFrom chain t s row) (record { place = place; start = start; span = span }))
+reportLook chain t s (Look.Lacking row) = landed (trail.lacking (memberOf t row (rowAt s row)))
+reportLook chain t s Look.Broken = landed trail.broken
 
 -- the same of one member
 abbrev pub looksIn : List ℕ → ℕ → Look → Bool
@@ -101,10 +101,10 @@ pub data Reached : Type 0 where
   past : Reached
   unfit : Reached
 
-abbrev pub nthTold : Nth → Reached
-nthTold (Nth.Of place start span) = reached (record { place = place; start = start; span = span })
-nthTold Nth.Past = past
-nthTold Nth.Misfit = unfit
+abbrev pub reportNth : Nth → Reached
+reportNth (Nth.Of place start span) = reached (record { place = place; start = start; span = span })
+reportNth Nth.Past = past
+reportNth Nth.Misfit = unfit
 
 abbrev pub orUnfit : (Opened → Reached) → Option Opened → Reached
 orUnfit f none = unfit
@@ -155,10 +155,10 @@ pub data Ended : Type 0 where
   short : ℕ → Ended
   broken : Ended
 
-abbrev pub tailTold : Tail → Ended
-tailTold (Tail.At place start span) = landed (standing place start span)
-tailTold (Tail.Short n) = short n
-tailTold Tail.Broken = broken
+abbrev pub reportTail : Tail → Ended
+reportTail (Tail.At place start span) = landed (standing place start span)
+reportTail (Tail.Short n) = short n
+reportTail Tail.Broken = broken
 
 abbrev pub keptAs : List ℕ → ℕ → Tail
 keptAs m slot = Tail.At (getD m (slot * 3) 0) (getD m (slot * 3 + 1) 0) (getD m (slot * 3 + 2) 0)

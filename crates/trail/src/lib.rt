@@ -92,7 +92,7 @@ fn own_header(
 
 // The value behind a tag octet that begins at a place, before an end.
 fn open_tagged(tag: usize, v: &[u8], at: usize, end: usize) -> Opening
-    ensures { λ r. ⌜ work.openingTold r ≡ opened (insideAt tag (now (v .entry)) at end) (openedAs at) ⌝ }
+    ensures { λ r. ⌜ work.reportOpening r ≡ opened (insideAt tag (now (v .entry)) at end) (openedAs at) ⌝ }
 {
     let Inside::Of(start, n) = der::open(tag, v, at, end) else {
         return Opening::Misfit;
@@ -102,7 +102,7 @@ fn open_tagged(tag: usize, v: &[u8], at: usize, end: usize) -> Opening
 
 // The value of the CHOICE of a row that begins at a place, before an end.
 fn open_choice(m: &[u64], row: usize, v: &[u8], at: usize, end: usize) -> Opening
-    ensures { λ r. ⌜ work.openingTold r ≡ opened (work.choiceHeader (now (m .entry)) row (now (v .entry)) at end) (openedAs at) ⌝ }
+    ensures { λ r. ⌜ work.reportOpening r ≡ opened (work.choiceHeader (now (m .entry)) row (now (v .entry)) at end) (openedAs at) ⌝ }
 {
     let Inside::Of(start, n) = choice_header(m, row, v, at, end) else {
         return Opening::Misfit;
@@ -123,7 +123,7 @@ fn open_wrapped(
 ) -> Opening
     requires sound { ⌜ Sound (tableLimits .chain) (now t) (now s) (now m) ⌝ }
     requires here { ⌜ row < length (now s) ⌝ }
-    ensures { λ r. ⌜ work.openingTold r ≡ openAt (rowType (now (t .entry)) (now (s .entry)) row) (taggingOf 1 number) (now (v .entry)) at end ⌝ }
+    ensures { λ r. ⌜ work.reportOpening r ≡ openAt (rowType (now (t .entry)) (now (s .entry)) row) (taggingOf 1 number) (now (v .entry)) at end ⌝ }
 {
     let Inside::Of(from, k) = der::open(der::wrapper_octet(number), v, at, end) else {
         return Opening::Misfit;
@@ -152,7 +152,7 @@ pub fn open_at(
 ) -> Opening
     requires sound { ⌜ Sound (tableLimits .chain) (now t) (now s) (now m) ⌝ }
     requires here { ⌜ row < length (now s) ⌝ }
-    ensures { λ r. ⌜ work.openingTold r ≡ openAt (rowType (now (t .entry)) (now (s .entry)) row) (taggingOf mode number) (now (v .entry)) at end ⌝ }
+    ensures { λ r. ⌜ work.reportOpening r ≡ openAt (rowType (now (t .entry)) (now (s .entry)) row) (taggingOf mode number) (now (v .entry)) at end ⌝ }
 {
     if mode == 1 {
         return open_wrapped(t, s, m, v, row, number, at, end);
@@ -176,7 +176,7 @@ pub fn open_member(
 ) -> Opening
     requires sound { ⌜ Sound (tableLimits .chain) (now t) (now s) (now m) ⌝ }
     requires target { ⌜ typeRowAt (now t) (rowAt (now s) row) < length (now s) ⌝ }
-    ensures { λ r. ⌜ work.openingTold r
+    ensures { λ r. ⌜ work.reportOpening r
         ≡ openAt (rowMemberType (now (t .entry)) (now (s .entry)) row) (rowTagging (now (t .entry)) (now (s .entry)) row) (now (v .entry)) at end ⌝ }
 {
     let p = rows::row_at(s, row);
@@ -212,7 +212,7 @@ pub fn open_element(
     requires sound { ⌜ Sound (tableLimits .chain) (now t) (now s) (now m) ⌝ }
     requires here { ⌜ row < length (now s) ⌝ }
     requires tagged { ⌜ tag ≡ work.elementTag (kindAt (now t) (rowAt (now s) row)) ⌝ }
-    ensures { λ r. ⌜ work.openingTold r ≡ openAt (rowType (now (t .entry)) (now (s .entry)) row) (taggingOf 0 0) (now (v .entry)) at end ⌝ }
+    ensures { λ r. ⌜ work.reportOpening r ≡ openAt (rowType (now (t .entry)) (now (s .entry)) row) (taggingOf 0 0) (now (v .entry)) at end ⌝ }
 {
     if tag == 0 {
         return open_at(t, s, m, v, row, 0, 0, at, end);
@@ -233,7 +233,7 @@ pub fn count_elements(
     requires sound { ⌜ Sound (tableLimits .chain) (now t) (now s) (now m) ⌝ }
     requires here { ⌜ row < length (now s) ⌝ }
     requires ordered { ⌜ start ≤ stop ⌝ }
-    ensures { λ r. ⌜ work.countedTold r
+    ensures { λ r. ⌜ work.reportCounted r
         ≡ countFrom (openAt (rowType (now (t .entry)) (now (s .entry)) row) untagged (now (v .entry))) (stop - start) stop 0 start ⌝ }
 {
     let tag = element_tag(t, s, row);
@@ -272,7 +272,7 @@ pub fn nth_element(
     requires sound { ⌜ Sound (tableLimits .chain) (now t) (now s) (now m) ⌝ }
     requires here { ⌜ row < length (now s) ⌝ }
     requires ordered { ⌜ start ≤ stop ⌝ }
-    ensures { λ r. ⌜ work.nthTold r
+    ensures { λ r. ⌜ work.reportNth r
         ≡ work.nthFrom (openAt (rowType (now (t .entry)) (now (s .entry)) row) untagged (now (v .entry))) (stop - start) stop n start ⌝ }
 {
     let tag = element_tag(t, s, row);
@@ -317,7 +317,7 @@ fn look_there(
 ) -> Look
     requires sound { ⌜ Sound (tableLimits .chain) (now t) (now s) (now m) ⌝ }
     requires target { ⌜ typeRowAt (now t) (rowAt (now s) row) < length (now s) ⌝ }
-    ensures looks { λ l. ⌜ work.lookTold (tableLimits .chain) (now (t .entry)) (now (s .entry)) l
+    ensures looks { λ l. ⌜ work.reportLook (tableLimits .chain) (now (t .entry)) (now (s .entry)) l
         ≡ work.orBroken (work.thereOr (same (unfilled (nameAt (now (t .entry)) (rowAt (now (s .entry)) row))) (part (now (r .entry)) a (b - a)))
         (rowMemberType (now (t .entry)) (now (s .entry)) row))
         (openAt (rowMemberType (now (t .entry)) (now (s .entry)) row) (rowTagging (now (t .entry)) (now (s .entry)) row) (now (v .entry)) i stop) ⌝ }
@@ -335,7 +335,7 @@ fn look_there(
 
 // A member that is not there.
 fn look_absent(t: &[u8], s: &[usize], row: usize, r: &[u8], a: usize, b: usize, i: usize) -> Look
-    ensures { λ l. ⌜ work.lookTold (tableLimits .chain) (now (t .entry)) (now (s .entry)) l
+    ensures { λ l. ⌜ work.reportLook (tableLimits .chain) (now (t .entry)) (now (s .entry)) l
         ≡ pick (same (unfilled (nameAt (now (t .entry)) (rowAt (now (s .entry)) row))) (part (now (r .entry)) a (b - a)))
         (work.landed (trail.lacking (rowMember (now (t .entry)) (now (s .entry)) row))) (work.onward i) ⌝ }
 {
@@ -362,7 +362,7 @@ fn look_member(
     requires here { ⌜ row < length (now s) ⌝ }
     requires member { ⌜ kindAt (now t) (rowAt (now s) row) ≡ 16 ⌝ }
     requires target { ⌜ typeRowAt (now t) (rowAt (now s) row) < length (now s) ⌝ }
-    ensures looks { λ l. ⌜ work.lookTold (tableLimits .chain) (now (t .entry)) (now (s .entry)) l
+    ensures looks { λ l. ⌜ work.reportLook (tableLimits .chain) (now (t .entry)) (now (s .entry)) l
         ≡ work.memberLook (part (now (r .entry)) a (b - a)) (rowMember (now (t .entry)) (now (s .entry)) row)
         (rowMemberType (now (t .entry)) (now (s .entry)) row) (now (v .entry)) stop i ⌝ }
     ensures lands { λ l. ⌜ work.looksIn (now (s .entry)) stop l ≡ true ⌝ }
@@ -388,7 +388,7 @@ pub fn find_member(
 ) -> Found
     requires sound { ⌜ Sound (tableLimits .chain) (now t) (now s) (now m) ⌝ }
     requires here { ⌜ row < length (now s) ⌝ }
-    ensures found { λ f. ⌜ work.foundTold (tableLimits .chain) (now (t .entry)) (now (s .entry)) f
+    ensures found { λ f. ⌜ work.reportFound (tableLimits .chain) (now (t .entry)) (now (s .entry)) f
         ≡ trail.findMember (part (now (r .entry)) a (b - a)) (rowMembers (now (t .entry)) (now (s .entry)) row) (now (v .entry)) stop start ⌝ }
     ensures lands { λ f. ⌜ work.landsIn (now (s .entry)) stop f ≡ true ⌝ }
 {
@@ -425,7 +425,7 @@ fn look_chosen(
 ) -> Found
     requires sound { ⌜ Sound (tableLimits .chain) (now t) (now s) (now m) ⌝ }
     requires target { ⌜ typeRowAt (now t) (rowAt (now s) row) < length (now s) ⌝ }
-    ensures found { λ f. ⌜ work.foundTold (tableLimits .chain) (now (t .entry)) (now (s .entry)) f
+    ensures found { λ f. ⌜ work.reportFound (tableLimits .chain) (now (t .entry)) (now (s .entry)) f
         ≡ work.chosenAs (same (unfilled (nameAt (now (t .entry)) (rowAt (now (s .entry)) row))) (part (now (r .entry)) a (b - a)))
         (rowMemberType (now (t .entry)) (now (s .entry)) row)
         (openAt (rowMemberType (now (t .entry)) (now (s .entry)) row) (rowTagging (now (t .entry)) (now (s .entry)) row) (now (v .entry)) at stop) ⌝ }
@@ -456,7 +456,7 @@ pub fn find_chosen(
 ) -> Found
     requires sound { ⌜ Sound (tableLimits .chain) (now t) (now s) (now m) ⌝ }
     requires here { ⌜ row < length (now s) ⌝ }
-    ensures found { λ f. ⌜ work.foundTold (tableLimits .chain) (now (t .entry)) (now (s .entry)) f
+    ensures found { λ f. ⌜ work.reportFound (tableLimits .chain) (now (t .entry)) (now (s .entry)) f
         ≡ trail.findAlternative (part (now (r .entry)) a (b - a)) (rowMembers (now (t .entry)) (now (s .entry)) row) (now (v .entry)) stop at ⌝ }
     ensures lands { λ f. ⌜ work.landsIn (now (s .entry)) stop f ≡ true ⌝ }
 {
@@ -483,7 +483,7 @@ fn nth_found(
     requires sound { ⌜ Sound (tableLimits .chain) (now t) (now s) (now m) ⌝ }
     requires here { ⌜ row < length (now s) ⌝ }
     requires ends { ⌜ start + span ≤ length (now v) ⌝ }
-    ensures found { λ f. ⌜ work.foundTold (tableLimits .chain) (now (t .entry)) (now (s .entry)) f
+    ensures found { λ f. ⌜ work.reportFound (tableLimits .chain) (now (t .entry)) (now (s .entry)) f
         ≡ work.nthFound (rowType (now (t .entry)) (now (s .entry)) row) (now (v .entry)) start span i ⌝ }
     ensures lands { λ f. ⌜ work.landsIn (now (s .entry)) (length (now (v .entry))) f ≡ true ⌝ }
 {
@@ -508,7 +508,7 @@ fn far_found(
     requires sound { ⌜ Sound (tableLimits .chain) (now t) (now s) (now m) ⌝ }
     requires here { ⌜ row < length (now s) ⌝ }
     requires ends { ⌜ start + span ≤ length (now v) ⌝ }
-    ensures found { λ f. ⌜ work.foundTold (tableLimits .chain) (now (t .entry)) (now (s .entry)) f
+    ensures found { λ f. ⌜ work.reportFound (tableLimits .chain) (now (t .entry)) (now (s .entry)) f
         ≡ work.lastFound (rowType (now (t .entry)) (now (s .entry)) row) (now (v .entry)) start span i ⌝ }
     ensures lands { λ f. ⌜ work.landsIn (now (s .entry)) (length (now (v .entry))) f ≡ true ⌝ }
 {
@@ -566,7 +566,7 @@ fn kept_tail(kept: &[u16], n: usize, i: usize, behind: usize) -> Tail
     requires room { ⌜ n * 3 ≤ length (now kept) ⌝ }
     requires short { ⌜ behind < i ⌝ }
     requires fits { ⌜ behind + n < 18446744073709551616 ⌝ }
-    ensures { λ r. ⌜ work.tailTold r ≡ work.folded i (now (kept .entry)) n (work.short behind) ⌝ }
+    ensures { λ r. ⌜ work.reportTail r ≡ work.folded i (now (kept .entry)) n (work.short behind) ⌝ }
 {
     if behind + n < i {
         return Tail::Short(behind + n);
@@ -591,7 +591,7 @@ fn last_from(
     requires some { ⌜ 0 < i ⌝ }
     requires low { ⌜ stop < 65536 ⌝ }
     requires ordered { ⌜ at ≤ stop ⌝ }
-    ensures { λ r. ⌜ work.tailTold r
+    ensures { λ r. ⌜ work.reportTail r
         ≡ work.tailFrom (openAt (rowType (now (t .entry)) (now (s .entry)) row) untagged (now (v .entry))) (stop - at) stop i at ⌝ }
 {
     let tag = element_tag(t, s, row);
@@ -640,7 +640,7 @@ fn last_found(
     requires sound { ⌜ Sound (tableLimits .chain) (now t) (now s) (now m) ⌝ }
     requires here { ⌜ row < length (now s) ⌝ }
     requires ends { ⌜ start + span ≤ length (now v) ⌝ }
-    ensures found { λ f. ⌜ work.foundTold (tableLimits .chain) (now (t .entry)) (now (s .entry)) f
+    ensures found { λ f. ⌜ work.reportFound (tableLimits .chain) (now (t .entry)) (now (s .entry)) f
         ≡ work.lastFound (rowType (now (t .entry)) (now (s .entry)) row) (now (v .entry)) start span i ⌝ }
     ensures lands { λ f. ⌜ work.landsIn (now (s .entry)) (length (now (v .entry))) f ≡ true ⌝ }
 {
@@ -671,7 +671,7 @@ pub fn locate_name(
     requires sound { ⌜ Sound (tableLimits .chain) (now t) (now s) (now m) ⌝ }
     requires here { ⌜ row < length (now s) ⌝ }
     requires ends { ⌜ start + span ≤ length (now v) ⌝ }
-    ensures found { λ f. ⌜ work.foundTold (tableLimits .chain) (now (t .entry)) (now (s .entry)) f
+    ensures found { λ f. ⌜ work.reportFound (tableLimits .chain) (now (t .entry)) (now (s .entry)) f
         ≡ work.located (name (part (now (r .entry)) a (b - a))) (rowType (now (t .entry)) (now (s .entry)) row) (now (v .entry))
         (work.standing place start span) ⌝ }
     ensures lands { λ f. ⌜ work.landsIn (now (s .entry)) (length (now (v .entry))) f ≡ true ⌝ }
@@ -701,7 +701,7 @@ pub fn locate_position(
     requires sound { ⌜ Sound (tableLimits .chain) (now t) (now s) (now m) ⌝ }
     requires here { ⌜ row < length (now s) ⌝ }
     requires ends { ⌜ start + span ≤ length (now v) ⌝ }
-    ensures found { λ f. ⌜ work.foundTold (tableLimits .chain) (now (t .entry)) (now (s .entry)) f
+    ensures found { λ f. ⌜ work.reportFound (tableLimits .chain) (now (t .entry)) (now (s .entry)) f
         ≡ work.located (index (position i)) (rowType (now (t .entry)) (now (s .entry)) row) (now (v .entry)) (work.standing place start span) ⌝ }
     ensures lands { λ f. ⌜ work.landsIn (now (s .entry)) (length (now (v .entry))) f ≡ true ⌝ }
 {
@@ -727,7 +727,7 @@ pub fn locate_from_end(
     requires sound { ⌜ Sound (tableLimits .chain) (now t) (now s) (now m) ⌝ }
     requires here { ⌜ row < length (now s) ⌝ }
     requires ends { ⌜ start + span ≤ length (now v) ⌝ }
-    ensures found { λ f. ⌜ work.foundTold (tableLimits .chain) (now (t .entry)) (now (s .entry)) f
+    ensures found { λ f. ⌜ work.reportFound (tableLimits .chain) (now (t .entry)) (now (s .entry)) f
         ≡ work.located (index (fromEnd i)) (rowType (now (t .entry)) (now (s .entry)) row) (now (v .entry)) (work.standing place start span) ⌝ }
     ensures lands { λ f. ⌜ work.landsIn (now (s .entry)) (length (now (v .entry))) f ≡ true ⌝ }
 {

@@ -10,7 +10,7 @@ use lib.Seq.{sets, sets-eq}
 use lib.Dec.{ltb}
 use Rattle.octets.specs.Pick.{pick}
 use Rattle.reference.specs.Numbers.{Component, numbersOf, threes}
-use Rattle.trail.specs.Trail.{Trail, done, fault, reach, faulty, reached}
+use Rattle.trail.specs.Trail.{Trail, done, misfit, reach, hasMisfit, reached}
 use Rattle.walk.specs.Run.{seen, put, listOne, visited, run}
 use Rattle.walk.specs.declared.State.{State}
 use Rattle.walk.specs.declared.Task.{Task}
@@ -18,19 +18,19 @@ use Rattle.walk.specs.declared.Task.{Task}
 -- ---- counting: the number of components, or the limit where that is less; the memory stays as it was
 module _ (limit : ℕ) (x m : List ℕ) where
   abbrev Counts : Trail → ℕ → ℕ → Type 0
-  Counts a n q = run (Task.Count limit) x (seen (State.Going n) m) a ≡ seen (pick (faulty a) State.Fault (State.Going q)) m
+  Counts a n q = run (Task.Count limit) x (seen (State.Going n) m) a ≡ seen (pick (hasMisfit a) State.Misfit (State.Going q)) m
 
   recount : (a : Trail) (n q q' : ℕ) → q ≡ q' → Counts a n q → Counts a n q'
-  recount a n q q' e w = w ∙ ap (λ (k : ℕ). seen (pick (faulty a) State.Fault (State.Going k)) m) e
+  recount a n q q' e w = w ∙ ap (λ (k : ℕ). seen (pick (hasMisfit a) State.Misfit (State.Going k)) m) e
 
   pub count-run : (a : Trail) (n : ℕ) → n ≤ limit → Counts a n (min limit (n + length (reached a)))
-  unfolding run visited faulty reached
+  unfolding run visited hasMisfit reached
   count-run done n h = ap (λ (q : ℕ). seen (State.Going q) m) (omega arith)
-  count-run fault n h = refl
+  count-run misfit n h = refl
   count-run (reach c a) n h = go (ltb n limit) refl h (λ g. count-run a (n + 1) g) (count-run a n h)
     where
       go : (b : Bool) → ltb n limit ≡ b → n ≤ limit → (n + 1 ≤ limit → Counts a (n + 1) (min limit (n + 1 + length (reached a)))) → Counts a n (min limit (n + length (reached a)))
-          → run (Task.Count limit) x (seen (pick b (State.Going (n + 1)) (State.Going n)) m) a ≡ seen (pick (faulty a) State.Fault (State.Going (min limit (n + suc (length (reached a)))))) m
+          → run (Task.Count limit) x (seen (pick b (State.Going (n + 1)) (State.Going n)) m) a ≡ seen (pick (hasMisfit a) State.Misfit (State.Going (min limit (n + suc (length (reached a)))))) m
       go true e h f g =
           let b = ltb-true n limit e in
           recount a (n + 1) (min limit (n + 1 + length (reached a))) (min limit (n + suc (length (reached a)))) (omega arith) (f (omega arith))
@@ -54,11 +54,11 @@ abbrev putOf : Component → ℕ → List ℕ → List ℕ
 putOf c n m = put (numbersOf c .source) (numbersOf c .place) (numbersOf c .number) n m
 
 -- after n components that are written
-list-from : (x : List ℕ) (a : Trail) (n : ℕ) (m : List ℕ) → faulty a ≡ false → n + length (reached a) ≤ length m / 3
+list-from : (x : List ℕ) (a : Trail) (n : ℕ) (m : List ℕ) → hasMisfit a ≡ false → n + length (reached a) ≤ length m / 3
     → run Task.List x (seen (State.Going n) m) a ≡ seen (State.Going (n + length (reached a))) (sets m (n * 3) (threes (reached a)))
-unfolding run visited listOne faulty reached threes
+unfolding run visited listOne hasMisfit reached threes
 list-from x done n m f h = ap (λ (q : ℕ). seen (State.Going q) m) (omega arith)
-list-from x fault n m f h = absurd (let z : _≡_ {A = ℕ} 0 1 = cc in omega arith)
+list-from x misfit n m f h = absurd (let z : _≡_ {A = ℕ} 0 1 = cc in omega arith)
 list-from x (reach c a) n m f h =
     let b : n < length m / 3 = omega arith in
     let e : length (putOf c n m) ≡ length m = length-put (numbersOf c .source) (numbersOf c .place) (numbersOf c .number) n m in
@@ -80,7 +80,7 @@ sets-threes m cs h =
     let k : 0 + length (threes cs) ≡ length cs * 3 = omega arith in
     sets-eq (threes cs) m 0 g ∙ rw k
 
-pub list-run : (x : List ℕ) (a : Trail) (m : List ℕ) → faulty a ≡ false → length (reached a) * 3 ≤ length m
+pub list-run : (x : List ℕ) (a : Trail) (m : List ℕ) → hasMisfit a ≡ false → length (reached a) * 3 ≤ length m
     → run Task.List x (seen (State.Going 0) m) a ≡ seen (State.Going (length (reached a))) (threes (reached a) ++ drop (length (reached a) * 3) m)
 list-run x a m f h =
     let g : 0 + length (reached a) ≤ length m / 3 = omega arith in

@@ -16,14 +16,14 @@ use Rattle.table.specs.Types.{untagged, taggingOf, Presence, mandatory, optiona
 use Rattle.table.specs.Work.{Sound}
 use Rattle.value.proofs.CheckSteps.{typed-list, typed-choice, typed-sequence, typed-basic}
 use Rattle.reference.specs.Reference.{Index, position, fromEnd, count, all, Id, name, index, readReference}
-use Rattle.reference.specs.Numbers.{Component, defaulted, tallied}
-use Rattle.reference.specs.Work.{cap, idsAt, headCapped, stepTold, advances}
+use Rattle.reference.specs.Numbers.{Component, byDefault, byCount}
+use Rattle.reference.specs.Work.{cap, idsAt, headCapped, reportIdStep, advances}
 use Rattle.reference.specs.declared.Step.{Step}
 use Rattle.reference.proofs.Laws.{ids-all, ids-over, ids-within, bad-step, end-step, name-step, position-step, from-end-step, count-step, all-step, name-rises, position-rises, from-end-rises, all-rises}
 use Rattle.trail.specs.Opened.{Opened, after, openAt}
-use Rattle.trail.specs.Trail.{Trail, done, fault, reach, then, orFault, eachFrom, countFrom, ending, lackingTrail, onFound, along}
+use Rattle.trail.specs.Trail.{Trail, done, misfit, reach, then, orMisfit, eachFrom, countFrom, ending, lackingTrail, onFound, along}
 use Rattle.trail.specs.Trail as trail
-use Rattle.trail.specs.Work.{openingTold, countedTold, foundTold, landsIn, standing, located}
+use Rattle.trail.specs.Work.{reportOpening, reportCounted, reportFound, landsIn, standing, located}
 use Rattle.trail.specs.declared.Opening.{Opening}
 use Rattle.trail.specs.declared.Counted.{Counted}
 use Rattle.trail.specs.declared.Found.{Found}
@@ -67,7 +67,7 @@ module _ (task : Task) (x m : List ℕ) (n : ℕ) where
   stays : (a : Trail) → a ≡ done → seen (State.Going n) m ≡ run task x (seen (State.Going n) m) a
   stays a e = sym (ap (run task x (seen (State.Going n) m)) e ∙ at-done task x n m)
 
-  breaks : (a : Trail) → a ≡ fault → seen State.Fault m ≡ run task x (seen (State.Going n) m) a
+  breaks : (a : Trail) → a ≡ misfit → seen State.Misfit m ≡ run task x (seen (State.Going n) m) a
   breaks a e = sym (ap (run task x (seen (State.Going n) m)) e ∙ at-fault task x n m)
 
   visits : (a : Trail) (c : Component) (w : Seen) → a ≡ reach c done → w ≡ visited task x c n m → w ≡ run task x (seen (State.Going n) m) a
@@ -100,18 +100,18 @@ module _ (task : Task) (x m : List ℕ) (n : ℕ) where
       pub lacking-default : (v : List ℕ) (w : Seen) → not d ≡ false → 2 ≤ pr → w ≡ visited task x (componentOf t s v (Reached.Default place row)) n m
           → w ≡ run task x (seen (State.Going n) m) (lackingTrail d [] place (memberOf t row (rowAt s row)) (memberOf t row (rowAt s row) .presence))
       unfolding componentOf presenceOf
-      lacking-default v w on high q = visits _ (defaulted place member) w
+      lacking-default v w on high q = visits _ (byDefault place member) w
           (ap (λ (b : Bool). lackingTrail b [] place member (member .presence)) (not-false d on) ∙ ap (lackingTrail true [] place member) present
           ∙ rw (ne-eqb pr 0 (λ z. omega arith), ne-eqb pr 1 (λ z. omega arith)))
           q
 
   module _ (r : List ℕ) (k place size : ℕ) where
-    pub tally-further : isSome (idsAt r k) ≡ true → k ≤ length r → seen (State.Going n) m ≡ run task x (seen (State.Going n) m) (ending (idsFrom r k) (tallied place size))
-    tally-further read h = let w = ids-some r k h read in stays _ (ap (λ (is : List Id). ending is (tallied place size)) (w .2))
+    pub tally-further : isSome (idsAt r k) ≡ true → k ≤ length r → seen (State.Going n) m ≡ run task x (seen (State.Going n) m) (ending (idsFrom r k) (byCount place size))
+    tally-further read h = let w = ids-some r k h read in stays _ (ap (λ (is : List Id). ending is (byCount place size)) (w .2))
 
-    pub tally-ends : (t s v : List ℕ) (w : Seen) → length r < k → w ≡ visited task x (componentOf t s v (Reached.Tally place size)) n m → w ≡ run task x (seen (State.Going n) m) (ending (idsFrom r k) (tallied place size))
+    pub tally-ends : (t s v : List ℕ) (w : Seen) → length r < k → w ≡ visited task x (componentOf t s v (Reached.Tally place size)) n m → w ≡ run task x (seen (State.Going n) m) (ending (idsFrom r k) (byCount place size))
     unfolding componentOf
-    tally-ends t s v w h q = visits _ (tallied place size) w (ap (λ (is : List Id). ending is (tallied place size)) (ids-none r k h)) q
+    tally-ends t s v w h q = visits _ (byCount place size) w (ap (λ (is : List Id). ending is (byCount place size)) (ids-none r k h)) q
 
 -- ---- lists
 -- an index on a type that is no list
@@ -164,7 +164,7 @@ module _ (t s m : List ℕ) (row : ℕ) (ok : Sound (tableLimits .chain) t s m) 
     the-list = the-type ∙ typed-list k element parts list-kind ∙ ap (λ (y : ℕ). listOf k (typeFrom (tableLimits .chain) t s y)) (sym the-row)
 
     module _ (task : Task) (x out v r : List ℕ) (n place start span next : ℕ) where
-      pub count-size : (w : Seen) → w ≡ run task x (seen (State.Going n) out) (orFault (tally (idsFrom r next) place) (countFrom (openAt (typeFrom (tableLimits .chain) t s e) untagged v) span (start + span) 0 start))
+      pub count-size : (w : Seen) → w ≡ run task x (seen (State.Going n) out) (orMisfit (tally (idsFrom r next) place) (countFrom (openAt (typeFrom (tableLimits .chain) t s e) untagged v) span (start + span) 0 start))
           → w ≡ run task x (seen (State.Going n) out) (along true (index count ∷ idsFrom r next) (typeFrom (tableLimits .chain) t s row) v (standing place start span))
       count-size w g = goes task x out n _ _ w (ap (λ (ty : Ty). along true (index count ∷ idsFrom r next) ty v (standing place start span)) the-list ∙ along-count true (idsFrom r next) k (typeFrom (tableLimits .chain) t s e) v (standing place start span)) g
 
@@ -173,17 +173,17 @@ module _ (t s m : List ℕ) (row : ℕ) (ok : Sound (tableLimits .chain) t s m) 
       all-each d w g = goes task x out n _ _ w (ap (λ (ty : Ty). along d (index all ∷ idsFrom r next) ty v (standing place start span)) the-list ∙ along-all d (idsFrom r next) k (typeFrom (tableLimits .chain) t s e) v (standing place start span)) g
 
 -- ---- the number of elements
-module _ (ty : Ty) (v r : List ℕ) (k place start span : ℕ) (task : Task) (x out : List ℕ) (n : ℕ) (c : Counted) (told : countedTold c ≡ countFrom (openAt ty untagged v) (start + span - start) (start + span) 0 start) where
-  sized : (y : Counted) → c ≡ y → orFault (tally (idsFrom r k) place) (countFrom (openAt ty untagged v) span (start + span) 0 start) ≡ orFault (tally (idsFrom r k) place) (countedTold y)
-  sized y e = ap (orFault (tally (idsFrom r k) place)) (ap (λ (z : ℕ). countFrom (openAt ty untagged v) z (start + span) 0 start) whole ∙ sym told ∙ ap countedTold e)
+module _ (ty : Ty) (v r : List ℕ) (k place start span : ℕ) (task : Task) (x out : List ℕ) (n : ℕ) (c : Counted) (told : reportCounted c ≡ countFrom (openAt ty untagged v) (start + span - start) (start + span) 0 start) where
+  sized : (y : Counted) → c ≡ y → orMisfit (tally (idsFrom r k) place) (countFrom (openAt ty untagged v) span (start + span) 0 start) ≡ orMisfit (tally (idsFrom r k) place) (reportCounted y)
+  sized y e = ap (orMisfit (tally (idsFrom r k) place)) (ap (λ (z : ℕ). countFrom (openAt ty untagged v) z (start + span) 0 start) whole ∙ sym told ∙ ap reportCounted e)
     where
       whole : span ≡ start + span - start
       whole = omega arith
 
-  pub size-misfit : c ≡ Counted.Misfit → seen State.Fault out ≡ run task x (seen (State.Going n) out) (orFault (tally (idsFrom r k) place) (countFrom (openAt ty untagged v) span (start + span) 0 start))
+  pub size-misfit : c ≡ Counted.Misfit → seen State.Misfit out ≡ run task x (seen (State.Going n) out) (orMisfit (tally (idsFrom r k) place) (countFrom (openAt ty untagged v) span (start + span) 0 start))
   size-misfit e = breaks task x out n _ (sized Counted.Misfit e)
 
-  pub size-is : (size : ℕ) (w : Seen) → c ≡ Counted.Of size → w ≡ run task x (seen (State.Going n) out) (ending (idsFrom r k) (tallied place size)) → w ≡ run task x (seen (State.Going n) out) (orFault (tally (idsFrom r k) place) (countFrom (openAt ty untagged v) span (start + span) 0 start))
+  pub size-is : (size : ℕ) (w : Seen) → c ≡ Counted.Of size → w ≡ run task x (seen (State.Going n) out) (ending (idsFrom r k) (byCount place size)) → w ≡ run task x (seen (State.Going n) out) (orMisfit (tally (idsFrom r k) place) (countFrom (openAt ty untagged v) span (start + span) 0 start))
   size-is size w e g = goes task x out n _ _ w (sized (Counted.Of size) e) g
 
 -- ---- each element: those from i on, with what was reached before, lead where all of them do
@@ -195,7 +195,7 @@ pub record Each (task : Task) (x : List ℕ) (d : Bool) (is : List Id) (ty : Ty)
   pub long : length out ≡ length before
   pub same : run task x (seen (State.Going reached) out) (eachFrom (openAt ty untagged v) (goingOn d is v ty) k stop i) ≡ run task x (seen (State.Going n) before) (eachFrom (openAt ty untagged v) (goingOn d is v ty) span (start + span) start)
 
-each-step : (o : ℕ → ℕ → Option Opened) (f : Opened → Trail) (k stop i : ℕ) → i < stop → eachFrom o f (suc k) stop i ≡ orFault (λ p. then (f p) (eachFrom o f k stop (after p))) (o i stop)
+each-step : (o : ℕ → ℕ → Option Opened) (f : Opened → Trail) (k stop i : ℕ) → i < stop → eachFrom o f (suc k) stop i ≡ orMisfit (λ p. then (f p) (eachFrom o f k stop (after p))) (o i stop)
 unfolding eachFrom
 each-step o f k stop i h = rw (lt-ltb i stop h)
 
@@ -215,20 +215,20 @@ module _ (task : Task) (x : List ℕ) (d : Bool) (is : List Id) (ty : Ty) (v : L
     pub each-done : stop ≤ i → seen (State.Going reached) out ≡ run task x (seen (State.Going n) before) (eachFrom (openAt ty untagged v) (goingOn d is v ty) span (start + span) start)
     each-done h = stays task x out reached _ (each-end (openAt ty untagged v) (goingOn d is v ty) (w .k) stop i h) ∙ w .same
 
-    module _ (l : i < stop) (c : Opening) (told : openingTold c ≡ openAt ty (taggingOf 0 0) v i stop) where
-      opens : (j : ℕ) × (w .k ≡ suc j) × (eachFrom (openAt ty untagged v) (goingOn d is v ty) (w .k) stop i ≡ orFault (λ p. then (goingOn d is v ty p) (eachFrom (openAt ty untagged v) (goingOn d is v ty) j stop (after p))) (openingTold c))
+    module _ (l : i < stop) (c : Opening) (told : reportOpening c ≡ openAt ty (taggingOf 0 0) v i stop) where
+      opens : (j : ℕ) × (w .k ≡ suc j) × (eachFrom (openAt ty untagged v) (goingOn d is v ty) (w .k) stop i ≡ orMisfit (λ p. then (goingOn d is v ty p) (eachFrom (openAt ty untagged v) (goingOn d is v ty) j stop (after p))) (reportOpening c))
       opens = go (w .k) (w .enough)
         where
-          go : (y : ℕ) → stop - i ≤ y → (j : ℕ) × (y ≡ suc j) × (eachFrom (openAt ty untagged v) (goingOn d is v ty) y stop i ≡ orFault (λ p. then (goingOn d is v ty p) (eachFrom (openAt ty untagged v) (goingOn d is v ty) j stop (after p))) (openingTold c))
+          go : (y : ℕ) → stop - i ≤ y → (j : ℕ) × (y ≡ suc j) × (eachFrom (openAt ty untagged v) (goingOn d is v ty) y stop i ≡ orMisfit (λ p. then (goingOn d is v ty p) (eachFrom (openAt ty untagged v) (goingOn d is v ty) j stop (after p))) (reportOpening c))
           go zero h = absurd (omega arith)
-          go (suc j) h = (j, refl, each-step (openAt ty untagged v) (goingOn d is v ty) j stop i l ∙ ap (orFault (λ p. then (goingOn d is v ty p) (eachFrom (openAt ty untagged v) (goingOn d is v ty) j stop (after p)))) (sym (told ∙ plainly ty v i stop)))
+          go (suc j) h = (j, refl, each-step (openAt ty untagged v) (goingOn d is v ty) j stop i l ∙ ap (orMisfit (λ p. then (goingOn d is v ty p) (eachFrom (openAt ty untagged v) (goingOn d is v ty) j stop (after p)))) (sym (told ∙ plainly ty v i stop)))
 
-      pub each-misfit : c ≡ Opening.Misfit → seen State.Fault out ≡ run task x (seen (State.Going n) before) (eachFrom (openAt ty untagged v) (goingOn d is v ty) span (start + span) start)
-      each-misfit e = breaks task x out reached _ (opens .2 ∙ ap (λ (y : Opening). orFault (λ p. then (goingOn d is v ty p) (eachFrom (openAt ty untagged v) (goingOn d is v ty) (opens .0) stop (after p))) (openingTold y)) e) ∙ w .same
+      pub each-misfit : c ≡ Opening.Misfit → seen State.Misfit out ≡ run task x (seen (State.Going n) before) (eachFrom (openAt ty untagged v) (goingOn d is v ty) span (start + span) start)
+      each-misfit e = breaks task x out reached _ (opens .2 ∙ ap (λ (y : Opening). orMisfit (λ p. then (goingOn d is v ty p) (eachFrom (openAt ty untagged v) (goingOn d is v ty) (opens .0) stop (after p))) (reportOpening y)) e) ∙ w .same
 
       module _ (at from len : ℕ) (e : c ≡ Opening.Of at from len) where
         is-open : openAt ty untagged v i stop ≡ some (standing at from len)
-        is-open = sym (told ∙ plainly ty v i stop) ∙ ap openingTold e
+        is-open = sym (told ∙ plainly ty v i stop) ∙ ap reportOpening e
 
         low-high : (i + 2 ≤ from + len) × (from + len ≤ stop)
         low-high = open-long ty untagged v i stop (standing at from len) is-open
@@ -243,7 +243,7 @@ module _ (task : Task) (x : List ℕ) (d : Bool) (is : List Id) (ty : Ty) (v : L
           rest : run task x (seen u o) (eachFrom (openAt ty untagged v) (goingOn d is v ty) (opens .0) stop (from + len)) ≡ run task x (seen (State.Going n) before) (eachFrom (openAt ty untagged v) (goingOn d is v ty) span (start + span) start)
           rest = ap (λ (y : Seen). run task x y (eachFrom (openAt ty untagged v) (goingOn d is v ty) (opens .0) stop (from + len))) walked
               ∙ sym (run-then task x (seen (State.Going reached) out) (along d is ty v (standing at from len)) (eachFrom (openAt ty untagged v) (goingOn d is v ty) (opens .0) stop (from + len)))
-              ∙ ap (run task x (seen (State.Going reached) out)) (sym (opens .2 ∙ ap (λ (y : Opening). orFault (λ p. then (goingOn d is v ty p) (eachFrom (openAt ty untagged v) (goingOn d is v ty) (opens .0) stop (after p))) (openingTold y)) e))
+              ∙ ap (run task x (seen (State.Going reached) out)) (sym (opens .2 ∙ ap (λ (y : Opening). orMisfit (λ p. then (goingOn d is v ty p) (eachFrom (openAt ty untagged v) (goingOn d is v ty) (opens .0) stop (after p))) (reportOpening y)) e))
               ∙ w .same
 
           pub each-accepted : (tests : ℕ) → u ≡ State.Accepted tests → seen (State.Accepted tests) o ≡ run task x (seen (State.Going n) before) (eachFrom (openAt ty untagged v) (goingOn d is v ty) span (start + span) start)
@@ -252,7 +252,7 @@ module _ (task : Task) (x : List ℕ) (d : Bool) (is : List Id) (ty : Ty) (v : L
           pub each-over : u ≡ State.Over → seen State.Over o ≡ run task x (seen (State.Going n) before) (eachFrom (openAt ty untagged v) (goingOn d is v ty) span (start + span) start)
           each-over q = sym (ap (λ (y : State). run task x (seen y o) (eachFrom (openAt ty untagged v) (goingOn d is v ty) (opens .0) stop (from + len))) q ∙ run-over task x o _) ∙ rest
 
-          pub each-fault : u ≡ State.Fault → seen State.Fault o ≡ run task x (seen (State.Going n) before) (eachFrom (openAt ty untagged v) (goingOn d is v ty) span (start + span) start)
+          pub each-fault : u ≡ State.Misfit → seen State.Misfit o ≡ run task x (seen (State.Going n) before) (eachFrom (openAt ty untagged v) (goingOn d is v ty) span (start + span) start)
           each-fault q = sym (ap (λ (y : State). run task x (seen y o) (eachFrom (openAt ty untagged v) (goingOn d is v ty) (opens .0) stop (from + len))) q ∙ run-fault task x o _) ∙ rest
 
           pub each-again : (more : ℕ) → u ≡ State.Going more → length o ≡ length out → Each task x d is ty v start span n before stop o (from + len) more
@@ -282,44 +282,44 @@ lands-fits s v row at start span f h l e = let a = lands-end s (length v) row at
 
 module _ (t s v : List ℕ) (task : Task) (x out : List ℕ) (n place : ℕ) (d : Bool) (f : Found) where
   module _ (is : List Id) where
-    led : (y : Found) → f ≡ y → onFound d is place (goingOn d is v) (foundTold (tableLimits .chain) t s f) ≡ onFound d is place (goingOn d is v) (foundTold (tableLimits .chain) t s y)
-    led y e = ap (λ (z : Found). onFound d is place (goingOn d is v) (foundTold (tableLimits .chain) t s z)) e
+    led : (y : Found) → f ≡ y → onFound d is place (goingOn d is v) (reportFound (tableLimits .chain) t s f) ≡ onFound d is place (goingOn d is v) (reportFound (tableLimits .chain) t s y)
+    led y e = ap (λ (z : Found). onFound d is place (goingOn d is v) (reportFound (tableLimits .chain) t s z)) e
 
     pub found-at : (row at start span : ℕ) (w : Seen) → f ≡ Found.At row at start span → w ≡ run task x (seen (State.Going n) out) (along d is (typeFrom (tableLimits .chain) t s row) v (standing at start span))
-        → w ≡ run task x (seen (State.Going n) out) (onFound d is place (goingOn d is v) (foundTold (tableLimits .chain) t s f))
+        → w ≡ run task x (seen (State.Going n) out) (onFound d is place (goingOn d is v) (reportFound (tableLimits .chain) t s f))
     found-at row at start span w e g = goes task x out n _ _ w (led _ e) g
 
-    pub found-nothing : f ≡ Found.Nothing → seen (State.Going n) out ≡ run task x (seen (State.Going n) out) (onFound d is place (goingOn d is v) (foundTold (tableLimits .chain) t s f))
+    pub found-nothing : f ≡ Found.Nothing → seen (State.Going n) out ≡ run task x (seen (State.Going n) out) (onFound d is place (goingOn d is v) (reportFound (tableLimits .chain) t s f))
     found-nothing e = stays task x out n _ (led _ e)
 
-    pub found-broken : f ≡ Found.Broken → seen State.Fault out ≡ run task x (seen (State.Going n) out) (onFound d is place (goingOn d is v) (foundTold (tableLimits .chain) t s f))
+    pub found-broken : f ≡ Found.Broken → seen State.Misfit out ≡ run task x (seen (State.Going n) out) (onFound d is place (goingOn d is v) (reportFound (tableLimits .chain) t s f))
     found-broken e = breaks task x out n _ (led _ e)
 
   -- where the reference ends
   pub last-at : (row at start span : ℕ) (w : Seen) → f ≡ Found.At row at start span → w ≡ visited task x (componentOf t s v (Reached.Stored at start span)) n out
-      → w ≡ run task x (seen (State.Going n) out) (onFound d [] place (goingOn d [] v) (foundTold (tableLimits .chain) t s f))
+      → w ≡ run task x (seen (State.Going n) out) (onFound d [] place (goingOn d [] v) (reportFound (tableLimits .chain) t s f))
   unfolding componentOf
   last-at row at start span w e g = visits task x out n _ _ w (led [] _ e ∙ along-end d (typeFrom (tableLimits .chain) t s row) v (standing at start span)) g
 
   pub last-lacking : (row : ℕ) (w : Seen) → f ≡ Found.Lacking row → w ≡ run task x (seen (State.Going n) out) (lackingTrail d [] place (memberOf t row (rowAt s row)) (memberOf t row (rowAt s row) .presence))
-      → w ≡ run task x (seen (State.Going n) out) (onFound d [] place (goingOn d [] v) (foundTold (tableLimits .chain) t s f))
+      → w ≡ run task x (seen (State.Going n) out) (onFound d [] place (goingOn d [] v) (reportFound (tableLimits .chain) t s f))
   last-lacking row w e g = goes task x out n _ _ w (led [] _ e) g
 
   module _ (r : List ℕ) (k : ℕ) where
-    pub found-last : (w : Seen) → length r < k → w ≡ run task x (seen (State.Going n) out) (onFound d [] place (goingOn d [] v) (foundTold (tableLimits .chain) t s f))
-        → w ≡ run task x (seen (State.Going n) out) (onFound d (idsFrom r k) place (goingOn d (idsFrom r k) v) (foundTold (tableLimits .chain) t s f))
-    found-last w h g = goes task x out n _ _ w (ap (λ (is : List Id). onFound d is place (goingOn d is v) (foundTold (tableLimits .chain) t s f)) (ids-none r k h)) g
+    pub found-last : (w : Seen) → length r < k → w ≡ run task x (seen (State.Going n) out) (onFound d [] place (goingOn d [] v) (reportFound (tableLimits .chain) t s f))
+        → w ≡ run task x (seen (State.Going n) out) (onFound d (idsFrom r k) place (goingOn d (idsFrom r k) v) (reportFound (tableLimits .chain) t s f))
+    found-last w h g = goes task x out n _ _ w (ap (λ (is : List Id). onFound d is place (goingOn d is v) (reportFound (tableLimits .chain) t s f)) (ids-none r k h)) g
 
     -- an absent member has no components of its own
     pub found-lacking : (row : ℕ) → k ≤ length r → isSome (idsAt r k) ≡ true → f ≡ Found.Lacking row
-        → seen (State.Going n) out ≡ run task x (seen (State.Going n) out) (onFound d (idsFrom r k) place (goingOn d (idsFrom r k) v) (foundTold (tableLimits .chain) t s f))
+        → seen (State.Going n) out ≡ run task x (seen (State.Going n) out) (onFound d (idsFrom r k) place (goingOn d (idsFrom r k) v) (reportFound (tableLimits .chain) t s f))
     found-lacking row h read e =
         let w = ids-some r k h read in
         let m : Member = memberOf t row (rowAt s row) in
         stays task x out n _ (led (idsFrom r k) _ e ∙ ap (λ (is : List Id). lackingTrail d is place m (m .presence)) (w .2) ∙ further d (w .0) (w .1) place m (m .presence))
 
 -- ---- one identifier of the reference
-module _ (r : List ℕ) (k : ℕ) (s : Step) (step : stepTold r s ≡ headCapped (idsAt r k)) (read : isSome (idsAt r k) ≡ true) where
+module _ (r : List ℕ) (k : ℕ) (s : Step) (step : reportIdStep r s ≡ headCapped (idsAt r k)) (read : isSome (idsAt r k) ≡ true) where
   ids : (is : List Id) × (idsAt r k ≡ some is)
   ids = is-some (idsAt r k) read
 
@@ -390,11 +390,11 @@ module _ (r : List ℕ) (k : ℕ) (s : Step) (step : stepTold r s ≡ headCapped
         → w ≡ run task x (seen (State.Going n) out) (along d (idsFrom r k) (typeFrom (tableLimits .chain) t ss row) v (standing place start span))
     walk-alls w next e g = goes task x out n _ _ w (ap (λ (is : List Id). along d is (typeFrom (tableLimits .chain) t ss row) v (standing place start span)) (all-ids next e)) g
 
-    module _ (w : Seen) (f : Found) (next : ℕ) (g : w ≡ run task x (seen (State.Going n) out) (onFound d (idsFrom r next) place (goingOn d (idsFrom r next) v) (foundTold (tableLimits .chain) t ss f))) where
-      by-found : (l : trail.Found) → here-along ≡ onFound d (idsFrom r next) place (goingOn d (idsFrom r next) v) l → foundTold (tableLimits .chain) t ss f ≡ l → w ≡ run task x (seen (State.Going n) out) here-along
+    module _ (w : Seen) (f : Found) (next : ℕ) (g : w ≡ run task x (seen (State.Going n) out) (onFound d (idsFrom r next) place (goingOn d (idsFrom r next) v) (reportFound (tableLimits .chain) t ss f))) where
+      by-found : (l : trail.Found) → here-along ≡ onFound d (idsFrom r next) place (goingOn d (idsFrom r next) v) l → reportFound (tableLimits .chain) t ss f ≡ l → w ≡ run task x (seen (State.Going n) out) here-along
       by-found l e q = goes task x out n _ _ w (e ∙ ap (onFound d (idsFrom r next) place (goingOn d (idsFrom r next) v)) (sym q)) g
 
-      pub walk-name : (a b : ℕ) → s ≡ Step.Name a b next → foundTold (tableLimits .chain) t ss f ≡ located (name (part r a (b - a))) (typeFrom (tableLimits .chain) t ss row) v (standing place start span)
+      pub walk-name : (a b : ℕ) → s ≡ Step.Name a b next → reportFound (tableLimits .chain) t ss f ≡ located (name (part r a (b - a))) (typeFrom (tableLimits .chain) t ss row) v (standing place start span)
           → w ≡ run task x (seen (State.Going n) out) (along d (idsFrom r k) (typeFrom (tableLimits .chain) t ss row) v (standing place start span))
       walk-name a b e q = by-found _ (ap (λ (is : List Id). along d is (typeFrom (tableLimits .chain) t ss row) v (standing place start span)) (name-ids a b next e) ∙ along-name d (part r a (b - a)) (idsFrom r next) (typeFrom (tableLimits .chain) t ss row) v (standing place start span)) q
 
@@ -402,14 +402,14 @@ module _ (r : List ℕ) (k : ℕ) (s : Step) (step : stepTold r s ≡ headCapped
         fits : start + span < 18446744073709551615
         fits = omega arith
 
-        pub walk-position : (i : ℕ) → s ≡ Step.Position i next → foundTold (tableLimits .chain) t ss f ≡ located (index (position i)) (typeFrom (tableLimits .chain) t ss row) v (standing place start span)
+        pub walk-position : (i : ℕ) → s ≡ Step.Position i next → reportFound (tableLimits .chain) t ss f ≡ located (index (position i)) (typeFrom (tableLimits .chain) t ss row) v (standing place start span)
             → w ≡ run task x (seen (State.Going n) out) (along d (idsFrom r k) (typeFrom (tableLimits .chain) t ss row) v (standing place start span))
         walk-position i e q =
             let u = position-ids i next e in
             by-found _ (ap (λ (is : List Id). along d is (typeFrom (tableLimits .chain) t ss row) v (standing place start span)) (u .1) ∙ along-position d (u .0) (idsFrom r next) (typeFrom (tableLimits .chain) t ss row) v (standing place start span))
             (q ∙ ap (λ (j : ℕ). located (index (position j)) (typeFrom (tableLimits .chain) t ss row) v (standing place start span)) (u .2) ∙ located-position-capped (u .0) (typeFrom (tableLimits .chain) t ss row) v (standing place start span) fits)
 
-        pub walk-from-end : (i : ℕ) → s ≡ Step.FromEnd i next → foundTold (tableLimits .chain) t ss f ≡ located (index (fromEnd i)) (typeFrom (tableLimits .chain) t ss row) v (standing place start span)
+        pub walk-from-end : (i : ℕ) → s ≡ Step.FromEnd i next → reportFound (tableLimits .chain) t ss f ≡ located (index (fromEnd i)) (typeFrom (tableLimits .chain) t ss row) v (standing place start span)
             → w ≡ run task x (seen (State.Going n) out) (along d (idsFrom r k) (typeFrom (tableLimits .chain) t ss row) v (standing place start span))
         walk-from-end i e q =
             let u = from-end-ids i next e in
@@ -417,8 +417,8 @@ module _ (r : List ℕ) (k : ℕ) (s : Step) (step : stepTold r s ≡ headCapped
             (q ∙ ap (λ (j : ℕ). located (index (fromEnd j)) (typeFrom (tableLimits .chain) t ss row) v (standing place start span)) (u .2) ∙ located-from-end-capped (u .0) (typeFrom (tableLimits .chain) t ss row) v (standing place start span) fits)
 
     -- the last identifier, a name
-    pub walk-last : (w : Seen) (f : Found) (next a b : ℕ) → length r < next → s ≡ Step.Name a b next → foundTold (tableLimits .chain) t ss f ≡ located (name (part r a (b - a))) (typeFrom (tableLimits .chain) t ss row) v (standing place start span)
-        → w ≡ run task x (seen (State.Going n) out) (onFound d [] place (goingOn d [] v) (foundTold (tableLimits .chain) t ss f))
+    pub walk-last : (w : Seen) (f : Found) (next a b : ℕ) → length r < next → s ≡ Step.Name a b next → reportFound (tableLimits .chain) t ss f ≡ located (name (part r a (b - a))) (typeFrom (tableLimits .chain) t ss row) v (standing place start span)
+        → w ≡ run task x (seen (State.Going n) out) (onFound d [] place (goingOn d [] v) (reportFound (tableLimits .chain) t ss f))
         → w ≡ run task x (seen (State.Going n) out) (along d (idsFrom r k) (typeFrom (tableLimits .chain) t ss row) v (standing place start span))
     walk-last w f next a b h e q g = walk-name w f next (found-last t ss v task x out n place d f r next w h g) a b e q
 
@@ -443,16 +443,16 @@ pub each-falls : (r : List ℕ) (k z : ℕ) → 4 * (length r + 2 - k) + 2 ≡ z
 each-falls r k z e = omega arith
 
 -- ---- from the value's first octet
-module _ (ty : Ty) (v r : List ℕ) (given d : Bool) (task : Task) (x out : List ℕ) (n : ℕ) (c : Opening) (told : openingTold c ≡ openAt ty (taggingOf 0 0) v 0 (length v)) where
-  begins : (is : List Id) (y : Opening) → c ≡ y → trail.trail d is ty v ≡ orFault (λ o. along d is ty v o) (openingTold y)
-  begins is y e = trail-by d is ty v ∙ ap (orFault (λ o. along d is ty v o)) (sym (told ∙ plainly ty v 0 (length v)) ∙ ap openingTold e)
+module _ (ty : Ty) (v r : List ℕ) (given d : Bool) (task : Task) (x out : List ℕ) (n : ℕ) (c : Opening) (told : reportOpening c ≡ openAt ty (taggingOf 0 0) v 0 (length v)) where
+  begins : (is : List Id) (y : Opening) → c ≡ y → trail.trail d is ty v ≡ orMisfit (λ o. along d is ty v o) (reportOpening y)
+  begins is y e = trail-by d is ty v ∙ ap (orMisfit (λ o. along d is ty v o)) (sym (told ∙ plainly ty v 0 (length v)) ∙ ap reportOpening e)
 
-  pub value-misfit : c ≡ Opening.Misfit → seen State.Fault out ≡ run task x (seen (State.Going n) out) (trail.trail d (idsOr (pick given (readReference r) (some []))) ty v)
+  pub value-misfit : c ≡ Opening.Misfit → seen State.Misfit out ≡ run task x (seen (State.Going n) out) (trail.trail d (idsOr (pick given (readReference r) (some []))) ty v)
   value-misfit e = breaks task x out n _ (begins (idsOr (pick given (readReference r) (some []))) Opening.Misfit e)
 
   module _ (place start span : ℕ) (e : c ≡ Opening.Of place start span) where
     pub value-ends : start + span ≤ length v
-    value-ends = open-long ty untagged v 0 (length v) (standing place start span) (sym (told ∙ plainly ty v 0 (length v)) ∙ ap openingTold e) .1
+    value-ends = open-long ty untagged v 0 (length v) (standing place start span) (sym (told ∙ plainly ty v 0 (length v)) ∙ ap reportOpening e) .1
 
     pub value-fits : length v < 18446744073709551615 → start + span < 18446744073709551616
     value-fits h = let a = value-ends in omega arith

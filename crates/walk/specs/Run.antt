@@ -11,12 +11,12 @@ use Rattle.table.specs.Types.{Ty, memberOf}
 use Rattle.value.specs.Value.{spotAt}
 use Rattle.reference.specs.Reference.{Id}
 use Rattle.reference.specs.Work.{idsAt}
-use Rattle.reference.specs.Numbers.{Component, stored, defaulted, tallied, numbersOf, contentsOf}
+use Rattle.reference.specs.Numbers.{Component, stored, byDefault, byCount, numbersOf, contentsOf}
 use Rattle.rules.specs.Accepts.{acceptsContents, acceptsCount}
 use Rattle.rules.specs.Answers.{meant, isReadBy}
 use Rattle.rules.specs.Rule as rule
 use Rattle.trail.specs.Opened.{Opened}
-use Rattle.trail.specs.Trail.{Trail, done, fault, reach, ending, along}
+use Rattle.trail.specs.Trail.{Trail, done, misfit, reach, ending, along}
 use Rattle.walk.specs.declared.State.{State}
 use Rattle.walk.specs.declared.Task.{Task}
 use Rattle.walk.specs.declared.Reached.{Reached}
@@ -24,8 +24,8 @@ use Rattle.walk.specs.declared.Reached.{Reached}
 -- a component as the code holds it: a stored value by its place and contents, a default by the place and the member's row, a count
 unfoldable pub componentOf : List ℕ → List ℕ → List ℕ → Reached → Component
 componentOf t s v (Reached.Stored place start span) = stored (spotAt v place start span)
-componentOf t s v (Reached.Default place row) = defaulted place (memberOf t row (rowAt s row))
-componentOf t s v (Reached.Tally place n) = tallied place n
+componentOf t s v (Reached.Default place row) = byDefault place (memberOf t row (rowAt s row))
+componentOf t s v (Reached.Tally place n) = byCount place n
 
 abbrev pub sourceOf : Reached → ℕ
 sourceOf (Reached.Stored place start span) = 0
@@ -55,8 +55,8 @@ pub data Seen : Type 0 where
 -- a rule accepts a component, whose contents it can read
 unfoldable pub acceptsRead : rule.Rule → List ℕ → Component → Bool
 acceptsRead r x (stored s) = both (isReadBy r x (s .contents)) (acceptsContents r x (s .contents))
-acceptsRead r x (defaulted place m) = both (isReadBy r x (contentsOf (m .presence))) (acceptsContents r x (contentsOf (m .presence)))
-acceptsRead r x (tallied place n) = acceptsCount r x n
+acceptsRead r x (byDefault place m) = both (isReadBy r x (contentsOf (m .presence))) (acceptsContents r x (contentsOf (m .presence)))
+acceptsRead r x (byCount place n) = acceptsCount r x n
 
 -- three numbers for component n, where there is room
 unfoldable pub put : ℕ → ℕ → ℕ → ℕ → List ℕ → List ℕ
@@ -84,14 +84,14 @@ abbrev pub onward : (ℕ → List ℕ → Seen) → Seen → Seen
 onward f (seen (State.Going n) m) = f n m
 onward f (seen (State.Accepted n) m) = seen (State.Accepted n) m
 onward f (seen State.Over m) = seen State.Over m
-onward f (seen State.Fault m) = seen State.Fault m
+onward f (seen State.Misfit m) = seen State.Misfit m
 
-abbrev pub faulted : ℕ → List ℕ → Seen
-faulted n m = seen State.Fault m
+abbrev pub misfitAfter : ℕ → List ℕ → Seen
+misfitAfter n m = seen State.Misfit m
 
 unfoldable pub run : Task → List ℕ → Seen → Trail → Seen
 run task x w done = w
-run task x w fault = onward faulted w
+run task x w misfit = onward misfitAfter w
 run task x w (reach c a) = run task x (onward (visited task x c) w) a
 
 -- identifiers that have been read
@@ -109,4 +109,4 @@ goingOn d is v ty o = along d is ty v o
 
 -- the count n of the list at a place
 abbrev pub tally : List Id → ℕ → ℕ → Trail
-tally is place n = ending is (tallied place n)
+tally is place n = ending is (byCount place n)

@@ -16,11 +16,11 @@ ghost use Rattle.rows.specs.Row.{presenceAt, defaultAt};
 ghost use Rattle.table.specs.Types.{untagged, presenceOf};
 ghost use Rattle.table.specs.Work.{Sound};
 ghost use Rattle.reference.specs.Reference.{count, all, index, readReference};
-ghost use Rattle.reference.specs.Work.{idsAt, headCapped, stepTold, advances};
-ghost use Rattle.reference.specs.Numbers.{contentsOf, tallied};
+ghost use Rattle.reference.specs.Work.{idsAt, headCapped, reportIdStep, advances};
+ghost use Rattle.reference.specs.Numbers.{contentsOf, byCount};
 ghost use Rattle.trail.specs.Opened.{openAt};
-ghost use Rattle.trail.specs.Trail.{orFault, countFrom, ending, lackingTrail, onFound, eachFrom, along, trail};
-ghost use Rattle.trail.specs.Work.{foundTold, landsIn, standing};
+ghost use Rattle.trail.specs.Trail.{orMisfit, countFrom, ending, lackingTrail, onFound, eachFrom, along, trail};
+ghost use Rattle.trail.specs.Work.{reportFound, landsIn, standing};
 ghost use Rattle.rules.specs.Answers.{meant};
 ghost use Rattle.walk.specs.Run as run;
 ghost use Rattle.rows.specs.Paper.{tableLimits};
@@ -32,7 +32,7 @@ pub enum State {
     Going(usize),
     Accepted(usize),
     Over,
-    Fault,
+    Misfit,
 }
 
 // What is done with each component: counted up to a limit, listed, or tested within a budget.
@@ -236,7 +236,7 @@ fn visit_found(
     ensures { λ w. ⌜ run.seen w (now (out .exit))
         ≡ run.run task (now (text .entry)) (run.seen (State.Going n) (now (out .entry)))
         (onFound defaults [] place (run.goingOn defaults [] (now (v .entry)))
-        (foundTold (tableLimits .chain) (now (t .entry)) (now (s .entry)) found)) ⌝ }
+        (reportFound (tableLimits .chain) (now (t .entry)) (now (s .entry)) found)) ⌝ }
 {
     match found {
         Found::At(_, at, start, span) => visit(
@@ -251,7 +251,7 @@ fn visit_found(
         ),
         Found::Lacking(row) => visit_lacking(t, s, v, text, defaults, task, row, place, n, out),
         Found::Nothing => State::Going(n),
-        Found::Broken => State::Fault,
+        Found::Broken => State::Misfit,
     }
 }
 
@@ -272,7 +272,7 @@ fn walk_tally(
 ) -> State
     requires read { ⌜ isSome (idsAt (now r) k) ≡ true ⌝ }
     ensures { λ w. ⌜ run.seen w (now (out .exit))
-        ≡ run.run task (now (text .entry)) (run.seen (State.Going n) (now (out .entry))) (ending (run.idsFrom (now (r .entry)) k) (tallied place size)) ⌝ }
+        ≡ run.run task (now (text .entry)) (run.seen (State.Going n) (now (out .entry))) (ending (run.idsFrom (now (r .entry)) k) (byCount place size)) ⌝ }
 {
     if k <= r.len() {
         return State::Going(n);
@@ -303,11 +303,11 @@ fn walk_size(
     requires read { ⌜ isSome (idsAt (now r) k) ≡ true ⌝ }
     ensures { λ w. ⌜ run.seen w (now (out .exit))
         ≡ run.run task (now (text .entry)) (run.seen (State.Going n) (now (out .entry)))
-        (orFault (run.tally (run.idsFrom (now (r .entry)) k) place)
+        (orMisfit (run.tally (run.idsFrom (now (r .entry)) k) place)
         (countFrom (openAt (rowType (now (t .entry)) (now (s .entry)) row) untagged (now (v .entry))) span (start + span) 0 start)) ⌝ }
 {
     let Counted::Of(size) = trail::count_elements(t, s, m, v, row, start, start + span) else {
-        return State::Fault;
+        return State::Misfit;
     };
     walk_tally(t, s, v, r, k, text, task, place, size, n, out)
 }
@@ -384,7 +384,7 @@ fn walk_found(
     ensures { λ w. ⌜ run.seen w (now (out .exit))
         ≡ run.run task (now (text .entry)) (run.seen (State.Going n) (now (out .entry)))
         (onFound defaults (run.idsFrom (now (r .entry)) k) place (run.goingOn defaults (run.idsFrom (now (r .entry)) k) (now (v .entry)))
-        (foundTold (tableLimits .chain) (now (t .entry)) (now (s .entry)) found)) ⌝ }
+        (reportFound (tableLimits .chain) (now (t .entry)) (now (s .entry)) found)) ⌝ }
 {
     if r.len() < k {
         return visit_found(t, s, v, text, defaults, task, found, place, n, out);
@@ -413,7 +413,7 @@ fn walk_found(
         }
         Found::Lacking(_) => State::Going(n),
         Found::Nothing => State::Going(n),
-        Found::Broken => State::Fault,
+        Found::Broken => State::Misfit,
     }
 }
 
@@ -452,7 +452,7 @@ fn walk_each(
     let mut reached = n;
     while i < stop {
         let Opening::Of(at, from, len) = trail::open_element(t, s, m, v, row, tag, i, stop) else {
-            return State::Fault;
+            return State::Misfit;
         };
         let next = from + len;
         match walk(
@@ -479,7 +479,7 @@ fn walk_each(
             }
             State::Accepted(tests) => return State::Accepted(tests),
             State::Over => return State::Over,
-            State::Fault => return State::Fault,
+            State::Misfit => return State::Misfit,
         }
     }
     State::Going(reached)
@@ -560,7 +560,7 @@ fn walk(
     requires ends { ⌜ start + span ≤ length (now v) ⌝ }
     requires small { ⌜ length (now v) < 18446744073709551615 ⌝ }
     requires read { ⌜ isSome (idsAt (now r) k) ≡ true ⌝ }
-    requires step { ⌜ stepTold (now r) step ≡ headCapped (idsAt (now r) k) ⌝ }
+    requires step { ⌜ reportIdStep (now r) step ≡ headCapped (idsAt (now r) k) ⌝ }
     requires rises { ⌜ advances (now r) k step ≡ true ⌝ }
     ensures { λ w. ⌜ run.seen w (now (out .exit))
         ≡ run.run task (now (text .entry)) (run.seen (State.Going n) (now (out .entry)))
@@ -695,7 +695,7 @@ pub fn walk_value(
         (now (v .entry))) ⌝ }
 {
     let Opening::Of(place, start, span) = trail::open_at(t, s, m, v, 0, 0, 0, 0, v.len()) else {
-        return State::Fault;
+        return State::Misfit;
     };
     if !given {
         return visit(

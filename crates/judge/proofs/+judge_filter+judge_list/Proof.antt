@@ -5,7 +5,7 @@ use lib.ListN.{length}
 use borrow.Fn.Kinds.{In}
 use borrow.Fn.PlainCycle.{Measures, is, falls, and}
 use Rattle.table.specs.Types.{typeFrom}
-use Rattle.filter.specs.Answers.{joinOf}
+use Rattle.filter.specs.Answers.{reportJoin}
 use Rattle.judge.specs.Work.{begun}
 use Rattle.judge.proofs.judge_filter.Reads as judge-filter
 use Rattle.judge.proofs.judge_filter.Kinds as judge-filter-kinds
@@ -51,7 +51,7 @@ abbrev judge-list-claims : ℕ → judge-list-lts.Claims
 judge-list-claims t = (begin-reads.Asked, begin-reads.Learnt, goes-on-reads.Asked, goes-on-reads.Learnt, judge-filter-below t, judge-filter.Post, next-turn-reads.Asked, next-turn-reads.Learnt)
 
 abbrev judge-list-Inv-loop : judge-list-lts.InvT-loop
-judge-list-Inv-loop t s m v f at join live budget n i₀ k₀ p₀ i k p = Listing (typeFrom (tableLimits .chain) t s 0) v f (joinOf join) (begun live) budget n at p k i
+judge-list-Inv-loop t s m v f at join live budget n i₀ k₀ p₀ i k p = Listing (typeFrom (tableLimits .chain) t s 0) v f (reportJoin join) (begun live) budget n at p k i
 
 abbrev judge-list-μ-loop : judge-list-lts.MeasureT-loop
 judge-list-μ-loop t s m v f at join live budget n i₀ k₀ p₀ i k p = length f - i

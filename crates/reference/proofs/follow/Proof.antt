@@ -4,7 +4,7 @@ use mathlib.Core.Path.{_≡_, refl}
 use mathlib.Core.Bool.{true}
 use Prim.Native.Nat.{_≤_, _+_, _-_}
 use lib.ListN.{length}
-use Rattle.reference.specs.Work.{idsAt, targetTold, rowWithin, along}
+use Rattle.reference.specs.Work.{idsAt, reportTarget, rowWithin, along}
 use Rattle.reference.specs.declared.Target.{Target}
 use borrow.Author.Needs.{needs}
 use Rattle.reference.proofs.follow.Statement.{statement}
@@ -12,7 +12,7 @@ use Rattle.reference.proofs.follow.Tie as tie
 use Rattle.rows.specs.Paper.{tableLimits}
 
 abbrev Inv-loop : tie.InvT-loop
-Inv-loop t s m r target₀ k₀ target k = (along (idsAt r k) (targetTold (tableLimits .chain) t s target) ≡ along (idsAt r 0) (targetTold (tableLimits .chain) t s (Target.Row 0))) × (rowWithin s target ≡ true) × (k ≤ length r + 1)
+Inv-loop t s m r target₀ k₀ target k = (along (idsAt r k) (reportTarget (tableLimits .chain) t s target) ≡ along (idsAt r 0) (reportTarget (tableLimits .chain) t s (Target.Row 0))) × (rowWithin s target ≡ true) × (k ≤ length r + 1)
 
 abbrev μ-loop : tie.MeasureT-loop
 μ-loop t s m r target₀ k₀ target k = length r + 1 - k
