@@ -14,7 +14,7 @@ use Rattle.rows.specs.Limits.{tableFits}
 use Rattle.rows.specs.Paper.{tableLimits}
 use Rattle.rows.specs.Row.{rows}
 use Rattle.table.specs.Types.{Ty, typeFrom, typeAt}
-use Rattle.table.specs.Admitted.{rowCount}
+use Rattle.table.specs.Work.{rowCount}
 use Rattle.table.specs.Work.{Sound, Admits}
 use Rattle.value.specs.Paper.{valueLimits}
 use Rattle.value.specs.Decode.{storedValue}
@@ -36,7 +36,8 @@ use Rattle.judge.specs.Work.{NamesDiffer, Ready, charged, judgedText}
 use Rattle.judge.proofs.Names.{names-apart}
 use Rattle.judge.specs.declared.Verdict.{Verdict}
 use Rattle.judge.specs.declared.Judged.{Judged}
-use Rattle.engine.specs.Answer.{Report, refused, budgeted, questionFits, evaluated, withFilter, questionOf, askReport, report, settledAs, judgedReport}
+use Rattle.engine.specs.Answer.{Report, refused, budgeted, questionFits, evaluated, withFilter, questionOf, askReport, report}
+use Rattle.engine.specs.Judged.{settledAs, judgedReport}
 use Rattle.engine.specs.Paper.{limits}
 use Rattle.engine.specs.declared.Answer.{Answer}
 

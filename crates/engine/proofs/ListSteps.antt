@@ -16,7 +16,7 @@ use Rattle.octets.proofs.Laws.{both-true}
 use Rattle.rows.specs.Limits.{tableFits}
 use Rattle.rows.specs.Paper.{tableLimits}
 use Rattle.table.specs.Types.{Ty, typeFrom, typeAt}
-use Rattle.table.specs.Admitted.{rowCount}
+use Rattle.table.specs.Work.{rowCount}
 use Rattle.table.specs.Work.{Admits}
 use Rattle.value.specs.Paper.{valueLimits}
 use Rattle.value.specs.Decode.{storedValue}

@@ -65,14 +65,3 @@ report (Answer.True n) = answers TRUE n
 report (Answer.False n) = answers FALSE n
 report (Answer.Undefined n) = answers UNDEFINED n
 report (Answer.Refused n) = refused n
-
--- a truth with the tests made, and what the evaluation of a filter comes to
-abbrev pub settledAs : Verdict → ℕ → Answer
-settledAs Verdict.True n = Answer.True n
-settledAs Verdict.False n = Answer.False n
-settledAs Verdict.Undefined n = Answer.Undefined n
-
-abbrev pub judgedReport : Judged → Report
-judgedReport (Judged.Of u n) = report (settledAs u n)
-judgedReport Judged.Over = refused 5
-judgedReport Judged.Misfit = refused 7

@@ -25,6 +25,7 @@ ghost use Rattle.filter.specs.Paper.{filterLimits};
 ghost use Rattle.judge.specs.Assertion.{outcome};
 ghost use Rattle.judge.specs.Work.{NamesDiffer, Ready, judgedText};
 ghost use Rattle.engine.specs.Answer as answer;
+ghost use Rattle.engine.specs.Judged.{settledAs, judgedReport};
 ghost use Rattle.engine.specs.Listing.{report, lists, walked, referenceFits, listingFits, withIds, listingOf, listReport, listing};
 ghost use Rattle.engine.specs.Paper.{limits};
 ghost use Rattle.rows.specs.Paper.{tableLimits};
@@ -222,7 +223,7 @@ impl Answer {
 
     // A truth with the tests made.
     pub fn of(u: Verdict, n: usize) -> Self
-        ensures { λ a. ⌜ a ≡ answer.settledAs u n ⌝ }
+        ensures { λ a. ⌜ a ≡ settledAs u n ⌝ }
     {
         match u {
             Verdict::True => Answer::True(n),
@@ -252,7 +253,7 @@ fn ask_judged(t: &[u8], s: &[usize], m: &[u64], v: &[u8], filter: &[u8], budget:
     requires ready { ⌜ Ready (tableLimits .chain) (now t) (now s) (now m) (now v) ⌝ }
     requires read { ⌜ isSome (filterAt (now filter) 0) ≡ true ⌝ }
     ensures { λ a. ⌜ answer.report a
-        ≡ answer.judgedReport (judgedText (outcome (rowType (now (t .entry)) (now (s .entry)) 0) (now (v .entry))) budget
+        ≡ judgedReport (judgedText (outcome (rowType (now (t .entry)) (now (s .entry)) 0) (now (v .entry))) budget
         (filterAt (now (filter .entry)) 0)) ⌝ }
 {
     match judge::judge(t, s, m, v, filter, budget) {

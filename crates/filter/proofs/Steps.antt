@@ -23,7 +23,8 @@ use Rattle.assertion.specs.declared.Parts.{Parts}
 use Rattle.assertion.proofs.Laws.{at-place, at-none, word-there, word-not}
 use Rattle.filter.specs.Filter as filter
 use Rattle.filter.specs.Filter.{Filter, item, depth, items}
-use Rattle.filter.specs.Parse.{inBraces, headAt, tailAt, made, byTail, filterAt, filtersAt, ifWhole, withinLimits, whole, parse, parseWithin, assertion, emptyList, openList, negation, noHead, another, closed, noTail}
+use Rattle.filter.specs.Parse.{inBraces, headAt, tailAt, made, byTail, filterAt, ifWhole, withinLimits, whole, parse, parseWithin, assertion, emptyList, openList, negation, noHead, another, closed, noTail}
+use Rattle.filter.specs.Answers.{filtersAt}
 use Rattle.filter.specs.Limits.{Limits}
 use Rattle.filter.specs.Paper.{filterLimits}
 use Rattle.filter.specs.Answers.{reportJoin, reportHead, reportTail, bounded, boundedIn, itemsOf}

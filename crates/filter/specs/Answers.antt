@@ -1,6 +1,8 @@
 -- What the code's answers say.
-use Prim.Native.Nat.{ℕ, _-_}
+use Prim.Native.Nat.{ℕ, _+_, _-_}
 use mathlib.Core.Option.{Option, none, some}
+use mathlib.Core.List.{List}
+use lib.ListN.{length}
 use lib.Dec.{leb}
 use Rattle.octets.specs.Pick.{pick, both}
 use Rattle.assertion.specs.Assertion.{Read}
@@ -51,3 +53,6 @@ report Reading.Bad = none
 abbrev pub itemsOf : Option Filter → Option ℕ
 itemsOf none = none
 itemsOf (some f) = some (items f)
+
+unfoldable pub filtersAt : List ℕ → ℕ → Option (Read Filters)
+filtersAt s at = parsing.filtersFrom (length s + 2) s at

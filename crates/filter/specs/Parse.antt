@@ -83,9 +83,6 @@ unfoldable mutual
 unfoldable pub filterAt : List ℕ → ℕ → Option (Read Filter)
 filterAt s at = filterFrom (length s + 1) s at
 
-unfoldable pub filtersAt : List ℕ → ℕ → Option (Read Filters)
-filtersAt s at = filtersFrom (length s + 2) s at
-
 -- ---- the whole text; "Depth at most 16 .., at most 64 items"
 abbrev pub ifWhole : List ℕ → Read Filter → Option Filter
 ifWhole s p = pick (eqb (p .after) (length s)) (some (p .is)) none

@@ -157,7 +157,7 @@ fn read_filter(s: &[u8], at: usize, depth: usize, room: usize) -> Span
 
 // The filters of a list, from one of them on, within so much depth and so many items.
 fn read_list(s: &[u8], at: usize, depth: usize, room: usize) -> Span
-    ensures { λ r. ⌜ r ≡ answers.boundedIn depth room (parsing.filtersAt (now (s .entry)) at) ⌝ }
+    ensures { λ r. ⌜ r ≡ answers.boundedIn depth room (answers.filtersAt (now (s .entry)) at) ⌝ }
 {
     let mut i = at;
     let mut left = room;

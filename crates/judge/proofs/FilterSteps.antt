@@ -15,7 +15,8 @@ use Rattle.assertion.specs.declared.Assertion.{Assertion}
 use Rattle.assertion.specs.declared.Parts.{Parts}
 use Rattle.filter.specs.Filter as filter
 use Rattle.filter.specs.Filter.{Item, item, list, inverse as invert, Filter, Filters, endFilters, next}
-use Rattle.filter.specs.Parse.{made, filterAt, filtersAt, headAt, tailAt, Tail, another, closed, noTail, openList, negation}
+use Rattle.filter.specs.Parse.{made, filterAt, headAt, tailAt, Tail, another, closed, noTail, openList, negation}
+use Rattle.filter.specs.Answers.{filtersAt}
 use Rattle.filter.specs.Answers.{reportJoin, reportHead, reportTail}
 use Rattle.filter.specs.declared.Join.{Join}
 use Rattle.filter.specs.declared.Head.{Head}

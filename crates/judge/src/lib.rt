@@ -26,7 +26,7 @@ ghost use Rattle.assertion.specs.Assertion.{assertionAt};
 ghost use Rattle.assertion.specs.Places.{itemOf};
 ghost use Rattle.filter.specs.Filter.{item};
 ghost use Rattle.filter.specs.Parse as parsing;
-ghost use Rattle.filter.specs.Answers.{reportJoin};
+ghost use Rattle.filter.specs.Answers.{filtersAt, reportJoin};
 ghost use Rattle.trail.specs.Trail.{trail};
 ghost use Rattle.walk.specs.Run as run;
 ghost use Rattle.judge.specs.Assertion.{testing, outcome};
@@ -474,11 +474,11 @@ fn judge_list(
     n: usize,
 ) -> Judging
     requires ready { ⌜ work.Ready (tableLimits .chain) (now t) (now s) (now m) (now v) ⌝ }
-    requires read { ⌜ isSome (parsing.filtersAt (now f) at) ≡ true ⌝ }
+    requires read { ⌜ isSome (filtersAt (now f) at) ≡ true ⌝ }
     requires within { ⌜ n ≤ budget ⌝ }
     ensures { λ w. ⌜ w
         ≡ work.judgedFilters (outcome (rowType (now (t .entry)) (now (s .entry)) 0) (now (v .entry))) (reportJoin join) (work.begun live) budget n
-        (parsing.filtersAt (now (f .entry)) at) ⌝ }
+        (filtersAt (now (f .entry)) at) ⌝ }
 {
     let mut i = at;
     let mut k = n;

@@ -8,7 +8,8 @@ use borrow.Author.Tests.{leb-true, ltb-true, ltb-false, ne-eqb}
 use lib.Dec.{ltb, leb, eqb}
 use lib.ListN.{length}
 use Rattle.octets.specs.Pick.{pick, both, all}
-use Rattle.octets.specs.Octets.{octet, every, larger, highestFrom, same, below, nibble, paired}
+use Rattle.octets.specs.Octets.{octet, every, larger, same, below, nibble, paired}
+use Rattle.octets.specs.Answers.{highestFrom}
 use Rattle.octets.specs.Text.{isDigit, isNumber, decimalFrom, ontoFirst, pieces}
 use Rattle.octets.proofs.Laws.{both-true, pick-cases}
 

@@ -1,7 +1,8 @@
 -- The definitions of this crate, as one name for the `unfolding` line of a computed example.
 use Prim.Native.Nat.{ℕ}
 use Rattle.octets.specs.Pick.{all}
-use Rattle.octets.specs.Octets.{baseFrom, same, every, larger, highestFrom, below, paired}
+use Rattle.octets.specs.Octets.{baseFrom, same, every, larger, below, paired}
+use Rattle.octets.specs.Answers.{highestFrom}
 use Rattle.octets.specs.Text.{isDigit, isLower, isUpper, isLetter, isAlnum, mayFollow, nameFrom, isName, lower, starts, lead, skip}
 use Rattle.octets.specs.Text.{decimalFrom, isNumber, trimmed, pieces}
 use Rattle.octets.specs.Utf8.{afterFirst, after, utf8From, utf8}

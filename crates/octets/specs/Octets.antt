@@ -46,15 +46,6 @@ every f (b ∷ bs) = let r = every f bs in both (f b) r
 unfoldable pub larger : ℕ → ℕ → ℕ
 larger a b = pick (ltb a b) b a
 
--- the largest octet, or n where none is larger
-unfoldable pub highestFrom : ℕ → List ℕ → ℕ
-highestFrom n [] = n
-highestFrom n (b ∷ bs) = highestFrom (larger n b) bs
-
--- the largest octet, 0 where there is none
-abbrev pub highest : List ℕ → ℕ
-highest s = highestFrom 0 s
-
 -- a is less than b: from the first octet on; a proper prefix is less
 unfoldable pub below : List ℕ → List ℕ → Bool
 below [] [] = false

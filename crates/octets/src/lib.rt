@@ -6,7 +6,7 @@ ghost use Rattle.octets.specs.Octets as octets;
 ghost use Rattle.octets.specs.Text as text;
 ghost use Rattle.octets.specs.Utf8 as unicode;
 ghost use Rattle.octets.specs.Quoted.{closingAt, closing};
-ghost use Rattle.octets.specs.Answers.{clip, reportPlace, growOf};
+ghost use Rattle.octets.specs.Answers.{clip, reportPlace, growOf, highest};
 
 // A number of any size: below 2^64, or beyond.
 pub enum Size {
@@ -93,7 +93,7 @@ fn larger(a: u8, b: u8) -> u8
 
 // The largest octet, 0 where there is none. The loop has no early end, so that a machine can compare many octets at once.
 pub fn highest(s: &[u8]) -> u8
-    ensures { λ r. ⌜ r ≡ octets.highest (now (s .entry)) ⌝ }
+    ensures { λ r. ⌜ r ≡ highest (now (s .entry)) ⌝ }
 {
     let mut i = 0;
     let mut most = 0;

@@ -40,7 +40,3 @@ admittedRows l t s = both (rowsFormed (l .rows) (l .members) (l .name) t s) (bot
 
 unfoldable pub admitted : Limits → List ℕ → Bool
 admitted l t = admittedRows l t (rows (l .rows) t)
-
--- how many rows an admitted table has; 0 where it is not admitted
-unfoldable pub rowCount : Limits → List ℕ → ℕ
-rowCount l t = pick (admitted l t) (length (rows (l .rows) t)) 0

@@ -38,13 +38,6 @@ mutual
     noMore : Members
     more : Member → Ty → Members → Members
 
--- the kind of a type
-abbrev pub kindOf : Ty → ℕ
-kindOf (basic k) = k
-kindOf (sequence ms) = kind.sequence
-kindOf (choice ms) = kind.choice
-kindOf (listOf k ty) = k
-
 -- a name without its fill
 unfoldable pub unfilled : List ℕ → List ℕ
 unfilled [] = []

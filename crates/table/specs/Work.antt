@@ -15,6 +15,8 @@ use Rattle.groups.specs.Clauses.{memberPlace, mandatoryAt, defaultLegal}
 use Rattle.groups.specs.Work.{Later}
 use Rattle.table.specs.Types.{membersFrom, typed, typeFrom}
 use Rattle.table.specs.Begins.{begins}
+use Rattle.table.specs.Admitted.{admitted}
+use Rattle.rows.specs.Limits.{Limits}
 
 -- bit g of n is set
 unfoldable pub bitOf : ℕ → ℕ → Bool
@@ -84,3 +86,7 @@ pub record Sound (chain : ℕ) (t s m : List ℕ) : Type 0 where
 pub record Admits (most chain : ℕ) (t : List ℕ) (n : ℕ) (starts masks : List ℕ) : Type 0 where
   pub places : 0 < n → take n starts ≡ rows most t
   pub sets : 0 < n → Masked chain t (rows most t) masks
+
+-- how many rows an admitted table has; 0 where it is not admitted
+unfoldable pub rowCount : Limits → List ℕ → ℕ
+rowCount l t = pick (admitted l t) (length (rows (l .rows) t)) 0

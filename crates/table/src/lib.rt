@@ -227,7 +227,7 @@ fn admit_rows(t: &[u8], s: &[usize], m: &mut [u64]) -> bool
 pub fn admit_table(t: &[u8], starts: &mut [usize], masks: &mut [u64]) -> usize
     requires places { ⌜ length (now starts) ≡ (tableLimits .rows) ⌝ }
     requires sets { ⌜ length (now masks) ≡ (tableLimits .rows) ⌝ }
-    ensures count { λ r. ⌜ r ≡ admitted.rowCount tableLimits (now (t .entry)) ⌝ }
+    ensures count { λ r. ⌜ r ≡ work.rowCount tableLimits (now (t .entry)) ⌝ }
     ensures leaves { λ r. ⌜ work.Admits (tableLimits .rows) (tableLimits .chain) (now (t .entry)) r (now (starts .exit)) (now (masks .exit)) ⌝ }
 {
     let n = rows::scan(t, starts);

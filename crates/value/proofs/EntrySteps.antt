@@ -14,7 +14,8 @@ use Rattle.rows.specs.Limits.{Limits, tableFits}
 use Rattle.rows.specs.Paper.{tableLimits}
 use Rattle.rows.specs.Row.{rows}
 use Rattle.table.specs.Types.{untagged, taggingOf, Ty, typeFrom, typeAt}
-use Rattle.table.specs.Admitted.{admitted, rowCount}
+use Rattle.table.specs.Admitted.{admitted}
+use Rattle.table.specs.Work.{rowCount}
 use Rattle.table.specs.Work.{Sound, Admits}
 use Rattle.table.proofs.Laws.{row-count}
 use Rattle.table.proofs.SoundLaws.{sound}

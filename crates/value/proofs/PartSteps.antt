@@ -12,7 +12,8 @@ use Rattle.octets.specs.Octets.{part}
 use Rattle.octets.proofs.Laws.{part-past}
 use Rattle.value.specs.Limits.{Limits}
 use Rattle.value.specs.Check.{valueFits}
-use Rattle.value.specs.Part.{PartReport, refusedPart, partReport, unlessRefused}
+use Rattle.value.specs.Part.{PartReport, refusedPart, partReport}
+use Rattle.value.specs.Work.{unlessRefused}
 
 -- ---- the refusal
 module _ (l : Limits) (v : List ℕ) (place size : ℕ) (x : Bool) (fits : x ≡ valueFits l v) where

@@ -25,10 +25,6 @@ partReport l v place size =
     (pick (leb (place + size) (length v)) (record { refusal = 0; octets = part v place size }) (refusedPart 4))
     (refusedPart 1)
 
--- the octets that go with a refusal number: none, unless it is 0
-abbrev pub unlessRefused : ℕ → List ℕ → List ℕ
-unlessRefused n octets = pick (eqb n 0) octets []
-
 -- what the code's answer says
 abbrev pub report : ValuePart → PartReport
 report p = record { refusal = p .refusal; octets = now (p .octets) }

@@ -2,7 +2,7 @@
 use Prim.Native.Nat.{ℕ, zero, suc, _+_, _-_}
 use mathlib.Core.Bool.{Bool, true, false}
 use mathlib.Core.Option.{Option, none, some}
-use mathlib.Core.List.{List}
+use mathlib.Core.List.{List, []}
 use lib.Dec.{ltb, leb, eqb}
 use Rattle.octets.specs.Pick.{pick, both, either, bind, isSome}
 use Rattle.octets.specs.Octets.{octet, part, same}
@@ -110,3 +110,7 @@ orderAfter k v p (some xs) = either (eqb k kind.sequenceOf) (risingAfter v p xs)
 -- the octets from before to i, and from i to after, as neighbours in a list of kind k
 unfoldable pub neighbours : ℕ → List ℕ → ℕ → ℕ → ℕ → Bool
 neighbours k v before i after = either (eqb k kind.sequenceOf) (notAbove (part v before (i - before)) (part v i (after - i)))
+
+-- the octets that go with a refusal number: none, unless it is 0
+abbrev pub unlessRefused : ℕ → List ℕ → List ℕ
+unlessRefused n octets = pick (eqb n 0) octets []

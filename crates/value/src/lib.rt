@@ -492,7 +492,7 @@ fn part_refusal(value: &[u8], place: usize, length: usize) -> u8
 
 // The octets from a place on; none with a refusal.
 fn part_octets(value: &[u8], place: usize, length: usize, refusal: u8) -> &[u8]
-    ensures { λ r. ⌜ now r ≡ parts.unlessRefused refusal (part (now (value .entry)) place length) ⌝ }
+    ensures { λ r. ⌜ now r ≡ work.unlessRefused refusal (part (now (value .entry)) place length) ⌝ }
 {
     if refusal == 0 {
         return octets::part(value, place, length);

@@ -39,7 +39,8 @@ use denote.Exit.{yes}
 use denote.Triple.Clauses.{atExit, ensured, lasts}
 use Rattle.octets.specs.Octets as octets
 use Rattle.value.specs.Paper.{valueLimits}
-use Rattle.value.specs.Part.{partReport, unlessRefused, report}
+use Rattle.value.specs.Part.{partReport, report}
+use Rattle.value.specs.Work.{unlessRefused}
 use Rattle.value.specs.declared.ValuePart.{ValuePart}
 use Rattle.value.proofs.PartSteps.{reported}
 use Rattle.value.proofs.ValuePart as T
