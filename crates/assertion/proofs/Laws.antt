@@ -13,13 +13,13 @@ use Rattle.octets.specs.Pick.{pick, no, bind}
 use Rattle.octets.specs.Octets.{octet, part, between}
 use Rattle.octets.specs.Text.{starts, trimmed}
 use Rattle.octets.specs.Quoted.{closing, closingAt}
-use Rattle.octets.specs.Answers.{reportPlace}
+use Rattle.octets.specs.inner.Answers.{reportPlace}
 use Rattle.octets.specs.declared.Place.{Place}
 use Rattle.octets.proofs.Laws.{both-true, rest-length}
 use Rattle.assertion.specs.Spaces.{openBrace, closeBrace, comma}
 use Rattle.assertion.specs.ValueText.{braceFrom, braceAt}
 use Rattle.assertion.specs.Assertion.{commaFrom}
-use Rattle.assertion.specs.Places.{wordAt}
+use Rattle.assertion.specs.inner.Places.{wordAt}
 
 -- ---- what there is, or nothing
 pub some-is : {A : Type 0} {a b : A} → some a ≡ some b → a ≡ b

@@ -17,7 +17,7 @@ use Rattle.assertion.specs.Item.{Item}
 use Rattle.assertion.specs.Spaces.{labelAt, markAt, comma, openBrace}
 use Rattle.assertion.specs.ValueText.{ValueText, braceAt, notEmpty, valueTextAt}
 use Rattle.assertion.specs.Assertion.{Read, readTo, followed, ifLabelled, quotedPart, componentAt, truthPart, defaultsAt, isRule, commaFrom, ruleAt, valueAt, assertionAt}
-use Rattle.assertion.specs.Work.{ruleUpTo, ruleFrom, withValue, withRule, valuesAt, withDefaults, withComponent, partsAt}
+use Rattle.assertion.specs.inner.Work.{ruleUpTo, ruleFrom, withValue, withRule, valuesAt, withDefaults, withComponent, partsAt}
 use Rattle.assertion.proofs.Laws.{some-is, none-not, if-some, bind-some, brace-within, comma-within, closing-within}
 
 -- ---- spaces

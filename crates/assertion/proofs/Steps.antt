@@ -12,14 +12,14 @@ use Rattle.octets.specs.Pick.{no}
 use Rattle.octets.specs.Octets.{octet, part, between, every, bytes}
 use Rattle.octets.specs.Text.{isLower, isUpper, isLetter, isAlnum, starts, skip, trimmed}
 use Rattle.octets.specs.Quoted.{closingAt, characters}
-use Rattle.octets.specs.Answers.{reportPlace}
+use Rattle.octets.specs.inner.Answers.{reportPlace}
 use Rattle.octets.specs.declared.Place.{Place}
 use Rattle.octets.proofs.Laws.{octet-past, rest-cons, rest-none}
 use Rattle.assertion.specs.Spaces.{labelAt, markAt}
 use Rattle.assertion.specs.ValueText.{braceFrom, braceAt, valueTextAt}
 use Rattle.assertion.specs.Assertion.{readTo, followed, quotedPart, componentAt, truthPart, defaultsAt, commaFrom, isNameLetter, isRuleName, isRule, ruleAt, valueAt, assertionAt}
-use Rattle.assertion.specs.Work.{ruleFrom, valuesAt, partsAt}
-use Rattle.assertion.specs.Places.{wordAt, withinQuotes, componentOf, reportComponentPart, reportDefaultsPart, reportRulePart, reportValuePart, reportAssertion}
+use Rattle.assertion.specs.inner.Work.{ruleFrom, valuesAt, partsAt}
+use Rattle.assertion.specs.inner.Places.{wordAt, withinQuotes, componentOf, reportComponentPart, reportDefaultsPart, reportRulePart, reportValuePart, reportAssertion}
 use Rattle.assertion.specs.declared.ComponentPart.{ComponentPart}
 use Rattle.assertion.specs.declared.DefaultsPart.{DefaultsPart}
 use Rattle.assertion.specs.declared.RulePart.{RulePart}

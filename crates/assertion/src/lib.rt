@@ -4,13 +4,13 @@ ghost use mathlib.Core.Path.{_≡_};
 ghost use Prim.Native.Nat.{_<_};
 ghost use lib.ListN.{length, drop};
 ghost use Rattle.octets.specs.Octets.{every};
-ghost use Rattle.octets.specs.Answers.{reportPlace};
+ghost use Rattle.octets.specs.inner.Answers.{reportPlace};
 ghost use Rattle.octets.specs.Text.{trimmed};
 ghost use Rattle.assertion.specs.Spaces as spaces;
 ghost use Rattle.assertion.specs.ValueText as text;
 ghost use Rattle.assertion.specs.Assertion as assertion;
-ghost use Rattle.assertion.specs.Work as work;
-ghost use Rattle.assertion.specs.Places as places;
+ghost use Rattle.assertion.specs.inner.Work as work;
+ghost use Rattle.assertion.specs.inner.Places as places;
 
 // The component reference: missing, or quoted, with the places of its two quotes.
 pub enum Component {

@@ -13,7 +13,7 @@ use Rattle.octets.proofs.Laws.{rest-cons, rest-none}
 use Rattle.octets.proofs.TextLaws.{same-nil, same-shorter, same-longer, same-cons}
 use Rattle.der.specs.Meaning.{bitsOf}
 use Rattle.binary.specs.Asserted.{digits, isBitText, hexBits, textBits, assertedBits}
-use Rattle.binary.specs.Answers.{hexFrom, restBits, reportBit, isEnd, bitIn, bitsIn}
+use Rattle.binary.specs.inner.Answers.{hexFrom, restBits, reportBit, isEnd, bitIn, bitsIn}
 use Rattle.binary.specs.declared.Quarter.{Quarter}
 use Rattle.binary.specs.declared.Bits.{Bits}
 use Rattle.binary.specs.declared.BitStep.{BitStep}

@@ -12,7 +12,7 @@ use Rattle.octets.specs.Octets.{octet, part, every, same, below, nibble, paired
 use Rattle.octets.proofs.Laws.{rest-cons, rest-none}
 use Rattle.octets.proofs.TextLaws.{same-nil, same-shorter, same-longer, same-cons, below-nil, below-shorter, below-longer-list, below-cons, paired-nil, paired-one, paired-two}
 use Rattle.binary.specs.Asserted.{inQuotes, digits, isHexDigit, isBit, isHexString, isBitText, isOctets, assertedOctets, isBits}
-use Rattle.binary.specs.Answers.{ordered, isSame, isLess, reportPair}
+use Rattle.binary.specs.inner.Answers.{ordered, isSame, isLess, reportPair}
 use Rattle.binary.specs.declared.Order.{Order}
 use Rattle.binary.specs.declared.Pair.{Pair}
 

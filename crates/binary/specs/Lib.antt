@@ -1,3 +1,3 @@
 pub mod Asserted
-pub mod Answers
+pub mod inner
 pub mod Examples

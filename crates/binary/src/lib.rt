@@ -7,7 +7,7 @@ ghost use Rattle.octets.specs.Pick.{both};
 ghost use Rattle.octets.specs.Octets as octets;
 ghost use Rattle.der.specs.Meaning.{bitsOf};
 ghost use Rattle.binary.specs.Asserted as asserted;
-ghost use Rattle.binary.specs.Answers as answers;
+ghost use Rattle.binary.specs.inner.Answers as answers;
 
 pub enum Order {
     Less,

@@ -15,7 +15,7 @@ use Rattle.value.specs.Value.{Spot, spotOf, Value, leaf, fields, chosen, elemen
 use Rattle.value.specs.Decode.{storedValue}
 use Rattle.value.proofs.Decodes.{Decodes, is-basic, is-sequence, is-choice, is-list, Tagged, bare, filling}
 use Rattle.value.proofs.Decodes.{Fielded, none-left, there, lacks, Chosen, this, other, Elements, ends, goes, decodes-stored}
-use Rattle.reader.specs.Sees.{Sees, SeesAll, SeesFields, SeesElements}
+use Rattle.reader.specs.inner.Sees.{Sees, SeesAll, SeesFields, SeesElements}
 use Rattle.reader.proofs.Laws.{stored-seen}
 use Rattle.reference.specs.Reference.{Index, position, fromEnd, count, all, Id, name, index}
 use Rattle.reference.specs.Named as names

@@ -18,7 +18,7 @@ use Rattle.der.specs.Tag.{form, universal, ownOctet, implicitOctet, wrap
 use Rattle.der.specs.Contents.{legal}
 use Rattle.der.specs.Meaning.{integerOf, booleanOf, octetBits, allBits, bitsOf}
 use Rattle.der.specs.Order.{notAbove}
-use Rattle.der.specs.Answers.{reportInteger}
+use Rattle.der.specs.inner.Answers.{reportInteger}
 
 -- ---- tag octets
 pub own-is : (k a b x y : ℕ) → a ≡ form k → x ≡ a → b ≡ universal k → y ≡ b → x + y ≡ ownOctet k

@@ -15,7 +15,7 @@ use Rattle.octets.specs.Octets.{octet}
 use Rattle.octets.specs.Text.{within}
 use Rattle.octets.proofs.Laws.{rest-cons, rest-none}
 use Rattle.der.specs.Contents.{subsFrom, subidentifiers, legalSubs, legalOid}
-use Rattle.der.specs.Answers.{reportSub, Forward}
+use Rattle.der.specs.inner.Answers.{reportSub, Forward}
 use Rattle.der.specs.declared.Sub.{Sub}
 
 -- (v << 7) | (o & 127), where the shift loses nothing

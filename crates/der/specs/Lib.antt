@@ -6,6 +6,6 @@ pub mod Time
 pub mod Meaning
 pub mod Dotted
 pub mod Order
-pub mod Answers
+pub mod inner
 pub mod Computing
 pub mod Examples

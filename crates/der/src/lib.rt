@@ -10,7 +10,7 @@ ghost use Rattle.der.specs.Contents as contents;
 ghost use Rattle.der.specs.Time as time;
 ghost use Rattle.der.specs.Meaning as meaning;
 ghost use Rattle.der.specs.Order.{notAbove};
-ghost use Rattle.der.specs.Answers.{reportInteger, reportSub, Forward};
+ghost use Rattle.der.specs.inner.Answers.{reportInteger, reportSub, Forward};
 
 // A tag octet in parts: its class, whether it is constructed (1 or 0), its number.
 struct Tag {

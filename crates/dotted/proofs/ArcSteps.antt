@@ -11,12 +11,12 @@ use lib.ListN.{length, drop}
 use Rattle.octets.specs.Pick.{pick}
 use Rattle.octets.specs.Octets.{octet, every}
 use Rattle.octets.specs.Text.{isDigit, isNumber, decimalFrom, ontoFirst, pieces}
-use Rattle.octets.specs.Answers.{clip, growOf}
+use Rattle.octets.specs.inner.Answers.{clip, growOf}
 use Rattle.octets.specs.declared.Size.{Size}
 use Rattle.octets.proofs.Laws.{rest-cons, rest-none}
 use Rattle.octets.proofs.TextLaws.{every-nil, every-cons, decimal-nil, decimal-cons, number-nil, number-cons, pieces-nil, pieces-cons}
 use Rattle.octets.proofs.Steps.{grow-clip}
-use Rattle.dotted.specs.Arcs.{moreDigit, firstDigit, afterDigit, isFormed, addDigit, arcOf, arcFrom, arcAt, restPieces}
+use Rattle.dotted.specs.inner.Arcs.{moreDigit, firstDigit, afterDigit, isFormed, addDigit, arcOf, arcFrom, arcAt, restPieces}
 use Rattle.dotted.specs.declared.Form.{Form}
 use Rattle.dotted.specs.declared.Digits.{Digits}
 use Rattle.dotted.specs.declared.Dots.{Dots}

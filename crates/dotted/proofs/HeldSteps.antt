@@ -11,19 +11,19 @@ use lib.ListN.{length, drop}
 use Rattle.octets.specs.Pick.{pick, both, consed}
 use Rattle.octets.specs.Octets.{same}
 use Rattle.octets.specs.Text.{decimalFrom}
-use Rattle.octets.specs.Answers.{clip}
+use Rattle.octets.specs.inner.Answers.{clip}
 use Rattle.octets.specs.declared.Size.{Size}
 use Rattle.octets.proofs.TextLaws.{same-nil, same-shorter, same-longer, same-cons}
 use Rattle.octets.proofs.Laws.{never}
 use Rattle.der.specs.Contents.{subidentifiers}
 use Rattle.der.specs.Meaning.{arcsFrom, arcsOf}
 use Rattle.der.specs.Dotted.{dottedArcs}
-use Rattle.der.specs.Answers.{reportSub}
+use Rattle.der.specs.inner.Answers.{reportSub}
 use Rattle.der.specs.declared.Sub.{Sub}
 use Rattle.der.proofs.DottedLaws.{arcs-pieces}
 use Rattle.der.proofs.MeaningLaws.{arcs-subs}
-use Rattle.dotted.specs.Arcs.{arcAt, restPieces}
-use Rattle.dotted.specs.Held.{splitFirst, restHeld, reportHeld, firstStep, isOver, sameArc, restArcs, matches}
+use Rattle.dotted.specs.inner.Arcs.{arcAt, restPieces}
+use Rattle.dotted.specs.inner.Held.{splitFirst, restHeld, reportHeld, firstStep, isOver, sameArc, restArcs, matches}
 use Rattle.dotted.specs.declared.Dots.{Dots}
 use Rattle.dotted.specs.declared.Arc.{Arc}
 use Rattle.dotted.specs.declared.Held.{Held}

@@ -9,12 +9,12 @@ use lib.Dec.{ltb, leb, eqb}
 use lib.ListN.{length, drop}
 use Rattle.octets.specs.Pick.{pick, both, either}
 use Rattle.octets.specs.Text.{decimalFrom, pieces}
-use Rattle.octets.specs.Answers.{clip}
+use Rattle.octets.specs.inner.Answers.{clip}
 use Rattle.octets.specs.declared.Size.{Size}
 use Rattle.octets.proofs.Laws.{never}
 use Rattle.der.specs.Dotted.{everyNumber, rooted, isDotted}
 use Rattle.der.proofs.DottedLaws.{numbers-nil, numbers-cons, dotted-pieces}
-use Rattle.dotted.specs.Arcs.{arcAt, restPieces, areRoots, underRoot, dottedUnder}
+use Rattle.dotted.specs.inner.Arcs.{arcAt, restPieces, areRoots, underRoot, dottedUnder}
 use Rattle.dotted.specs.declared.Dots.{Dots}
 use Rattle.dotted.specs.declared.Arc.{Arc}
 use Rattle.dotted.proofs.ArcSteps.{Headed, arc-headed}

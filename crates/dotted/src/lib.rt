@@ -8,8 +8,8 @@ ghost use Rattle.octets.specs.Octets.{same};
 ghost use Rattle.octets.specs.Text.{pieces};
 ghost use Rattle.der.specs.Dotted.{everyNumber, dottedArcs, isDotted};
 ghost use Rattle.der.specs.Meaning.{arcsOf};
-ghost use Rattle.dotted.specs.Arcs as arcs;
-ghost use Rattle.dotted.specs.Held as held;
+ghost use Rattle.dotted.specs.inner.Arcs as arcs;
+ghost use Rattle.dotted.specs.inner.Held as held;
 
 // What the digits of an arc are so far: none, a single 0, a number without a leading 0, or no number.
 pub enum Form {

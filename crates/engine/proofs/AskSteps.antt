@@ -14,8 +14,8 @@ use Rattle.rows.specs.Limits.{tableFits}
 use Rattle.rows.specs.Paper.{tableLimits}
 use Rattle.rows.specs.Row.{rows}
 use Rattle.table.specs.Types.{Ty, typeFrom, typeAt}
-use Rattle.table.specs.Work.{rowCount}
-use Rattle.table.specs.Work.{Sound, Admits}
+use Rattle.table.specs.inner.Work.{rowCount}
+use Rattle.table.specs.inner.Work.{Sound, Admits}
 use Rattle.value.specs.Paper.{valueLimits}
 use Rattle.value.specs.Decode.{storedValue}
 use Rattle.value.specs.Check.{valueFits}
@@ -24,7 +24,7 @@ use Rattle.assertion.specs.Assertion.{Read}
 use Rattle.filter.specs.Filter.{Filter}
 use Rattle.filter.specs.Parse.{filterFits, filterAt, parse}
 use Rattle.filter.specs.Paper.{filterLimits}
-use Rattle.filter.specs.Answers as filter
+use Rattle.filter.specs.inner.Answers as filter
 use Rattle.filter.specs.Paper.{filterLimits}
 use Rattle.filter.specs.declared.Filter as declared
 use Rattle.filter.specs.declared.Reading.{Reading}
@@ -32,12 +32,12 @@ use Rattle.filter.proofs.Laws.{parse-read, counted-some, counted-none}
 use Rattle.judge.specs.Truth.{TRUE, FALSE, UNDEFINED}
 use Rattle.judge.specs.Reading.{Outcome, settled, misfitAfter, reading}
 use Rattle.judge.specs.Assertion.{outcome}
-use Rattle.judge.specs.Work.{NamesDiffer, Ready, charged, judgedText}
+use Rattle.judge.specs.inner.Work.{NamesDiffer, Ready, charged, judgedText}
 use Rattle.judge.proofs.Names.{names-apart}
 use Rattle.judge.specs.declared.Verdict.{Verdict}
 use Rattle.judge.specs.declared.Judged.{Judged}
 use Rattle.engine.specs.Answer.{Report, refused, budgeted, questionFits, evaluated, withFilter, questionOf, askReport, report}
-use Rattle.engine.specs.Judged.{settledAs, judgedReport}
+use Rattle.engine.specs.inner.Judged.{settledAs, judgedReport}
 use Rattle.engine.specs.Paper.{limits}
 use Rattle.engine.specs.declared.Answer.{Answer}
 

@@ -16,18 +16,18 @@ use Rattle.octets.proofs.Laws.{both-true}
 use Rattle.rows.specs.Limits.{tableFits}
 use Rattle.rows.specs.Paper.{tableLimits}
 use Rattle.table.specs.Types.{Ty, typeFrom, typeAt}
-use Rattle.table.specs.Work.{rowCount}
-use Rattle.table.specs.Work.{Admits}
+use Rattle.table.specs.inner.Work.{rowCount}
+use Rattle.table.specs.inner.Work.{Admits}
 use Rattle.value.specs.Paper.{valueLimits}
 use Rattle.value.specs.Decode.{storedValue}
 use Rattle.value.specs.Check.{valueFits}
 use Rattle.value.proofs.EntrySteps.{not-admitted, is-admitted, rows-are}
 use Rattle.reference.specs.Reference.{Id, readReference, givenIds}
 use Rattle.reference.specs.Allowed.{allowed}
-use Rattle.reference.specs.Work.{reportTarget, leadsTo}
+use Rattle.reference.specs.inner.Work.{reportTarget, leadsTo}
 use Rattle.reference.specs.declared.Target.{Target}
 use Rattle.trail.specs.Trail.{Trail, trail, hasMisfit, reached}
-use Rattle.walk.specs.Run.{seen, run, idsOr}
+use Rattle.walk.specs.inner.Run.{seen, run, idsOr}
 use Rattle.walk.specs.declared.State.{State}
 use Rattle.walk.specs.declared.Task.{Task}
 use Rattle.walk.proofs.State as state

@@ -1,6 +1,6 @@
 pub mod Limits
 pub mod Answer
-pub mod Judged
+pub mod inner
 pub mod Listing
 pub mod Computing
 pub mod Paper

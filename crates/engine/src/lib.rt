@@ -15,21 +15,21 @@ ghost use mathlib.Core.List.{[]};
 ghost use Prim.Native.Nat.{_≤_, _<_, _+_, _/_};
 ghost use lib.ListN.{length};
 ghost use Rattle.octets.specs.Pick.{pick, isSome};
-ghost use Rattle.table.specs.Work.{Sound};
+ghost use Rattle.table.specs.inner.Work.{Sound};
 ghost use Rattle.reference.specs.Reference.{readReference, givenIds};
-ghost use Rattle.reference.specs.Work.{leadsTo};
+ghost use Rattle.reference.specs.inner.Work.{leadsTo};
 ghost use Rattle.trail.specs.Trail.{trail};
-ghost use Rattle.walk.specs.Run.{idsOr};
+ghost use Rattle.walk.specs.inner.Run.{idsOr};
 ghost use Rattle.filter.specs.Parse.{filterAt, parse};
 ghost use Rattle.filter.specs.Paper.{filterLimits};
 ghost use Rattle.judge.specs.Assertion.{outcome};
-ghost use Rattle.judge.specs.Work.{NamesDiffer, Ready, judgedText};
+ghost use Rattle.judge.specs.inner.Work.{NamesDiffer, Ready, judgedText};
 ghost use Rattle.engine.specs.Answer as answer;
-ghost use Rattle.engine.specs.Judged.{settledAs, judgedReport};
+ghost use Rattle.engine.specs.inner.Judged.{settledAs, judgedReport};
 ghost use Rattle.engine.specs.Listing.{report, lists, walked, referenceFits, listingFits, withIds, listingOf, listReport, listing};
 ghost use Rattle.engine.specs.Paper.{limits};
 ghost use Rattle.rows.specs.Paper.{tableLimits};
-ghost use Rattle.table.specs.Rows.{rowType};
+ghost use Rattle.table.specs.inner.Rows.{rowType};
 
 // The answer of the listing: the number of named values, or a refusal.
 pub enum Listed {

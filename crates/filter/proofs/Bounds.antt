@@ -15,7 +15,7 @@ use Rattle.assertion.specs.Item.{Item}
 use Rattle.assertion.specs.Assertion.{Read, readTo}
 use Rattle.filter.specs.Filter.{Join, Filter, Filters, item, list, inverse, endFilters, next, depth, depthIn, items, itemsIn}
 use Rattle.filter.specs.Parse.{made, byTail, another, closed, noTail, Tail, afterFirst, tailAt}
-use Rattle.filter.specs.Answers.{fitting, bounded, boundedIn}
+use Rattle.filter.specs.inner.Answers.{fitting, bounded, boundedIn}
 use Rattle.filter.specs.declared.Span.{Span}
 
 -- ---- tests that say the same

@@ -18,8 +18,8 @@ use Rattle.assertion.proofs.Progress.{Further}
 use Rattle.filter.specs.Limits.{Limits}
 use Rattle.filter.specs.Filter.{Filter, Filters, endFilters, next, depth, items}
 use Rattle.filter.specs.Parse.{Head, headAt, Tail, another, closed, noTail, tailAt, made, byHead, byTail, afterFirst, filterFrom, filtersFrom, filterAt, ifWhole, withinLimits, whole, parse, parseWithin}
-use Rattle.filter.specs.Answers.{filtersAt}
-use Rattle.filter.specs.Answers.{itemsOf}
+use Rattle.filter.specs.inner.Answers.{filtersAt}
+use Rattle.filter.specs.inner.Answers.{itemsOf}
 use Rattle.filter.proofs.Progress.{read-on, from-on, head-on, same-head, same-first, same-filter, same-filters}
 
 -- ---- equations

@@ -12,22 +12,22 @@ use Rattle.octets.specs.Pick.{pick, both, bind}
 use Rattle.octets.specs.Octets.{octet, bytes}
 use Rattle.octets.specs.Text.{skip}
 use Rattle.octets.specs.Utf8.{utf8}
-use Rattle.octets.specs.Answers.{reportPlace}
+use Rattle.octets.specs.inner.Answers.{reportPlace}
 use Rattle.octets.specs.declared.Place.{Place}
 use Rattle.octets.proofs.Laws.{octet-past}
 use Rattle.assertion.specs.Spaces.{markAt}
 use Rattle.assertion.specs.Assertion.{Read, assertionAt}
-use Rattle.assertion.specs.Places.{wordAt, reportAssertion}
+use Rattle.assertion.specs.inner.Places.{wordAt, reportAssertion}
 use Rattle.assertion.specs.declared.Assertion.{Assertion}
 use Rattle.assertion.specs.declared.Parts.{Parts}
 use Rattle.assertion.proofs.Laws.{at-place, at-none, word-there, word-not}
 use Rattle.filter.specs.Filter as filter
 use Rattle.filter.specs.Filter.{Filter, item, depth, items}
 use Rattle.filter.specs.Parse.{inBraces, headAt, tailAt, made, byTail, filterAt, ifWhole, withinLimits, whole, parse, parseWithin, assertion, emptyList, openList, negation, noHead, another, closed, noTail}
-use Rattle.filter.specs.Answers.{filtersAt}
+use Rattle.filter.specs.inner.Answers.{filtersAt}
 use Rattle.filter.specs.Limits.{Limits}
 use Rattle.filter.specs.Paper.{filterLimits}
-use Rattle.filter.specs.Answers.{reportJoin, reportHead, reportTail, bounded, boundedIn, itemsOf}
+use Rattle.filter.specs.inner.Answers.{reportJoin, reportHead, reportTail, bounded, boundedIn, itemsOf}
 use Rattle.filter.proofs.Progress.{TailOn, tail-on}
 use Rattle.filter.proofs.Laws.{filters-step, filter-further, filter-by, filters-by}
 use Rattle.filter.proofs.Bounds.{bounded-none, bounded-item, bounded-empty, bounded-list, bounded-negation, bounded-of, bad-first, bounded-more, bounded-last}

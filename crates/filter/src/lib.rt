@@ -6,7 +6,7 @@ ghost use Rattle.assertion.specs.Spaces.{markAt, openBrace};
 ghost use Rattle.assertion.specs.Assertion.{assertionAt};
 ghost use Rattle.filter.specs.Filter.{item};
 ghost use Rattle.filter.specs.Parse as parsing;
-ghost use Rattle.filter.specs.Answers as answers;
+ghost use Rattle.filter.specs.inner.Answers as answers;
 ghost use Rattle.filter.specs.Paper.{filterLimits};
 
 // A filter: how many items it has, and the limits of every filter.

@@ -16,7 +16,7 @@ use Rattle.octets.specs.Octets.{octet, two, larger}
 use Rattle.octets.proofs.Laws.{all-cong, all-is, all-not}
 use Rattle.rows.specs.Row.{kindAt, rowAt, isList, elementAt, membersAt}
 use Rattle.groups.specs.Clauses.{everyRow, pointsLater, membersStand, memberPlace, ofMember, chainFits}
-use Rattle.groups.specs.Work.{memberType, memberDepth, tallest, deepest, Later}
+use Rattle.groups.specs.inner.Work.{memberType, memberDepth, tallest, deepest, Later}
 use Rattle.groups.proofs.LaterSteps.{is-later}
 use Rattle.rows.specs.Paper.{tableLimits}
 

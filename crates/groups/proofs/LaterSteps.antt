@@ -13,7 +13,7 @@ use Rattle.octets.specs.Pick.{pick}
 use Rattle.octets.proofs.Laws.{both-true, all-at}
 use Rattle.rows.specs.Row.{kindAt, rowAt, isGroup, isList, elementAt, typeRowAt, membersAt}
 use Rattle.groups.specs.Clauses.{everyRow, isType, laterType, pointsLater, standing, membersStand, memberPlace}
-use Rattle.groups.specs.Work.{memberType, Later}
+use Rattle.groups.specs.inner.Work.{memberType, Later}
 
 pick-true : (b x y : Bool) → pick b x y ≡ true → ((b ≡ true) × (x ≡ true)) ⊎ ((b ≡ false) × (y ≡ true))
 pick-true true x y e = inl (refl, e)

@@ -15,7 +15,7 @@ use Rattle.der.specs.Contents.{legal}
 use Rattle.rows.specs.Row.{rowAt, membersAt, isList, defaultAt}
 use Rattle.rows.specs.Body.{rowFormed}
 use Rattle.groups.specs.Clauses.{bodyFormed, isType, laterType, pointsLater, standing, membersStand, memberPlace, sameName, differsFrom, newName, namesDiffer, mandatoryAt, alternativesMandatory, typeKind, noImplicitChoice, defaultAllowed, defaultLegal}
-use Rattle.groups.specs.Work.{membersAgreeAt, rowAgrees}
+use Rattle.groups.specs.inner.Work.{membersAgreeAt, rowAgrees}
 
 pub not-no : (t : Bool) → not t ≡ no t
 not-no true = refl

@@ -1,3 +1,3 @@
 pub mod Clauses
-pub mod Work
+pub mod inner
 pub mod Computing

@@ -7,7 +7,7 @@ ghost use Rattle.octets.specs.Pick.{all};
 ghost use Rattle.octets.specs.Octets.{larger};
 ghost use Rattle.rows.specs.Row as row;
 ghost use Rattle.groups.specs.Clauses as clause;
-ghost use Rattle.groups.specs.Work as work;
+ghost use Rattle.groups.specs.inner.Work as work;
 ghost use Rattle.rows.specs.Paper.{tableLimits};
 
 // ---- bodies

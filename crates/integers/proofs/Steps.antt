@@ -10,15 +10,15 @@ use lib.ListN.{length, drop}
 use Rattle.octets.specs.Pick.{pick, both, no}
 use Rattle.octets.specs.Octets.{octet, part, same, bytes}
 use Rattle.octets.specs.Text.{isNumber, decimal}
-use Rattle.octets.specs.Answers.{clip}
+use Rattle.octets.specs.inner.Answers.{clip}
 use Rattle.octets.specs.declared.Size.{Size}
 use Rattle.octets.proofs.Laws.{part-rest}
 use Rattle.der.specs.Meaning.{Whole, sameWhole, lessWhole, integerOf}
-use Rattle.der.specs.Answers.{reportInteger}
+use Rattle.der.specs.inner.Answers.{reportInteger}
 use Rattle.der.specs.declared.Integer.{Integer}
 use Rattle.der.proofs.MeaningLaws.{same-whole, less-whole}
 use Rattle.integers.specs.Asserted.{isMinus, isInteger, assertedInteger}
-use Rattle.integers.specs.Answers.{heldOf, sameSize, aboveSize, belowSize}
+use Rattle.integers.specs.inner.Answers.{heldOf, sameSize, aboveSize, belowSize}
 use Rattle.integers.specs.declared.Asked.{Asked}
 
 pub after-first-is : (t r : List ℕ) → r ≡ part t 1 (length t) → r ≡ drop 1 t

@@ -10,7 +10,7 @@ ghost use Rattle.octets.specs.Octets.{same, bytes};
 ghost use Rattle.octets.specs.Text.{isNumber};
 ghost use Rattle.der.specs.Meaning.{sameWhole, lessWhole, integerOf};
 ghost use Rattle.integers.specs.Asserted as asserted;
-ghost use Rattle.integers.specs.Answers as answers;
+ghost use Rattle.integers.specs.inner.Answers as answers;
 
 // An asserted integer: its sign and size.
 pub struct Asked {

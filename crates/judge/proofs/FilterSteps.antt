@@ -10,14 +10,14 @@ use lib.ListN.{length}
 use Rattle.octets.specs.Pick.{isSome}
 use Rattle.table.specs.Types.{Ty}
 use Rattle.assertion.specs.Assertion.{Read, assertionAt}
-use Rattle.assertion.specs.Places.{itemOf, reportAssertion}
+use Rattle.assertion.specs.inner.Places.{itemOf, reportAssertion}
 use Rattle.assertion.specs.declared.Assertion.{Assertion}
 use Rattle.assertion.specs.declared.Parts.{Parts}
 use Rattle.filter.specs.Filter as filter
 use Rattle.filter.specs.Filter.{Item, item, list, inverse as invert, Filter, Filters, endFilters, next}
 use Rattle.filter.specs.Parse.{made, filterAt, headAt, tailAt, Tail, another, closed, noTail, openList, negation}
-use Rattle.filter.specs.Answers.{filtersAt}
-use Rattle.filter.specs.Answers.{reportJoin, reportHead, reportTail}
+use Rattle.filter.specs.inner.Answers.{filtersAt}
+use Rattle.filter.specs.inner.Answers.{reportJoin, reportHead, reportTail}
 use Rattle.filter.specs.declared.Join.{Join}
 use Rattle.filter.specs.declared.Head.{Head}
 use Rattle.filter.specs.declared.Tail as tail
@@ -25,7 +25,7 @@ use Rattle.filter.proofs.Laws.{filter-by, read-first, read-another, read-closed
 use Rattle.filter.proofs.Progress.{HeadOn, head-on, TailOn, tail-on}
 use Rattle.judge.specs.Reading.{Outcome, settled, ofNone, andThen, reading, readingIn}
 use Rattle.judge.specs.Assertion.{outcome}
-use Rattle.judge.specs.Work.{charged, placed, inverse, judgedIf, judgedFilter, judgedRest, judgedFilters, begun, goesOn, behind, stopsAt, isUndefined, joinedBy, atEnd, turnedBy, turned, judgedText}
+use Rattle.judge.specs.inner.Work.{charged, placed, inverse, judgedIf, judgedFilter, judgedRest, judgedFilters, begun, goesOn, behind, stopsAt, isUndefined, joinedBy, atEnd, turnedBy, turned, judgedText}
 use Rattle.judge.specs.declared.Verdict.{Verdict}
 use Rattle.judge.specs.declared.Judged.{Judged}
 use Rattle.judge.specs.declared.Judging.{Judging}

@@ -25,11 +25,11 @@ use Rattle.rules.specs.Rule.{Syntax, booleans, integers, objectIdentifiers, oct
 use Rattle.rules.specs.Suits.{suits, suitsTarget}
 use Rattle.rules.specs.Asserted.{conformsTo, conforms}
 use Rattle.rules.specs.Accepts.{acceptsContents, accepts}
-use Rattle.rules.specs.Answers.{isRead, isReadBy}
+use Rattle.rules.specs.inner.Answers.{isRead, isReadBy}
 use Rattle.rules.proofs.Laws.{read-basic, read-choice}
 use Rattle.trail.specs.Trail.{trail}
 use Rattle.trail.proofs.Agreeing.{laid, trail-named}
-use Rattle.walk.specs.Run.{acceptsRead}
+use Rattle.walk.specs.inner.Run.{acceptsRead}
 use Rattle.judge.specs.Truth.{TRUE}
 use Rattle.judge.specs.Reading.{settled}
 use Rattle.judge.specs.Assertion.{testing}

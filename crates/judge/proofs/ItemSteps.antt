@@ -10,13 +10,13 @@ use lib.ListN.{length}
 use Rattle.octets.specs.Pick.{pick, both, bind, isSome}
 use Rattle.octets.specs.Octets.{between}
 use Rattle.table.specs.Types.{Ty, typeFrom}
-use Rattle.table.specs.Work.{Sound}
+use Rattle.table.specs.inner.Work.{Sound}
 use Rattle.value.specs.Decode.{storedValue}
 use Rattle.value.proofs.Views.{none-some}
 use Rattle.reference.specs.Reference.{Id, identifiers, givenIds}
 use Rattle.reference.specs.Allowed as allowed
 use Rattle.reference.specs.Allowed.{ofCount}
-use Rattle.reference.specs.Work.{reportTarget, rowWithin, leadsTo}
+use Rattle.reference.specs.inner.Work.{reportTarget, rowWithin, leadsTo}
 use Rattle.reference.proofs.Laws.{row-here}
 use Rattle.reference.specs.declared.Target.{Target}
 use Rattle.rules.specs.Rule as rule
@@ -24,7 +24,7 @@ use Rattle.rules.specs.Rule.{ruleOf}
 use Rattle.rules.specs.Suits.{suits}
 use Rattle.rules.specs.Asserted.{conforms}
 use Rattle.rules.specs.RuleFor.{ruleFor}
-use Rattle.rules.specs.Answers.{meant, reportRule, ruleSuitsRow}
+use Rattle.rules.specs.inner.Answers.{meant, reportRule, ruleSuitsRow}
 use Rattle.rules.specs.declared.Rule.{Rule}
 use Rattle.rules.specs.declared.Named.{Named}
 use Rattle.rules.proofs.Laws.{suits-row, rule-for-view}
@@ -33,14 +33,14 @@ use Rattle.octets.specs.Quoted.{undoubled, characters}
 use Rattle.reference.proofs.Laws.{undoubled-reference}
 use Rattle.rules.specs.Accepts.{accepts}
 use Rattle.trail.specs.Trail.{trail}
-use Rattle.walk.specs.Run.{acceptsRead, idsOr}
-use Rattle.assertion.specs.Places.{withinQuotes, itemOf}
+use Rattle.walk.specs.inner.Run.{acceptsRead, idsOr}
+use Rattle.assertion.specs.inner.Places.{withinQuotes, itemOf}
 use Rattle.assertion.specs.declared.Component.{Component}
 use Rattle.assertion.specs.declared.Parts.{Parts}
 use Rattle.judge.specs.Assertion.{Asked, asked, testing, outcomeOf, outcome}
 use Rattle.judge.proofs.Typed.{fine-type}
 use Rattle.judge.proofs.Fits.{trail-tests}
-use Rattle.judge.specs.Work.{Ready, opposed, placed, inverse, suitsAny, askedRule, itemGiven, itemAt, charged}
+use Rattle.judge.specs.inner.Work.{Ready, opposed, placed, inverse, suitsAny, askedRule, itemGiven, itemAt, charged}
 use Rattle.judge.specs.declared.Judged.{Judged}
 use Rattle.judge.specs.declared.Judging.{Judging}
 use Rattle.judge.specs.declared.Verdict.{Verdict}

@@ -9,7 +9,7 @@ use Rattle.octets.specs.Pick.{pick}
 use Rattle.filter.specs.Filter.{Join, and, or}
 use Rattle.judge.specs.Truth.{Truth, TRUE, FALSE, UNDEFINED, opposite}
 use Rattle.judge.specs.Reading.{Outcome, settled, misfitAfter, ofNone, stops, withRest, added, andThen, inverted}
-use Rattle.judge.specs.Work.{verdictOf, opposed, charged, placed, judgedIf, inverse, unsure, judgedRest, goesOn, behind, isUndefined, stopsAt, joinedBy, noneOf, atEnd}
+use Rattle.judge.specs.inner.Work.{verdictOf, opposed, charged, placed, judgedIf, inverse, unsure, judgedRest, goesOn, behind, isUndefined, stopsAt, joinedBy, noneOf, atEnd}
 use Rattle.judge.specs.declared.Verdict.{Verdict}
 use Rattle.judge.specs.declared.Judged.{Judged}
 use Rattle.judge.specs.declared.Judging.{Judging}

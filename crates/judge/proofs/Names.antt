@@ -7,7 +7,7 @@ use Rattle.rows.specs.Limits.{Limits}
 use Rattle.rows.specs.Row.{rows}
 use Rattle.table.specs.Admitted.{admitted}
 use Rattle.table.proofs.NameLaws.{unfilled-differ}
-use Rattle.judge.specs.Work.{NamesDiffer}
+use Rattle.judge.specs.inner.Work.{NamesDiffer}
 
 -- "names in one type differ"
 pub names-apart : (l : Limits) (t : List ℕ) → admitted l t ≡ true → l .name ≡ 24 → NamesDiffer t (rows (l .rows) t)

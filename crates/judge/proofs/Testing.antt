@@ -8,17 +8,17 @@ use borrow.Author.Tests.{le-leb, lt-leb, ltb-true, ltb-false}
 use lib.Dec.{ltb, leb}
 use Rattle.octets.specs.Pick.{pick}
 use Rattle.reference.specs.Numbers.{Component}
-use Rattle.rules.specs.Answers.{meant}
+use Rattle.rules.specs.inner.Answers.{meant}
 use Rattle.rules.specs.declared.Rule.{Rule}
 use Rattle.trail.specs.Trail.{Trail, done, misfit, reach}
-use Rattle.walk.specs.Run.{seen, acceptsRead, visited, run}
+use Rattle.walk.specs.inner.Run.{seen, acceptsRead, visited, run}
 use Rattle.walk.specs.declared.State.{State}
 use Rattle.walk.proofs.RunLaws.{run-accepted, run-over}
 use Rattle.walk.specs.declared.Task.{Task}
 use Rattle.judge.specs.Truth.{TRUE, FALSE, UNDEFINED}
 use Rattle.judge.specs.Reading.{Outcome, settled, misfitAfter}
 use Rattle.judge.specs.Assertion.{testing}
-use Rattle.judge.specs.Work.{tested, charged}
+use Rattle.judge.specs.inner.Work.{tested, charged}
 use Rattle.judge.specs.declared.Judged.{Judged}
 use Rattle.judge.specs.declared.Verdict.{Verdict}
 

@@ -16,9 +16,9 @@ use Rattle.der.proofs.Laws.{integer-octets, legal-boolean, legal-integer, legal
 use Rattle.rows.specs.Row.{nameAt, kindAt, elementAt, typeRowAt, presenceAt, defaultLengthAt, defaultAt, isList, rowAt, membersAt}
 use Rattle.groups.specs.Clauses.{defaultAllowed, defaultLegal}
 use Rattle.table.specs.Types.{mandatory, optional, default, Ty, basic, sequence, choice, listOf, Members, noMore, more, unfilled, presenceOf, memberOf, membersFrom, typeFrom}
-use Rattle.table.specs.Work.{Sound}
+use Rattle.table.specs.inner.Work.{Sound}
 use Rattle.reference.specs.Numbers.{contentsOf}
-use Rattle.judge.specs.Work.{NamesDiffer}
+use Rattle.judge.specs.inner.Work.{NamesDiffer}
 
 -- ---- lists of octets
 pub same-is : (a b : List ℕ) → same a b ≡ true → a ≡ b

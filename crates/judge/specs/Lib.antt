@@ -1,5 +1,5 @@
 pub mod Truth
 pub mod Reading
 pub mod Assertion
-pub mod Work
+pub mod inner
 pub mod Examples

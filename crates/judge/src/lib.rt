@@ -17,22 +17,22 @@ ghost use mathlib.Core.Option.{some};
 ghost use mathlib.Core.List.{[]};
 ghost use lib.ListN.{length};
 ghost use Rattle.octets.specs.Pick.{pick, both, isSome};
-ghost use Rattle.table.specs.Work.{Sound};
+ghost use Rattle.table.specs.inner.Work.{Sound};
 ghost use Rattle.reference.specs.Reference.{readReference};
-ghost use Rattle.reference.specs.Work as reference;
+ghost use Rattle.reference.specs.inner.Work as reference;
 ghost use Rattle.rules.specs.Asserted.{conforms};
-ghost use Rattle.rules.specs.Answers.{meant, reportRule};
+ghost use Rattle.rules.specs.inner.Answers.{meant, reportRule};
 ghost use Rattle.assertion.specs.Assertion.{assertionAt};
-ghost use Rattle.assertion.specs.Places.{itemOf};
+ghost use Rattle.assertion.specs.inner.Places.{itemOf};
 ghost use Rattle.filter.specs.Filter.{item};
 ghost use Rattle.filter.specs.Parse as parsing;
-ghost use Rattle.filter.specs.Answers.{filtersAt, reportJoin};
+ghost use Rattle.filter.specs.inner.Answers.{filtersAt, reportJoin};
 ghost use Rattle.trail.specs.Trail.{trail};
-ghost use Rattle.walk.specs.Run as run;
+ghost use Rattle.walk.specs.inner.Run as run;
 ghost use Rattle.judge.specs.Assertion.{testing, outcome};
-ghost use Rattle.judge.specs.Work as work;
+ghost use Rattle.judge.specs.inner.Work as work;
 ghost use Rattle.rows.specs.Paper.{tableLimits};
-ghost use Rattle.table.specs.Rows.{rowType};
+ghost use Rattle.table.specs.inner.Rows.{rowType};
 
 pub enum Verdict {
     True,

@@ -12,11 +12,11 @@ use lib.ListN.{length, take, drop}
 use lib.Seq.{take-nil}
 use Rattle.octets.specs.Pick.{pick}
 use Rattle.octets.specs.Octets.{octet, part, between, every, larger, same}
-use Rattle.octets.specs.Answers.{highestFrom, highest}
+use Rattle.octets.specs.inner.Answers.{highestFrom, highest}
 use Rattle.octets.specs.Text.{isDigit, isAlnum, mayFollow, isNumber, starts, lead, skip, decimalFrom, decimal}
 use Rattle.octets.specs.Utf8.{afterFirst, after, utf8From, utf8, mayEnd, awaits}
 use Rattle.octets.specs.Quoted.{closing, closingAt}
-use Rattle.octets.specs.Answers.{clip, growOf, reportPlace}
+use Rattle.octets.specs.inner.Answers.{clip, growOf, reportPlace}
 use Rattle.octets.specs.declared.Size.{Size}
 use Rattle.octets.specs.declared.Place.{Place}
 use Rattle.octets.specs.declared.Awaiting.{Awaiting}

@@ -2,7 +2,7 @@
 use Prim.Native.Nat.{ℕ}
 use Rattle.octets.specs.Pick.{all}
 use Rattle.octets.specs.Octets.{baseFrom, same, every, larger, below, paired}
-use Rattle.octets.specs.Answers.{highestFrom}
+use Rattle.octets.specs.inner.Answers.{highestFrom}
 use Rattle.octets.specs.Text.{isDigit, isLower, isUpper, isLetter, isAlnum, mayFollow, nameFrom, isName, lower, starts, lead, skip}
 use Rattle.octets.specs.Text.{decimalFrom, isNumber, trimmed, pieces}
 use Rattle.octets.specs.Utf8.{afterFirst, after, utf8From, utf8}

@@ -3,6 +3,6 @@ pub mod Octets
 pub mod Text
 pub mod Utf8
 pub mod Quoted
-pub mod Answers
+pub mod inner
 pub mod Computing
 pub mod Examples

@@ -6,7 +6,7 @@ ghost use Rattle.octets.specs.Octets as octets;
 ghost use Rattle.octets.specs.Text as text;
 ghost use Rattle.octets.specs.Utf8 as unicode;
 ghost use Rattle.octets.specs.Quoted.{closingAt, closing};
-ghost use Rattle.octets.specs.Answers.{clip, reportPlace, growOf, highest};
+ghost use Rattle.octets.specs.inner.Answers.{clip, reportPlace, growOf, highest};
 
 // A number of any size: below 2^64, or beyond.
 pub enum Size {

@@ -1,4 +1,4 @@
 pub mod There
-pub mod Sees
+pub mod inner
 pub mod Computing
 pub mod Examples

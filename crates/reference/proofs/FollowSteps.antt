@@ -13,7 +13,7 @@ use Rattle.table.specs.Types.{typeFrom}
 use Rattle.reference.specs.Reference.{Id, name, index, position, fromEnd, count, all}
 use Rattle.reference.specs.Allowed as allowed
 use Rattle.reference.specs.Allowed.{allowedFrom}
-use Rattle.reference.specs.Work.{headCapped, idsAt, reportIdStep, rises, advances, stepId, placeAfter, reportTarget, atTold, along, leadsTo}
+use Rattle.reference.specs.inner.Work.{headCapped, idsAt, reportIdStep, rises, advances, stepId, placeAfter, reportTarget, atTold, along, leadsTo}
 use Rattle.reference.specs.declared.Step.{Step}
 use Rattle.reference.specs.declared.After.{After}
 use Rattle.reference.specs.declared.Target.{Target}

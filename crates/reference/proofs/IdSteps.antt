@@ -13,12 +13,12 @@ use lib.Seq.{drop-drop}
 use Rattle.octets.specs.Pick.{pick, both, no, bind, consed}
 use Rattle.octets.specs.Octets.{octet, part, same, every, bytes}
 use Rattle.octets.specs.Text.{isLower, isDigit, mayFollow, nameFrom, isName, isNumber, decimal, ontoFirst, pieces}
-use Rattle.octets.specs.Answers.{clip}
+use Rattle.octets.specs.inner.Answers.{clip}
 use Rattle.octets.specs.declared.Size.{Size}
 use Rattle.octets.proofs.Laws.{rest-cons, rest-none, rest-length, part-rest}
 use Rattle.octets.proofs.TextLaws.{every-cons, number-nil, number-cons, pieces-nil, pieces-cons, same-nil, same-cons}
 use Rattle.reference.specs.Reference.{Id, index, position, fromEnd, isPosition, idOf, idsOf, readReference}
-use Rattle.reference.specs.Work.{cap, headCapped, idsAt, dotless, endAt, wordId, otherId, numberId, cappedId, reportPiece, reportIdStep, rises, advances, stepOf}
+use Rattle.reference.specs.inner.Work.{cap, headCapped, idsAt, dotless, endAt, wordId, otherId, numberId, cappedId, reportPiece, reportIdStep, rises, advances, stepOf}
 use Rattle.reference.specs.declared.Piece.{Piece}
 use Rattle.reference.specs.declared.Step.{Step}
 

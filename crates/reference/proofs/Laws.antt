@@ -20,7 +20,7 @@ use Rattle.table.specs.Types.{basic, sequence, choice, listOf}
 use Rattle.reference.specs.Reference.{position, fromEnd, count, all, Id, name, index, isPosition, idOf, idsOf, readReference}
 use Rattle.reference.specs.Allowed as allowed
 use Rattle.reference.specs.Allowed.{ofType, ofCount, under, allowed}
-use Rattle.reference.specs.Work.{cap, capped, headCapped, idsAt, reportIdStep, rises, advances, rowWithin}
+use Rattle.reference.specs.inner.Work.{cap, capped, headCapped, idsAt, reportIdStep, rises, advances, rowWithin}
 use Rattle.reference.specs.declared.Step.{Step}
 use Rattle.reference.specs.declared.Target.{Target}
 

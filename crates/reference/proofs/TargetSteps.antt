@@ -9,9 +9,9 @@ use Rattle.octets.specs.Octets.{part, same}
 use Rattle.rows.specs.Row.{nameAt, rowAt, membersAt}
 use Rattle.groups.specs.Clauses.{memberPlace}
 use Rattle.table.specs.Types.{unfilled}
-use Rattle.value.specs.Work.{first}
+use Rattle.value.specs.inner.Work.{first}
 use Rattle.value.proofs.LeafSteps.{first-none, first-start, first-step}
-use Rattle.reference.specs.Work.{namedOf}
+use Rattle.reference.specs.inner.Work.{namedOf}
 
 module _ (t s : List ℕ) (row : ℕ) (r : List ℕ) (a b n : ℕ) where
   abbrev x : List ℕ

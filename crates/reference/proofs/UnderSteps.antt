@@ -12,13 +12,13 @@ use Rattle.octets.specs.Pick.{pick, bind}
 use Rattle.octets.specs.Octets.{part}
 use Rattle.rows.specs.Row.{kindAt, elementAt, typeRowAt, rowAt, membersAt, isGroup, isList}
 use Rattle.table.specs.Types.{Ty, basic, sequence, choice, listOf, Members, memberOf, membersFrom, typed, typeFrom}
-use Rattle.table.specs.Work.{Sound}
-use Rattle.value.specs.Work.{first}
+use Rattle.table.specs.inner.Work.{Sound}
+use Rattle.value.specs.inner.Work.{first}
 use Rattle.value.proofs.LeafSteps.{first-none, first-step}
 use Rattle.reference.specs.Reference.{Id, name}
 use Rattle.reference.specs.Allowed as allowed
 use Rattle.reference.specs.Allowed.{ofType, memberType, underMembers, under}
-use Rattle.reference.specs.Work.{namedOf, stepId, placeAfter, reportTarget, rowWithin, amongMembers, inList, atTarget, atTold}
+use Rattle.reference.specs.inner.Work.{namedOf, stepId, placeAfter, reportTarget, rowWithin, amongMembers, inList, atTarget, atTold}
 use Rattle.reference.specs.declared.Step.{Step}
 use Rattle.reference.specs.declared.After.{After}
 use Rattle.reference.specs.declared.Target.{Target}

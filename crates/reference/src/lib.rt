@@ -8,10 +8,10 @@ ghost use Rattle.octets.specs.Octets.{between, same};
 ghost use Rattle.octets.specs.Text.{isName, decimal};
 ghost use Rattle.rows.specs.Row.{nameAt, kindAt, rowAt, isList};
 ghost use Rattle.table.specs.Types.{unfilled};
-ghost use Rattle.table.specs.Work.{Sound};
+ghost use Rattle.table.specs.inner.Work.{Sound};
 ghost use Rattle.reference.specs.Reference as reference;
 ghost use Rattle.reference.specs.Reference.{name};
-ghost use Rattle.reference.specs.Work as work;
+ghost use Rattle.reference.specs.inner.Work as work;
 ghost use Rattle.rows.specs.Paper.{tableLimits};
 
 // One component identifier: a name or an index, or none. A number beyond the largest is held as the largest.

@@ -11,7 +11,7 @@ use lib.ListN.{length, take, drop, length-take}
 use lib.Seq.{take-nil, getD-take, getD-drop, drop-drop}
 use Rattle.octets.specs.Pick.{no, all}
 use Rattle.octets.specs.Octets.{octet, two, part, every}
-use Rattle.octets.specs.Answers.{highest}
+use Rattle.octets.specs.inner.Answers.{highest}
 use Rattle.octets.specs.Text.{within, isLower, mayFollow}
 use Rattle.octets.proofs.Laws.{octet-past, rest-none, part-rest, all-at, all-is, all-more, all-bad}
 use Rattle.octets.proofs.TextLaws.{every-is, every-at, highest-nought}

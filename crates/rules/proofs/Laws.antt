@@ -19,14 +19,14 @@ use Rattle.der.proofs.MeaningLaws.{string-kinds}
 use Rattle.rows.specs.Row.{kindAt, elementAt, typeRowAt, modeAt, numberAt, isList, rowAt, membersAt}
 use Rattle.rows.proofs.KindLaws.{list-kinds}
 use Rattle.table.specs.Types.{untagged, explicit, implicit, Ty, basic, sequence, choice, listOf, Members, taggingOf, membersFrom, typed, typeFrom}
-use Rattle.table.specs.Work.{Sound}
+use Rattle.table.specs.inner.Work.{Sound}
 use Rattle.table.proofs.TypeCases.{tagging-cases, member-tagging, members-none, members-more}
 use Rattle.reference.specs.Allowed.{Target, ofType}
 use Rattle.rules.specs.Rule.{Syntax, booleans, integers, objectIdentifiers, octetStrings, bitStrings, strings, times, Rule, present, equal, less, ruleOf}
 use Rattle.rules.specs.Suits.{suitsKind, isUntagged, isStringType, allStrings, suitsTarget, suits}
 use Rattle.rules.specs.Asserted.{conformsTo, conforms}
 use Rattle.rules.specs.RuleFor.{ifFor, ruleFor}
-use Rattle.rules.specs.Answers.{isRead, isReadBy, stringRow, suitsRow, ruleSuitsRow}
+use Rattle.rules.specs.inner.Answers.{isRead, isReadBy, stringRow, suitsRow, ruleSuitsRow}
 
 -- ---- tests in a row, from the first and from the last
 front : (ℕ → Bool) → ℕ → ℕ → Bool

@@ -14,7 +14,7 @@ use Rattle.octets.specs.Text.{lower}
 use Rattle.octets.proofs.Laws.{rest-cons, rest-none}
 use Rattle.octets.proofs.TextLaws.{same-nil, same-shorter, same-longer, same-cons}
 use Rattle.rules.specs.Rule.{Rule, Known, sameName, ruleIn}
-use Rattle.rules.specs.Answers.{called}
+use Rattle.rules.specs.inner.Answers.{called}
 
 -- ---- names
 pub letter-same : (a b : ℕ) → a ≡ b → true ≡ eqb (lower a) (lower b)

@@ -21,12 +21,12 @@ use Rattle.strings.specs.Prepared.{prepared}
 use Rattle.times.specs.Asserted.{isTime}
 use Rattle.rows.specs.Row.{kindAt, modeAt, rowAt, membersAt}
 use Rattle.groups.specs.Clauses.{memberPlace}
-use Rattle.groups.specs.Work.{memberType}
+use Rattle.groups.specs.inner.Work.{memberType}
 use Rattle.reference.specs.Allowed.{ofCount}
 use Rattle.rules.specs.Suits.{suitsKind, suitsTarget, suits}
 use Rattle.rules.specs.Asserted.{isTruth, conformsTo, conforms}
 use Rattle.rules.specs.Accepts.{isEqual, isLess, acceptsContents, acceptsCount}
-use Rattle.rules.specs.Answers.{syntaxOf, meant, isRead, isReadBy, stringRow, suitsRow, ruleSuitsRow}
+use Rattle.rules.specs.inner.Answers.{syntaxOf, meant, isRead, isReadBy, stringRow, suitsRow, ruleSuitsRow}
 use Rattle.rules.specs.declared.Syntax as syntax
 use Rattle.rules.specs.declared.Rule as rule
 

@@ -12,7 +12,7 @@ ghost use Rattle.rules.specs.Rule.{sameName, knownRules, ruleIn, ruleOf}
 ghost use Rattle.rules.specs.Suits as suiting;
 ghost use Rattle.rules.specs.Asserted as asserted;
 ghost use Rattle.rules.specs.Accepts as accepting;
-ghost use Rattle.rules.specs.Answers as answers;
+ghost use Rattle.rules.specs.inner.Answers as answers;
 
 // What a rule compares; strings with A..Z folded, or exactly.
 pub enum Syntax {

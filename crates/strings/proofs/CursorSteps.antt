@@ -13,7 +13,7 @@ use Rattle.octets.specs.Quoted.{undoubled}
 use Rattle.octets.proofs.TextLaws.{same-nil, same-shorter, same-longer, same-cons}
 use Rattle.strings.specs.Asserted.{assertedText}
 use Rattle.strings.specs.Prepared.{afterSpace, spaced, squeezed, prepared}
-use Rattle.strings.specs.Cursor.{charactersOf, lettersAt, reportLetter, restAt, rest, reportStep, emitted, isEnd}
+use Rattle.strings.specs.inner.Cursor.{charactersOf, lettersAt, reportLetter, restAt, rest, reportStep, emitted, isEnd}
 use Rattle.strings.specs.declared.Before.{Before}
 use Rattle.strings.specs.declared.Letter.{Letter}
 use Rattle.strings.specs.declared.Cursor.{Cursor}

@@ -12,13 +12,13 @@ use Rattle.octets.specs.Pick.{pick, both}
 use Rattle.octets.specs.Octets.{octet, part}
 use Rattle.octets.specs.Text.{lower}
 use Rattle.octets.specs.Quoted.{closingAt, undoubled, unquoted}
-use Rattle.octets.specs.Answers as answers
+use Rattle.octets.specs.inner.Answers as answers
 use Rattle.octets.specs.declared.Place.{Place}
 use Rattle.octets.proofs.Laws.{rest-cons, rest-none}
 use Rattle.octets.proofs.QuotedLaws.{undoubled-nil, undoubled-one, undoubled-two, undoubled-other, unquoted-none, unquoted-longer, unquoted-whole}
 use Rattle.strings.specs.Asserted.{textOr, assertedText}
 use Rattle.strings.specs.Prepared.{folded}
-use Rattle.strings.specs.Cursor.{charactersOf, reportCharacter, foldOctet, lettersAt, reportLetter}
+use Rattle.strings.specs.inner.Cursor.{charactersOf, reportCharacter, foldOctet, lettersAt, reportLetter}
 use Rattle.strings.specs.declared.Letter.{Letter}
 
 -- ---- what stands between the quotes

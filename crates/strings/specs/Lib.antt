@@ -1,4 +1,4 @@
 pub mod Prepared
 pub mod Asserted
-pub mod Cursor
+pub mod inner
 pub mod Examples

@@ -6,7 +6,7 @@ ghost use Rattle.octets.specs.Octets.{same};
 ghost use Rattle.octets.specs.Quoted.{undoubled};
 ghost use Rattle.strings.specs.Asserted as asserted;
 ghost use Rattle.strings.specs.Prepared.{afterSpace, prepared};
-ghost use Rattle.strings.specs.Cursor as cursor;
+ghost use Rattle.strings.specs.inner.Cursor as cursor;
 
 // What stands before a place: no character yet, a character, or a space after one.
 pub enum Before {

@@ -12,10 +12,10 @@ use Rattle.rows.specs.Limits.{tableFits}
 use Rattle.rows.specs.Paper.{tableLimits}
 use Rattle.rows.specs.Row.{rows}
 use Rattle.groups.specs.Clauses.{everyRow, wholeRows, bodyFormed, isType, firstIsType, pointsLater, membersStand, namesDiffer, alternativesMandatory, noImplicitChoice, defaultLegal, chainFits}
-use Rattle.groups.specs.Work.{membersAgreeAt, rowAgrees}
+use Rattle.groups.specs.inner.Work.{membersAgreeAt, rowAgrees}
 use Rattle.table.specs.Admitted.{tagsDiffer, rowsFormed, rowsNamed, membersAgree, typesFit, admittedRows, admitted}
-use Rattle.table.specs.Work.{rowCount}
-use Rattle.table.specs.Work.{Masked, Admits}
+use Rattle.table.specs.inner.Work.{rowCount}
+use Rattle.table.specs.inner.Work.{Masked, Admits}
 use Rattle.rows.specs.declared.Table.{Table}
 use Rattle.table.specs.Check.{refused, admits, tableReport}
 

@@ -9,7 +9,7 @@ use lib.Dec.{eqb, eqb·suc-suc, eqb·zero-suc, eqb·suc-zero}
 use lib.Bits.{bitAnd, bitOr, and-step, or-step, and-le-l, and-mask}
 use lib.Pow.{shr-shr}
 use Rattle.octets.specs.Pick.{pick, both, no, all}
-use Rattle.table.specs.Work.{bitOf}
+use Rattle.table.specs.inner.Work.{bitOf}
 use Rattle.octets.proofs.Laws.{all-at, all-is}
 
 pub bit-none : (g : ℕ) → bitOf 0 g ≡ false

@@ -10,7 +10,7 @@ use Rattle.rows.specs.Limits.{Limits}
 use Rattle.rows.specs.Row.{rows, rowAt, kindAt, elementAt, membersAt}
 use Rattle.rows.proofs.Laws.{MemberFacts, member-facts}
 use Rattle.groups.specs.Clauses.{everyRow, wholeRows, bodyFormed, pointsLater, membersStand, memberPlace, namesDiffer, alternativesMandatory, noImplicitChoice, defaultLegal, chainFits}
-use Rattle.groups.specs.Work.{Later}
+use Rattle.groups.specs.inner.Work.{Later}
 use Rattle.groups.proofs.LaterSteps.{is-later, member-follows}
 use Rattle.table.specs.Types.{membersFrom, typed, typeAt}
 use Rattle.table.specs.Admitted.{rowsFormed, rowsNamed, membersAgree, typesFit, admittedRows, admitted}

@@ -14,7 +14,7 @@ use Rattle.rows.specs.Row.{rows, rowAt, typeRowAt, modeAt, numberAt}
 use Rattle.table.specs.Types.{memberOf, typeFrom, typeAt}
 use Rattle.table.specs.Begins.{begins, memberBegins}
 use Rattle.table.specs.Admitted.{admitted}
-use Rattle.table.specs.Work.{bitOf, contextBit, memberMask, Masked, Sound}
+use Rattle.table.specs.inner.Work.{bitOf, contextBit, memberMask, Masked, Sound}
 use Rattle.table.proofs.BitSets.{bit-is}
 use Rattle.table.proofs.TagLaws.{tagged-as, context-bits}
 use Rattle.table.proofs.Laws.{names-later, type-step, member-stands, member-formed, default-legal}

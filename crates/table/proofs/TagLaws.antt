@@ -19,10 +19,10 @@ use Rattle.rows.specs.Row.{kindAt, modeAt, numberAt, presenceAt, defaultAt, ele
 use Rattle.groups.specs.Clauses.{everyRow, pointsLater, membersStand, memberPlace, mandatoryAt, chainFits}
 use Rattle.groups.proofs.LaterSteps.{is-later}
 use Rattle.table.specs.Admitted.{tagsDiffer}
-use Rattle.groups.specs.Work.{memberType, Later}
+use Rattle.groups.specs.inner.Work.{memberType, Later}
 use Rattle.table.specs.Types.{untagged, explicit, implicit, mandatory, optional, default, Member, Ty, basic, sequence, choice, listOf, Members, taggingOf, presenceOf, memberOf, membersFrom, typed, typeFrom}
 use Rattle.table.specs.Begins.{asTagged, begins, someBegins, memberBegins, isMandatory, apartAt, apart, apartFromAll, alternativesDiffer, apartInRun, runsDiffer, tagsApart}
-use Rattle.table.specs.Work.{bitOf, contextBit, memberMask, groupFrom, rowMask, apartMask, endsRun, runFrom, newMask, differFrom, masksDiffer, Masked}
+use Rattle.table.specs.inner.Work.{bitOf, contextBit, memberMask, groupFrom, rowMask, apartMask, endsRun, runFrom, newMask, differFrom, masksDiffer, Masked}
 use Rattle.table.proofs.TypeLaws.{member-fits}
 use Rattle.table.proofs.BitSets.{bit-none, bit-or, bit-one, sets-apart}
 use Rattle.rows.specs.Paper.{tableLimits}

@@ -16,7 +16,7 @@ use Rattle.octets.proofs.Laws.{octet-past}
 use Rattle.der.specs.Tag.{universal}
 use Rattle.rows.specs.Row.{rowAt, membersAt}
 use Rattle.groups.specs.Clauses.{memberPlace, mandatoryAt}
-use Rattle.table.specs.Work.{contextBit, memberMask, groupFrom, rowMask, apartMask, endsRun, runFrom, newMask, differFrom, masksDiffer}
+use Rattle.table.specs.inner.Work.{contextBit, memberMask, groupFrom, rowMask, apartMask, endsRun, runFrom, newMask, differFrom, masksDiffer}
 
 pub one-bit : (n : ℕ) → n < 64 → 1 * 2 ^ n % 18446744073709551616 ≡ 2 ^ n
 one-bit n h = let l : 1 < 2 ^ 1 = omega arith in let q : 1 + n ≤ 64 = omega arith in shl-exact 1 n 64 l q ∙ one-mul (2 ^ n)

@@ -12,7 +12,7 @@ use Rattle.octets.specs.Octets.{octet}
 use Rattle.octets.proofs.Laws.{all-at}
 use Rattle.rows.specs.Row.{kindAt, rowAt, isGroup, isList, elementAt, membersAt}
 use Rattle.groups.specs.Clauses.{everyRow, ofMember, chainFits, memberPlace}
-use Rattle.groups.specs.Work.{memberType, Later}
+use Rattle.groups.specs.inner.Work.{memberType, Later}
 use Rattle.table.specs.Types.{Ty, sequence, choice, listOf, basic, more, memberOf, membersFrom, typed, typeFrom}
 
 -- a row with members is a SEQUENCE or a CHOICE, and no list

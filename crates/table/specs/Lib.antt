@@ -1,8 +1,7 @@
 pub mod Types
-pub mod Rows
+pub mod inner
 pub mod Begins
 pub mod Admitted
-pub mod Work
 pub mod Check
 pub mod Computing
 pub mod Paper

@@ -8,7 +8,7 @@ ghost use Rattle.der.specs.Tag.{tagOf};
 ghost use Rattle.rows.specs.Row as row;
 ghost use Rattle.groups.specs.Clauses as clause;
 ghost use Rattle.table.specs.Admitted as admitted;
-ghost use Rattle.table.specs.Work as work;
+ghost use Rattle.table.specs.inner.Work as work;
 ghost use Rattle.octets.specs.Pick.{both};
 ghost use Rattle.table.specs.Check.{report, tableReport};
 ghost use Rattle.rows.specs.Paper.{tableLimits};

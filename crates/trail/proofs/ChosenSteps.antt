@@ -12,14 +12,14 @@ use Rattle.octets.specs.Pick.{pick}
 use Rattle.octets.specs.Octets.{same}
 use Rattle.rows.specs.Row.{rowAt, nameAt, typeRowAt, membersAt, modeAt, numberAt}
 use Rattle.table.specs.Types.{taggingOf, unfilled, memberOf, Ty, membersFrom, typeFrom}
-use Rattle.table.specs.Work.{Sound}
+use Rattle.table.specs.inner.Work.{Sound}
 use Rattle.value.specs.Decode.{startsHere}
-use Rattle.value.specs.Work.{first, markedOf}
+use Rattle.value.specs.inner.Work.{first, markedOf}
 use Rattle.value.proofs.LeafSteps.{first-none, first-step}
 use Rattle.value.proofs.MemberSteps.{starts-as}
 use Rattle.trail.specs.Opened.{Opened, openAt}
 use Rattle.trail.specs.Trail as trail
-use Rattle.trail.specs.Work.{reportOpening, landsIn, chosenAs}
+use Rattle.trail.specs.inner.Work.{reportOpening, landsIn, chosenAs}
 use Rattle.trail.specs.declared.Opening.{Opening}
 use Rattle.trail.specs.declared.Found.{Found}
 

@@ -13,14 +13,14 @@ use Rattle.octets.specs.Octets.{same}
 use Rattle.rows.specs.Row.{rowAt, kindAt, nameAt, typeRowAt, membersAt, modeAt, numberAt, presenceAt, defaultAt}
 use Rattle.table.specs.Types.{Tagging, taggingOf, unfilled, Member, memberOf, Ty, Members, more, membersFrom, typeFrom}
 use Rattle.table.specs.Begins.{isMandatory}
-use Rattle.table.specs.Work.{Sound}
+use Rattle.table.specs.inner.Work.{Sound}
 use Rattle.table.proofs.TagLaws.{mandatory-as}
 use Rattle.value.specs.Decode.{startsHere}
-use Rattle.value.specs.Work.{marked}
+use Rattle.value.specs.inner.Work.{marked}
 use Rattle.value.proofs.MemberSteps.{starts-as}
 use Rattle.trail.specs.Opened.{Opened, openAt}
 use Rattle.trail.specs.Trail as trail
-use Rattle.trail.specs.Work.{reportOpening, looksIn, Looked, onward, landed, reportLook, thereOr, orBroken, memberLook, thenLook}
+use Rattle.trail.specs.inner.Work.{reportOpening, looksIn, Looked, onward, landed, reportLook, thereOr, orBroken, memberLook, thenLook}
 use Rattle.trail.specs.declared.Opening.{Opening}
 use Rattle.trail.specs.declared.Look.{Look}
 use Rattle.trail.proofs.OpenSteps.{open-long}

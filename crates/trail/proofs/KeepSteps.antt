@@ -18,7 +18,7 @@ use Rattle.value.proofs.Views.{none-some, some-same, opened-view, in-bare}
 use Rattle.trail.specs.Opened.{Opened, after, ownHeader, openedAs, openOwn, openAt}
 use Rattle.trail.specs.Trail as trail
 use Rattle.trail.specs.Trail.{countFrom}
-use Rattle.trail.specs.Work.{standing, reportOpening, reportFound, landsIn, elementFound, nthFound, ofLast, lastFound, Reached, reached, past, unfit, orUnfit, reachedOr, nthFrom, keep, keptAt, keptAs, Ended, landed, short, broken, reportTail, preceded, orEnded, tailFrom, folded, isNear}
+use Rattle.trail.specs.inner.Work.{standing, reportOpening, reportFound, landsIn, elementFound, nthFound, ofLast, lastFound, Reached, reached, past, unfit, orUnfit, reachedOr, nthFrom, keep, keptAt, keptAs, Ended, landed, short, broken, reportTail, preceded, orEnded, tailFrom, folded, isNear}
 use Rattle.trail.specs.declared.Opening.{Opening}
 use Rattle.trail.specs.declared.Tail.{Tail}
 use Rattle.trail.specs.declared.Found.{Found}

@@ -11,7 +11,7 @@ use Rattle.octets.specs.Pick.{pick, bind}
 use Rattle.table.specs.Types.{untagged, taggingOf, Ty}
 use Rattle.trail.specs.Opened.{Opened, after, openAt}
 use Rattle.trail.specs.Trail.{Trail, done, misfit, orMisfit, atPosition, positionFrom, countFrom}
-use Rattle.trail.specs.Work.{reportOpening, Reached, reached, past, unfit, orUnfit, reachedOr, nthFrom}
+use Rattle.trail.specs.inner.Work.{reportOpening, Reached, reached, past, unfit, orUnfit, reachedOr, nthFrom}
 use Rattle.trail.specs.declared.Opening.{Opening}
 use Rattle.trail.proofs.OpenSteps.{open-long}
 

@@ -12,14 +12,14 @@ use Rattle.octets.specs.Pick.{pick, both, bind}
 use Rattle.octets.proofs.Laws.{both-true}
 use Rattle.rows.specs.Row.{rowAt, kindAt, elementAt, membersAt, isList}
 use Rattle.table.specs.Types.{untagged, Ty, Members, membersFrom, typed, typeFrom}
-use Rattle.table.specs.Work.{Sound}
+use Rattle.table.specs.inner.Work.{Sound}
 use Rattle.value.proofs.CheckSteps.{typed-choice, typed-sequence, typed-list, typed-basic}
 use Rattle.value.proofs.Views.{none-some, some-same}
 use Rattle.reference.specs.Reference.{Index, position, fromEnd, name, index}
 use Rattle.trail.specs.Opened.{Opened, after, openAt}
 use Rattle.trail.specs.Trail as trail
 use Rattle.trail.specs.Trail.{countFrom}
-use Rattle.trail.specs.Work.{standing, reportCounted, landsIn, reached, past, unfit, reportNth, orUnfit, reachedOr, nthFrom, elementFound, nthFound, ofLast, lastFound, located}
+use Rattle.trail.specs.inner.Work.{standing, reportCounted, landsIn, reached, past, unfit, reportNth, orUnfit, reachedOr, nthFrom, elementFound, nthFound, ofLast, lastFound, located}
 use Rattle.trail.specs.declared.Counted.{Counted}
 use Rattle.trail.specs.declared.Nth.{Nth}
 use Rattle.trail.specs.declared.Found.{Found}

@@ -15,11 +15,11 @@ use Rattle.table.specs.Types.{untagged, Ty, basic, sequence, choice, listOf, Me
 use Rattle.value.proofs.Views.{none-some, some-same}
 use Rattle.reference.specs.Reference.{Index, position, fromEnd, count, all, Id, name, index}
 use Rattle.reference.specs.Numbers.{stored, byCount}
-use Rattle.reference.specs.Work.{cap}
+use Rattle.reference.specs.inner.Work.{cap}
 use Rattle.reference.proofs.Laws.{cap-cases}
 use Rattle.trail.specs.Opened.{Opened, openedSpot, after, openAt}
 use Rattle.trail.specs.Trail.{Trail, done, reach, orMisfit, eachFrom, countFrom, positionFrom, Found, nothing, ending, onFound, fromLast, along, trail}
-use Rattle.trail.specs.Work.{Reached, reached, past, unfit, orUnfit, reachedOr, nthFrom, elementFound, nthFound, ofLast, lastFound, located}
+use Rattle.trail.specs.inner.Work.{Reached, reached, past, unfit, orUnfit, reachedOr, nthFrom, elementFound, nthFound, ofLast, lastFound, located}
 use Rattle.trail.proofs.ListSteps.{onReached, position-as}
 
 -- ---- one identifier

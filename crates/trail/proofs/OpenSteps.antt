@@ -17,12 +17,12 @@ use Rattle.der.proofs.Laws.{tag-small, header-long, header-within, inside-long,
 use Rattle.rows.specs.Row.{rowAt, kindAt, elementAt, typeRowAt, membersAt, modeAt, numberAt, isList}
 use Rattle.table.specs.Types.{Tagging, untagged, explicit, implicit, taggingOf, Ty, basic, sequence, choice, listOf, Members, membersFrom, typed, typeFrom}
 use Rattle.table.specs.Begins.{begins}
-use Rattle.table.specs.Work.{bitOf, Sound}
+use Rattle.table.specs.inner.Work.{bitOf, Sound}
 use Rattle.value.specs.Decode.{tagOctet, inside, inWrapper}
 use Rattle.value.proofs.CheckSteps.{typed-choice, typed-sequence, typed-list, typed-basic}
 use Rattle.value.proofs.Views.{some-same, opened-view, wrapper-view, in-bare, in-explicit}
 use Rattle.trail.specs.Opened.{Opened, after, ownHeader, openedAs, openOwn, openAt}
-use Rattle.trail.specs.Work.{elementTag, choiceHeader}
+use Rattle.trail.specs.inner.Work.{elementTag, choiceHeader}
 
 -- ---- the header of a CHOICE
 module _ (m : List ℕ) (row : ℕ) (v : List ℕ) (at end o : ℕ) (b : Bool) (octet-read : o ≡ octet v at) (marked : b ≡ bitOf (rowAt m row) (tagOf o)) where

@@ -11,7 +11,7 @@ use Rattle.octets.specs.Pick.{pick}
 use Rattle.octets.specs.Octets.{same}
 use Rattle.table.specs.Types.{Presence, mandatory, optional, default, Member, Ty}
 use Rattle.value.specs.Value.{spotOf, Value, leaf, fields, chosen, elements, Fields, endFields, present, absent, Values, endValues, next}
-use Rattle.value.specs.Lies.{InSpot, endOf, Lies, LieInFields, LieInTurn}
+use Rattle.value.specs.inner.Lies.{InSpot, endOf, Lies, LieInFields, LieInTurn}
 use Rattle.value.specs.Decode.{storedValue}
 use Rattle.value.proofs.Laws.{lies-wider, stored-lies}
 use Rattle.reference.specs.Reference.{Index, position, fromEnd, count, all, Id, name, index}

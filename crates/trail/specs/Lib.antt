@@ -1,4 +1,4 @@
 pub mod Opened
 pub mod Trail
 pub mod Spread
-pub mod Work
+pub mod inner

@@ -9,16 +9,16 @@ ghost use Rattle.octets.specs.Pick.{pick, either};
 ghost use Rattle.octets.specs.Octets.{part, same};
 ghost use Rattle.rows.specs.Row.{rowAt, kindAt, nameAt, typeRowAt, presenceAt};
 ghost use Rattle.table.specs.Types.{untagged, taggingOf, unfilled};
-ghost use Rattle.table.specs.Work.{Sound};
+ghost use Rattle.table.specs.inner.Work.{Sound};
 ghost use Rattle.reference.specs.Reference.{name, index, position, fromEnd};
 ghost use Rattle.der.specs.Header.{insideAt, opened};
 ghost use Rattle.trail.specs.Opened.{ownHeader, openedAs, openAt};
-ghost use Rattle.value.specs.Work.{marked};
+ghost use Rattle.value.specs.inner.Work.{marked};
 ghost use Rattle.trail.specs.Trail as trail;
 ghost use Rattle.trail.specs.Trail.{countFrom};
-ghost use Rattle.trail.specs.Work as work;
+ghost use Rattle.trail.specs.inner.Work as work;
 ghost use Rattle.rows.specs.Paper.{tableLimits};
-ghost use Rattle.table.specs.Rows.{rowType, rowMembers, rowMember, rowTagging, rowMemberType};
+ghost use Rattle.table.specs.inner.Rows.{rowType, rowMembers, rowMember, rowTagging, rowMemberType};
 
 // A value whose header has been read: its place, where its contents start and how long they are.
 pub enum Opening {

@@ -17,11 +17,11 @@ use Rattle.der.specs.Contents.{legal}
 use Rattle.der.specs.declared.Inside.{Inside}
 use Rattle.rows.specs.Row.{rowAt, kindAt, elementAt, typeRowAt, membersAt, isList, modeAt, numberAt}
 use Rattle.table.specs.Types.{untagged, implicit, taggingOf, Ty, basic, sequence, choice, listOf, Members, membersFrom, typed, typeFrom}
-use Rattle.table.specs.Work.{Sound}
+use Rattle.table.specs.inner.Work.{Sound}
 use Rattle.value.specs.Value.{spotAt, Value, leaf, fields, Fields, Values}
 use Rattle.value.specs.Order.{rising}
 use Rattle.value.specs.Decode.{Decoded, decoded, afterOf, tagOctet, inside, inWrapper, leafOf, fieldsOf, elementsOf, many, unwrapped, fieldsFrom, alternativeFrom, decode}
-use Rattle.value.specs.Work.{checked, upTo, fieldsChecked, inOrder, elementsChecked}
+use Rattle.value.specs.inner.Work.{checked, upTo, fieldsChecked, inOrder, elementsChecked}
 use Rattle.value.specs.declared.Checked.{Checked}
 
 -- ---- a row's type by its kind

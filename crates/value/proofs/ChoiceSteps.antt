@@ -11,9 +11,9 @@ use lib.Dec.{ltb}
 use Rattle.octets.specs.Pick.{pick}
 use Rattle.rows.specs.Row.{rowAt, typeRowAt, membersAt, modeAt, numberAt}
 use Rattle.table.specs.Types.{Tagging, taggingOf, Member, memberOf, Ty, membersFrom, typeFrom}
-use Rattle.table.specs.Work.{Sound}
+use Rattle.table.specs.inner.Work.{Sound}
 use Rattle.value.specs.Decode.{Decoded, startsHere, choiceOf, unwrapped, alternativeFrom, decode}
-use Rattle.value.specs.Work.{checked, first, markedOf}
+use Rattle.value.specs.inner.Work.{checked, first, markedOf}
 use Rattle.value.specs.declared.Checked.{Checked}
 use Rattle.value.proofs.Decodes.{framed-by, decodes-tagged}
 use Rattle.value.proofs.LeafSteps.{first-none, first-step}

@@ -14,11 +14,11 @@ use Rattle.der.specs.Kind as kind
 use Rattle.der.specs.Order.{notAbove}
 use Rattle.rows.specs.Row.{rowAt, kindAt, elementAt, isList}
 use Rattle.table.specs.Types.{untagged, taggingOf, Ty, typeFrom}
-use Rattle.table.specs.Work.{Sound}
+use Rattle.table.specs.inner.Work.{Sound}
 use Rattle.value.specs.Value.{Value, Values, endValues, next, encoding}
 use Rattle.value.specs.Order.{rising}
 use Rattle.value.specs.Decode.{Decoded, nextThen, many, unwrapped}
-use Rattle.value.specs.Work.{checked, upTo, inOrder, elementsChecked, risingAfter, orderAfter, neighbours}
+use Rattle.value.specs.inner.Work.{checked, upTo, inOrder, elementsChecked, risingAfter, orderAfter, neighbours}
 use Rattle.value.specs.declared.Checked.{Checked}
 use Rattle.value.proofs.Views.{many-end, many-more}
 use Rattle.value.proofs.Decodes.{Own, own, framed, decodes}

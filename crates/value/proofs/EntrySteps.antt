@@ -15,14 +15,14 @@ use Rattle.rows.specs.Paper.{tableLimits}
 use Rattle.rows.specs.Row.{rows}
 use Rattle.table.specs.Types.{untagged, taggingOf, Ty, typeFrom, typeAt}
 use Rattle.table.specs.Admitted.{admitted}
-use Rattle.table.specs.Work.{rowCount}
-use Rattle.table.specs.Work.{Sound, Admits}
+use Rattle.table.specs.inner.Work.{rowCount}
+use Rattle.table.specs.inner.Work.{Sound, Admits}
 use Rattle.table.proofs.Laws.{row-count}
 use Rattle.table.proofs.SoundLaws.{sound}
 use Rattle.value.specs.Paper.{valueLimits}
 use Rattle.value.specs.Decode.{Decoded, unwrapped, decode, inWrapper, storedValue}
 use Rattle.value.specs.Check.{good, refused, report, valueFits, isStored, storage, valueReport}
-use Rattle.value.specs.Work.{checked}
+use Rattle.value.specs.inner.Work.{checked}
 use Rattle.value.specs.declared.Checked.{Checked}
 use Rattle.value.specs.declared.ValueCheck.{ValueCheck}
 

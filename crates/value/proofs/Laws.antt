@@ -16,7 +16,7 @@ use Rattle.table.specs.Types.{Tagging, Ty, choice, Members}
 use Rattle.table.specs.Begins.{asTagged, begins, someBegins, memberBegins}
 use Rattle.value.specs.Value.{Spot, spotAt, spotOf, encoding, Value, leaf, fields, chosen, elements}
 use Rattle.value.specs.Value.{Fields, endFields, present, absent, Values, endValues, next}
-use Rattle.value.specs.Lies.{InSpot, endOf, Lies, LieInFields, LieInTurn}
+use Rattle.value.specs.inner.Lies.{InSpot, endOf, Lies, LieInFields, LieInTurn}
 use Rattle.value.specs.Decode.{startsHere, storedValue}
 use Rattle.value.proofs.Decodes.{Decodes, is-basic, is-sequence, is-choice, is-list, Tagged, bare, filling}
 use Rattle.value.proofs.Decodes.{Fielded, none-left, there, lacks, Chosen, this, other, Elements, ends, goes}

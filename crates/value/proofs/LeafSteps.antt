@@ -16,9 +16,9 @@ use Rattle.der.specs.declared.Inside.{Inside}
 use Rattle.der.proofs.Laws.{inside-within}
 use Rattle.groups.specs.Clauses.{memberPlace}
 use Rattle.table.specs.Types.{Tagging, untagged, explicit, implicit, taggingOf}
-use Rattle.table.specs.Work.{bitOf, memberMask}
+use Rattle.table.specs.inner.Work.{bitOf, memberMask}
 use Rattle.value.specs.Decode.{tagOctet}
-use Rattle.value.specs.Work.{upTo, first, marked, markedOf, contentsAt, holds, storedDefault, absentChecked, neighbours}
+use Rattle.value.specs.inner.Work.{upTo, first, marked, markedOf, contentsAt, holds, storedDefault, absentChecked, neighbours}
 use Rattle.value.specs.declared.Checked.{Checked}
 
 -- ---- tags

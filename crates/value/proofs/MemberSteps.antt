@@ -20,12 +20,12 @@ use Rattle.groups.specs.Clauses.{defaultAllowed, defaultLegal}
 use Rattle.table.specs.Types.{Tagging, untagged, explicit, implicit, mandatory, optional, default, taggingOf, presenceOf, Member, memberOf}
 use Rattle.table.specs.Types.{Ty, basic, Members, more, membersFrom, typed, typeFrom}
 use Rattle.table.specs.Begins.{isMandatory}
-use Rattle.table.specs.Work.{Sound}
+use Rattle.table.specs.inner.Work.{Sound}
 use Rattle.table.proofs.TagLaws.{mandatory-as}
 use Rattle.table.proofs.SoundLaws.{member-tags}
 use Rattle.value.specs.Value.{spotAt, spotOf, Fields, endFields, present, absent}
 use Rattle.value.specs.Decode.{Decoded, afterOf, tagOctet, inWrapper, startsHere, isDefault, unlessDefault, presentThen, absentThen, unwrapped, fieldsFrom, decode}
-use Rattle.value.specs.Work.{checked, upTo, marked, within, contentsAt, holds, storedDefault, isPlain, plainChecked, absentChecked, memberChecked, fieldsChecked}
+use Rattle.value.specs.inner.Work.{checked, upTo, marked, within, contentsAt, holds, storedDefault, isPlain, plainChecked, absentChecked, memberChecked, fieldsChecked}
 use Rattle.value.specs.declared.Checked.{Checked}
 use Rattle.value.proofs.Views.{leaf-view, wrapper-view}
 use Rattle.value.proofs.CheckSteps.{typed-small}

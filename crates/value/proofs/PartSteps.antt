@@ -13,7 +13,7 @@ use Rattle.octets.proofs.Laws.{part-past}
 use Rattle.value.specs.Limits.{Limits}
 use Rattle.value.specs.Check.{valueFits}
 use Rattle.value.specs.Part.{PartReport, refusedPart, partReport}
-use Rattle.value.specs.Work.{unlessRefused}
+use Rattle.value.specs.inner.Work.{unlessRefused}
 
 -- ---- the refusal
 module _ (l : Limits) (v : List ℕ) (place size : ℕ) (x : Bool) (fits : x ≡ valueFits l v) where

@@ -14,7 +14,7 @@ use Rattle.der.specs.declared.Inside.{Inside}
 use Rattle.rows.specs.Row.{modeAt, numberAt, presenceAt, defaultAt}
 use Rattle.table.specs.Types.{taggingOf, Ty, basic, Members, typed}
 use Rattle.value.specs.Decode.{tagOctet, leafOf, unwrapped, decode}
-use Rattle.value.specs.Work.{checked, upTo, contentsAt, holds, isPlain, isDefaultAt, plainOf, plainChecked}
+use Rattle.value.specs.inner.Work.{checked, upTo, contentsAt, holds, isPlain, isDefaultAt, plainOf, plainChecked}
 use Rattle.value.specs.declared.Checked.{Checked}
 use Rattle.value.proofs.LeafSteps.{contents-plain}
 use Rattle.value.proofs.CheckSteps.{typed-small, told-leaf, not-explicit}

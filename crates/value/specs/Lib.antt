@@ -2,8 +2,7 @@ pub mod Limits
 pub mod Value
 pub mod Order
 pub mod Decode
-pub mod Lies
-pub mod Work
+pub mod inner
 pub mod Check
 pub mod Part
 pub mod Computing

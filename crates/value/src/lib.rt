@@ -10,14 +10,14 @@ ghost use Rattle.octets.specs.Octets.{part};
 ghost use Rattle.der.specs.Contents.{legal};
 ghost use Rattle.rows.specs.Row.{rowAt, kindAt, elementAt, typeRowAt, isList, modeAt, numberAt};
 ghost use Rattle.table.specs.Types.{taggingOf};
-ghost use Rattle.table.specs.Work.{Sound};
+ghost use Rattle.table.specs.inner.Work.{Sound};
 ghost use Rattle.value.specs.Decode.{tagOctet, unwrapped, alternativeFrom, decode, storedValue};
 ghost use Rattle.value.specs.Paper.{valueLimits};
 ghost use Rattle.value.specs.Check.{report, valueFits, storage, valueReport};
 ghost use Rattle.value.specs.Part as parts;
-ghost use Rattle.value.specs.Work as work;
+ghost use Rattle.value.specs.inner.Work as work;
 ghost use Rattle.rows.specs.Paper.{tableLimits};
-ghost use Rattle.table.specs.Rows.{rowType, rowMembers, rowMember, rowTagging, rowMemberType};
+ghost use Rattle.table.specs.inner.Rows.{rowType, rowMembers, rowMember, rowTagging, rowMemberType};
 
 // A stored value: the limits of every one.
 pub struct Value;

@@ -11,7 +11,7 @@ use lib.Dec.{ltb}
 use Rattle.octets.specs.Pick.{pick}
 use Rattle.reference.specs.Numbers.{Component, numbersOf, threes}
 use Rattle.trail.specs.Trail.{Trail, done, misfit, reach, hasMisfit, reached}
-use Rattle.walk.specs.Run.{seen, put, listOne, visited, run}
+use Rattle.walk.specs.inner.Run.{seen, put, listOne, visited, run}
 use Rattle.walk.specs.declared.State.{State}
 use Rattle.walk.specs.declared.Task.{Task}
 

@@ -4,7 +4,7 @@ use mathlib.Core.List.{List}
 use Prim.Native.Nat.{ℕ}
 use Rattle.reference.specs.Numbers.{Component}
 use Rattle.trail.specs.Trail.{Trail, done, misfit, reach, then}
-use Rattle.walk.specs.Run.{Seen, seen, visited, onward, misfitAfter, run}
+use Rattle.walk.specs.inner.Run.{Seen, seen, visited, onward, misfitAfter, run}
 use Rattle.walk.specs.declared.State.{State}
 use Rattle.walk.specs.declared.Task.{Task}
 

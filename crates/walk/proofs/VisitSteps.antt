@@ -16,9 +16,9 @@ use Rattle.value.specs.Value.{spotAt}
 use Rattle.reference.specs.Numbers.{Component, contentsOf, numbersOf}
 use Rattle.rules.specs.Rule as rule
 use Rattle.rules.specs.Accepts.{acceptsContents, acceptsCount}
-use Rattle.rules.specs.Answers.{meant, isReadBy}
+use Rattle.rules.specs.inner.Answers.{meant, isReadBy}
 use Rattle.rules.specs.declared.Rule.{Rule}
-use Rattle.walk.specs.Run.{componentOf, sourceOf, placeOf, numberOf, Fitting, Seen, seen, acceptsRead, put, listOne, countOne, testOne, visited}
+use Rattle.walk.specs.inner.Run.{componentOf, sourceOf, placeOf, numberOf, Fitting, Seen, seen, acceptsRead, put, listOne, countOne, testOne, visited}
 use Rattle.walk.specs.declared.State.{State}
 use Rattle.walk.specs.declared.Task.{Task}
 use Rattle.walk.specs.declared.Reached.{Reached}

@@ -13,24 +13,24 @@ use Rattle.octets.specs.Octets.{part}
 use Rattle.octets.proofs.Laws.{both-true}
 use Rattle.rows.specs.Row.{rowAt, kindAt, elementAt, membersAt, presenceAt, defaultAt, isList}
 use Rattle.table.specs.Types.{untagged, taggingOf, Presence, mandatory, optional, default, presenceOf, Member, memberOf, Ty, basic, sequence, choice, listOf, Members, membersFrom, typed, typeFrom}
-use Rattle.table.specs.Work.{Sound}
+use Rattle.table.specs.inner.Work.{Sound}
 use Rattle.value.proofs.CheckSteps.{typed-list, typed-choice, typed-sequence, typed-basic}
 use Rattle.reference.specs.Reference.{Index, position, fromEnd, count, all, Id, name, index, readReference}
 use Rattle.reference.specs.Numbers.{Component, byDefault, byCount}
-use Rattle.reference.specs.Work.{cap, idsAt, headCapped, reportIdStep, advances}
+use Rattle.reference.specs.inner.Work.{cap, idsAt, headCapped, reportIdStep, advances}
 use Rattle.reference.specs.declared.Step.{Step}
 use Rattle.reference.proofs.Laws.{ids-all, ids-over, ids-within, bad-step, end-step, name-step, position-step, from-end-step, count-step, all-step, name-rises, position-rises, from-end-rises, all-rises}
 use Rattle.trail.specs.Opened.{Opened, after, openAt}
 use Rattle.trail.specs.Trail.{Trail, done, misfit, reach, then, orMisfit, eachFrom, countFrom, ending, lackingTrail, onFound, along}
 use Rattle.trail.specs.Trail as trail
-use Rattle.trail.specs.Work.{reportOpening, reportCounted, reportFound, landsIn, standing, located}
+use Rattle.trail.specs.inner.Work.{reportOpening, reportCounted, reportFound, landsIn, standing, located}
 use Rattle.trail.specs.declared.Opening.{Opening}
 use Rattle.trail.specs.declared.Counted.{Counted}
 use Rattle.trail.specs.declared.Found.{Found}
 use Rattle.trail.proofs.OpenSteps.{open-long}
 use Rattle.trail.proofs.ListSteps.{plainly}
 use Rattle.trail.proofs.Locating.{along-name, along-position, along-from-end, along-count, along-all, index-on-basic, index-on-sequence, index-on-choice, along-end, trail-by, located-position-capped, located-from-end-capped}
-use Rattle.walk.specs.Run.{Seen, seen, componentOf, visited, run, idsOr, idsFrom, goingOn, tally}
+use Rattle.walk.specs.inner.Run.{Seen, seen, componentOf, visited, run, idsOr, idsFrom, goingOn, tally}
 use Rattle.walk.specs.declared.State.{State}
 use Rattle.walk.specs.declared.Task.{Task}
 use Rattle.walk.specs.declared.Reached.{Reached}

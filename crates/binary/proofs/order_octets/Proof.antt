@@ -1,6 +1,6 @@
 use Prim.Native.Nat.{_-_}
 use Rattle.binary.proofs.Steps.{order-above, order-less, order-more, order-on, order-same, order-shorter}
-use Rattle.binary.specs.Answers.{ordered}
+use Rattle.binary.specs.inner.Answers.{ordered}
 use Rattle.octets.specs.Octets.{paired}
 use borrow.Author.Needs.{needs}
 use lib.ListN.{drop, length}

@@ -1,6 +1,6 @@
 use Prim.Native.Nat.{_-_}
 use Rattle.binary.proofs.BitSteps.{bits-differ, bits-done, bits-on, bits-short, bits-start}
-use Rattle.binary.specs.Answers.{bitsIn, restBits}
+use Rattle.binary.specs.inner.Answers.{bitsIn, restBits}
 use Rattle.der.specs.Meaning.{bitsOf}
 use Rattle.octets.specs.Octets.{same}
 use borrow.Author.Needs.{needs}

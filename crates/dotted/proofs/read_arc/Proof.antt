@@ -1,6 +1,6 @@
 use Prim.Native.Nat.{_-_}
 use Rattle.dotted.proofs.ArcSteps.{arc-done, arc-dot, arc-more, arc-start}
-use Rattle.dotted.specs.Arcs.{arcAt, arcFrom}
+use Rattle.dotted.specs.inner.Arcs.{arcAt, arcFrom}
 use borrow.Author.Needs.{needs}
 use lib.ListN.{drop, length}
 use mathlib.Core.Path.{_≡_}

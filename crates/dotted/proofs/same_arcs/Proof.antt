@@ -1,8 +1,8 @@
 use Rattle.der.specs.Dotted.{dottedArcs}
 use Rattle.der.specs.Meaning.{arcsOf}
 use Rattle.dotted.proofs.HeldSteps.{arcs-differ, arcs-ended, arcs-fall, arcs-more, arcs-over, arcs-start}
-use Rattle.dotted.specs.Arcs.{restPieces}
-use Rattle.dotted.specs.Held.{matches, restArcs, restHeld}
+use Rattle.dotted.specs.inner.Arcs.{restPieces}
+use Rattle.dotted.specs.inner.Held.{matches, restArcs, restHeld}
 use Rattle.octets.specs.Octets.{same}
 use borrow.Author.Needs.{needs}
 use lib.ListN.{length}

@@ -1,5 +1,5 @@
 use Rattle.octets.proofs.Laws.{all-none, all-more, all-bad, all-done}
-use Rattle.groups.specs.Work.{rowAgrees}
+use Rattle.groups.specs.inner.Work.{rowAgrees}
 use Rattle.octets.specs.Pick.{all}
 use native.Mathlib.Omega.{arith}
 use mathlib.Core.Bool.{true}

@@ -1,5 +1,5 @@
 use Rattle.groups.proofs.ChainSteps.{tallest-none, tallest-more, tallest-done}
-use Rattle.groups.specs.Work.{memberDepth, tallest}
+use Rattle.groups.specs.inner.Work.{memberDepth, tallest}
 use native.Mathlib.Omega.{arith}
 use mathlib.Core.Path.{_≡_}
 use Prim.Native.Nat.{_-_, _≤_}

@@ -5,8 +5,8 @@ use lib.ListN.{length}
 use borrow.Fn.Kinds.{In}
 use borrow.Fn.PlainCycle.{Measures, is, falls, and}
 use Rattle.table.specs.Types.{typeFrom}
-use Rattle.filter.specs.Answers.{reportJoin}
-use Rattle.judge.specs.Work.{begun}
+use Rattle.filter.specs.inner.Answers.{reportJoin}
+use Rattle.judge.specs.inner.Work.{begun}
 use Rattle.judge.proofs.judge_filter.Reads as judge-filter
 use Rattle.judge.proofs.judge_filter.Kinds as judge-filter-kinds
 use Rattle.judge.proofs.+judge_filter+judge_list.Lts-judge_filter as judge-filter-lts

@@ -1,5 +1,5 @@
 use Rattle.octets.proofs.Steps.{highest-more, highest-done}
-use Rattle.octets.specs.Answers.{highestFrom, highest}
+use Rattle.octets.specs.inner.Answers.{highestFrom, highest}
 use mathlib.Core.Path.{_≡_, refl}
 use Prim.Native.Nat.{_-_}
 use lib.ListN.{length, drop}

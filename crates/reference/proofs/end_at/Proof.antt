@@ -1,4 +1,4 @@
-use Rattle.reference.specs.Work.{endAt}
+use Rattle.reference.specs.inner.Work.{endAt}
 use lib.ListN.{length}
 use Prim.Native.Nat.{_≤_, _-_}
 use mathlib.Core.Path.{_≡_, refl}

@@ -1,5 +1,5 @@
-use Rattle.reference.specs.Work.{namedOf}
-use Rattle.value.specs.Work.{first}
+use Rattle.reference.specs.inner.Work.{namedOf}
+use Rattle.value.specs.inner.Work.{first}
 use Rattle.rows.specs.Row.{rowAt, membersAt}
 use Rattle.octets.specs.Octets.{part}
 use native.Mathlib.Omega.{arith}

@@ -4,7 +4,7 @@ use mathlib.Core.Path.{_≡_, refl}
 use mathlib.Core.Bool.{true}
 use Prim.Native.Nat.{_≤_, _+_, _-_}
 use lib.ListN.{length}
-use Rattle.reference.specs.Work.{idsAt, reportTarget, rowWithin, along}
+use Rattle.reference.specs.inner.Work.{idsAt, reportTarget, rowWithin, along}
 use Rattle.reference.specs.declared.Target.{Target}
 use borrow.Author.Needs.{needs}
 use Rattle.reference.proofs.follow.Statement.{statement}

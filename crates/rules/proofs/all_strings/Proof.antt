@@ -1,7 +1,7 @@
 use Prim.Native.Nat.{_-_, _≤_}
 use Rattle.octets.proofs.Laws.{all-bad, all-done, all-more, all-none}
 use Rattle.octets.specs.Pick.{all}
-use Rattle.rules.specs.Answers.{stringRow}
+use Rattle.rules.specs.inner.Answers.{stringRow}
 use borrow.Author.Needs.{needs}
 use mathlib.Core.Bool.{true}
 use mathlib.Core.Path.{_≡_}

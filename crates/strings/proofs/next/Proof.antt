@@ -1,5 +1,5 @@
 use Rattle.strings.proofs.CursorSteps.{next-emits, next-end, next-falls, next-space}
-use Rattle.strings.specs.Cursor.{lettersAt, restAt}
+use Rattle.strings.specs.inner.Cursor.{lettersAt, restAt}
 use borrow.Author.Needs.{needs}
 use lib.ListN.{length}
 use mathlib.Core.Path.{_≡_, refl}

@@ -1,7 +1,7 @@
 use Rattle.octets.specs.Octets.{same}
 use Rattle.octets.specs.Quoted.{undoubled}
 use Rattle.strings.proofs.CursorSteps.{match-differs, match-ended, match-falls, match-longer, match-more, match-start}
-use Rattle.strings.specs.Cursor.{rest}
+use Rattle.strings.specs.inner.Cursor.{rest}
 use Rattle.strings.specs.Prepared.{prepared}
 use borrow.Author.Needs.{needs}
 use lib.ListN.{length}

@@ -1,5 +1,5 @@
 use Rattle.octets.proofs.Tests.{tests}
-use Rattle.trail.specs.Work.{isNear}
+use Rattle.trail.specs.inner.Work.{isNear}
 use Rattle.trail.proofs.is_near.Statement.{statement}
 use Rattle.trail.proofs.is_near.Tie as tie
 

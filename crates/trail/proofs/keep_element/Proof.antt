@@ -1,4 +1,4 @@
-use Rattle.trail.specs.Work.{keep}
+use Rattle.trail.specs.inner.Work.{keep}
 use Rattle.trail.proofs.KeepSteps.{room-2, room-3}
 use borrow.Author.Needs.{needs}
 use Rattle.trail.proofs.keep_element.Statement.{statement}

@@ -1,7 +1,7 @@
 use Prim.Native.Nat.{_-_, _≤_}
 use mathlib.Core.Path.{_≡_}
 use native.Mathlib.Omega.{arith}
-use Rattle.value.specs.Work.{first, markedOf}
+use Rattle.value.specs.inner.Work.{first, markedOf}
 use Rattle.value.proofs.LeafSteps.{first-start, first-found, first-again, first-done}
 use borrow.Author.Needs.{needs}
 use Rattle.value.proofs.find_alternative.Statement.{statement}

@@ -40,7 +40,7 @@ use denote.Triple.Clauses.{atExit, ensured, lasts}
 use Rattle.octets.specs.Octets as octets
 use Rattle.value.specs.Paper.{valueLimits}
 use Rattle.value.specs.Part.{partReport, report}
-use Rattle.value.specs.Work.{unlessRefused}
+use Rattle.value.specs.inner.Work.{unlessRefused}
 use Rattle.value.specs.declared.ValuePart.{ValuePart}
 use Rattle.value.proofs.PartSteps.{reported}
 use Rattle.value.proofs.ValuePart as T

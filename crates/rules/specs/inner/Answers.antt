@@ -12,7 +12,7 @@ use Rattle.der.specs.Kind.{isString}
 use Rattle.times.specs.Asserted.{isTime}
 use Rattle.rows.specs.Row.{kindAt, modeAt, rowAt, membersAt}
 use Rattle.groups.specs.Clauses.{memberPlace}
-use Rattle.groups.specs.Work.{memberType}
+use Rattle.groups.specs.inner.Work.{memberType}
 use Rattle.rules.specs.Rule.{Syntax, booleans, integers, objectIdentifiers, octetStrings, bitStrings, strings, times, Rule, present, equal, less}
 use Rattle.rules.specs.Rule.{sameName}
 use Rattle.rules.specs.Suits.{suitsKind}

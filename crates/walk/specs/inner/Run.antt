@@ -10,10 +10,10 @@ use Rattle.rows.specs.Row.{rowAt}
 use Rattle.table.specs.Types.{Ty, memberOf}
 use Rattle.value.specs.Value.{spotAt}
 use Rattle.reference.specs.Reference.{Id}
-use Rattle.reference.specs.Work.{idsAt}
+use Rattle.reference.specs.inner.Work.{idsAt}
 use Rattle.reference.specs.Numbers.{Component, stored, byDefault, byCount, numbersOf, contentsOf}
 use Rattle.rules.specs.Accepts.{acceptsContents, acceptsCount}
-use Rattle.rules.specs.Answers.{meant, isReadBy}
+use Rattle.rules.specs.inner.Answers.{meant, isReadBy}
 use Rattle.rules.specs.Rule as rule
 use Rattle.trail.specs.Opened.{Opened}
 use Rattle.trail.specs.Trail.{Trail, done, misfit, reach, ending, along}

@@ -16,7 +16,7 @@ use Rattle.rows.specs.Row.{rowAt, kindAt, typeRowAt, modeAt, numberAt, presence
 use Rattle.groups.specs.Clauses.{memberPlace}
 use Rattle.table.specs.Types.{Tagging, untagged, explicit, implicit, taggingOf, Member, Ty, Members}
 use Rattle.table.specs.Begins.{isMandatory}
-use Rattle.table.specs.Work.{bitOf, memberMask}
+use Rattle.table.specs.inner.Work.{bitOf, memberMask}
 use Rattle.value.specs.Value.{Values, endValues, next, encoding}
 use Rattle.value.specs.Order.{rising}
 use Rattle.value.specs.Decode.{Decoded, tagOctet, startsHere, unlessDefault, many, unwrapped, fieldsFrom, decode}

@@ -11,7 +11,7 @@ use Rattle.octets.specs.Text.{decimalFrom}
 use Rattle.octets.specs.declared.Size.{Size}
 use Rattle.der.specs.Contents.{subidentifiers}
 use Rattle.der.specs.Meaning.{firstArcs}
-use Rattle.dotted.specs.Arcs.{restPieces}
+use Rattle.dotted.specs.inner.Arcs.{restPieces}
 use Rattle.dotted.specs.declared.Dots.{Dots}
 use Rattle.dotted.specs.declared.Held.{Held}
 use Rattle.dotted.specs.declared.HeldStep.{HeldStep}

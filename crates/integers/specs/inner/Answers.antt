@@ -2,7 +2,7 @@
 use Prim.Native.Nat.{ℕ}
 use mathlib.Core.Bool.{Bool, true, false}
 use lib.Dec.{ltb, eqb}
-use Rattle.octets.specs.Answers.{clip}
+use Rattle.octets.specs.inner.Answers.{clip}
 use Rattle.octets.specs.declared.Size.{Size}
 use Rattle.der.specs.Meaning.{Whole}
 use Rattle.integers.specs.declared.Asked.{Asked}

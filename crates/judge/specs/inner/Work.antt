@@ -11,14 +11,14 @@ use Rattle.octets.specs.Octets.{same}
 use Rattle.rows.specs.Row.{nameAt, rowAt, membersAt}
 use Rattle.groups.specs.Clauses.{memberPlace}
 use Rattle.table.specs.Types.{unfilled, typeFrom}
-use Rattle.table.specs.Work.{Sound}
+use Rattle.table.specs.inner.Work.{Sound}
 use Rattle.value.specs.Decode.{storedValue}
 use Rattle.reference.specs.Allowed.{Target}
 use Rattle.rules.specs.Rule.{Rule}
 use Rattle.rules.specs.Suits.{suits}
 use Rattle.rules.specs.RuleFor.{ruleFor}
 use Rattle.assertion.specs.Assertion.{Read}
-use Rattle.assertion.specs.Places.{componentOf}
+use Rattle.assertion.specs.inner.Places.{componentOf}
 use Rattle.assertion.specs.declared.Component.{Component}
 use Rattle.filter.specs.Filter.{Item, Join, and, or, Filter, Filters}
 use Rattle.filter.specs.Parse.{Tail, another, closed, noTail, tailAt}

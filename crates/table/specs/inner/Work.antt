@@ -12,7 +12,7 @@ use Rattle.der.specs.Kind as kind
 use Rattle.der.specs.Tag.{universal}
 use Rattle.rows.specs.Row.{kindAt, elementAt, presenceAt, modeAt, numberAt, typeRowAt, rows, rowAt, membersAt}
 use Rattle.groups.specs.Clauses.{memberPlace, mandatoryAt, defaultLegal}
-use Rattle.groups.specs.Work.{Later}
+use Rattle.groups.specs.inner.Work.{Later}
 use Rattle.table.specs.Types.{membersFrom, typed, typeFrom}
 use Rattle.table.specs.Begins.{begins}
 use Rattle.table.specs.Admitted.{admitted}

@@ -12,7 +12,7 @@ use Rattle.octets.specs.Text.{isName, decimal}
 use Rattle.rows.specs.Row.{nameAt, elementAt, rowAt, membersAt}
 use Rattle.groups.specs.Clauses.{memberPlace}
 use Rattle.table.specs.Types.{Ty, Members, unfilled, membersFrom, typeFrom}
-use Rattle.value.specs.Work.{first}
+use Rattle.value.specs.inner.Work.{first}
 use Rattle.reference.specs.Reference.{Index, position, fromEnd, count, all, Id, name, index, isPosition, readReference, givenIds}
 use Rattle.reference.specs.Allowed as allowed
 use Rattle.reference.specs.declared.Piece.{Piece}

@@ -6,7 +6,7 @@ use lib.Dec.{ltb, leb, eqb}
 use lib.ListN.{drop}
 use Rattle.octets.specs.Pick.{pick, both, either}
 use Rattle.octets.specs.Text.{isDigit, decimalFrom, pieces}
-use Rattle.octets.specs.Answers.{clip, growOf}
+use Rattle.octets.specs.inner.Answers.{clip, growOf}
 use Rattle.octets.specs.declared.Size.{Size}
 use Rattle.der.specs.Dotted.{everyNumber}
 use Rattle.dotted.specs.declared.Form.{Form}
