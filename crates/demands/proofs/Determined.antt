@@ -10,8 +10,8 @@ use Rattle.octets.specs.Octets.{same}
 use Rattle.rows.specs.Limits.{Limits}
 use Rattle.rows.specs.Row.{kindAt, elementAt, typeRowAt, isList, rows, rowAt, membersAt}
 use Rattle.table.specs.Types.{Tagging, Presence, mandatory, optional, default, Member, Ty, basic, sequence, choice, listOf}
-use Rattle.table.specs.Types.{Members, noMore, more, memberOf, membersFrom, typeFrom, typeAt}
-use Rattle.value.specs.Value.{Spot, spotOf, Value, leaf, fields, chosen, elements, Fields, endFields, present, absent, Values, endValues, next}
+use Rattle.table.specs.Types.{Members, noMore, more, memberOf, membersFrom, typed, typeFrom, typeAt}
+use Rattle.value.specs.Value.{spotOf, Value, leaf, fields, chosen, elements, Fields, endFields, present, absent, Values, endValues, next}
 use Rattle.value.specs.Decode.{storedValue}
 use Rattle.value.proofs.Decodes.{Decodes, is-basic, is-sequence, is-choice, is-list, Tagged, bare, filling}
 use Rattle.value.proofs.Decodes.{Fielded, none-left, there, lacks, Chosen, this, other, Elements, ends, goes, decodes-stored}
@@ -20,7 +20,7 @@ use Rattle.reader.proofs.Laws.{stored-seen}
 use Rattle.reference.specs.Reference.{Index, position, fromEnd, count, all, Id, name, index}
 use Rattle.reference.specs.Named as names
 use Rattle.reference.specs.Named.{Held, value, defaultValue, countValue, absentNames, memberNamed, size, each, indexedBy, step, replaced, held, named}
-use Rattle.reference.specs.Numbers.{Component, stored, byDefault, byCount, component, numbersOf, threes}
+use Rattle.reference.specs.Numbers.{Component, stored, byDefault, component, numbersOf, threes}
 use Rattle.rules.specs.Accepts.{accepts}
 use Rattle.demands.specs.Named.{components, acceptsOne}
 use Rattle.demands.specs.Numbers.{componentBy, componentsBy, readBack, Each, Determined}
@@ -46,17 +46,22 @@ unfolding Rowed membersFrom memberOf
 members-rowed t s f types zero i = tt
 members-rowed t s f types (suc n) i = (refl, (types (typeRowAt t (rowAt s i)), members-rowed t s f types n (i + 1)))
 
+typed-rowed : (t s : List ℕ) (k : ℕ) (ty : Ty) (ms : Members) → Rowed t s ty → RowedIn t s ms → Rowed t s (typed k ty ms)
+unfolding Rowed
+typed-rowed t s k ty ms element parts = go (eqb k 12) (eqb k 13) (isList k)
+  where
+    go : (x y z : Bool) → Rowed t s (pick x (sequence ms) (pick y (choice ms) (pick z (listOf k ty) (basic k))))
+    go true y z = parts
+    go false true z = parts
+    go false false true = element
+    go false false false = tt
+
 type-rowed : (t s : List ℕ) (n i : ℕ) → Rowed t s (typeFrom n t s i)
 unfolding Rowed typeFrom
 type-rowed t s zero i = tt
-type-rowed t s (suc n) i = go (eqb (kindAt t (rowAt s i)) 12) (eqb (kindAt t (rowAt s i)) 13) (isList (kindAt t (rowAt s i))) (λ j. type-rowed t s n j)
-  where
-    go : (x y z : Bool) → ((j : ℕ) → Rowed t s (typeFrom n t s j))
-        → Rowed t s (pick x (sequence (membersFrom (typeFrom n t s) t s (i + 1) (membersAt t (rowAt s i)))) (pick y (choice (membersFrom (typeFrom n t s) t s (i + 1) (membersAt t (rowAt s i)))) (pick z (listOf (kindAt t (rowAt s i)) (typeFrom n t s (elementAt t (rowAt s i)))) (basic (kindAt t (rowAt s i))))))
-    go true y z types = members-rowed t s (typeFrom n t s) types (membersAt t (rowAt s i)) (i + 1)
-    go false true z types = members-rowed t s (typeFrom n t s) types (membersAt t (rowAt s i)) (i + 1)
-    go false false true types = types (elementAt t (rowAt s i))
-    go false false false types = tt
+type-rowed t s (suc n) i =
+    typed-rowed t s (kindAt t (rowAt s i)) _ _ (type-rowed t s n (elementAt t (rowAt s i)))
+    (members-rowed t s (typeFrom n t s) (λ j. type-rowed t s n j) (membersAt t (rowAt s i)) (i + 1))
 
 -- ---- each member that a decoded value lacks, at any depth, is that of its own row
 unfoldable mutual
@@ -107,35 +112,28 @@ module _ (t s v : List ℕ) where
 abbrev Known : List ℕ → List ℕ → List ℕ → Value → Type 0
 Known t s v x = SeesAll v x × Lacks t s x
 
+abbrev KnowsOne : List ℕ → List ℕ → List ℕ → Held → Type 0
+KnowsOne t s v (value x) = Known t s v x
+KnowsOne t s v (defaultValue p m) = OfRow t s m
+KnowsOne t s v (countValue p n) = Unit {0}
+
 unfoldable Knows : List ℕ → List ℕ → List ℕ → List Held → Type 0
 Knows t s v [] = Unit {0}
-Knows t s v (value x ∷ hs) = Known t s v x × Knows t s v hs
-Knows t s v (defaultValue p m ∷ hs) = OfRow t s m × Knows t s v hs
-Knows t s v (countValue p n ∷ hs) = Knows t s v hs
+Knows t s v (h ∷ hs) = KnowsOne t s v h × Knows t s v hs
 
 module _ (t s v : List ℕ) where
   none-held : Knows t s v []
   unfolding Knows
   none-held = tt
 
-  one-held : (x : Value) → Known t s v x → Knows t s v (value x ∷ [])
+  one-held : (h : Held) → KnowsOne t s v h → Knows t s v (h ∷ [])
   unfolding Knows
-  one-held x w = (w, tt)
-
-  default-held : (p : ℕ) (m : Member) → OfRow t s m → Knows t s v (defaultValue p m ∷ [])
-  unfolding Knows
-  default-held p m w = (w, tt)
-
-  count-held : (p n : ℕ) → Knows t s v (countValue p n ∷ [])
-  unfolding Knows
-  count-held p n = tt
+  one-held h w = (w, tt)
 
   knows-append : (a b : List Held) → Knows t s v a → Knows t s v b → Knows t s v (a ++ b)
   unfolding Knows
   knows-append [] b u w = w
-  knows-append (value x ∷ a) b u w = (u .0, knows-append a b (u .1) w)
-  knows-append (defaultValue p m ∷ a) b u w = (u .0, knows-append a b (u .1) w)
-  knows-append (countValue p n ∷ a) b u w = knows-append a b u w
+  knows-append (h ∷ a) b u w = (u .0, knows-append a b (u .1) w)
 
   knows-pick : (z : Bool) (a b : List Held) → Knows t s v a → Knows t s v b → Knows t s v (pick z a b)
   knows-pick true a b p q = p
@@ -145,13 +143,17 @@ module _ (t s v : List ℕ) where
   absent-known : (defaults : Bool) (place : ℕ) (m : Member) (pr : Presence) → OfRow t s m → Knows t s v (absentNames defaults place m pr)
   absent-known defaults place m mandatory w = none-held
   absent-known defaults place m optional w = none-held
-  absent-known defaults place m (default c) w = knows-pick defaults (defaultValue place m ∷ []) [] (default-held place m w) none-held
+  absent-known defaults place m (default c) w = knows-pick defaults (defaultValue place m ∷ []) [] (one-held (defaultValue place m) w) none-held
 
   member-known : (defaults : Bool) (place : ℕ) (x : List ℕ) (fs : Fields) → SeesFields v fs → LackIn t s fs → Knows t s v (memberNamed defaults place x fs)
   unfolding SeesAll Lacks memberNamed
   member-known defaults place x endFields a b = none-held
-  member-known defaults place x (present m y fs) a b = knows-pick (same (m .name) x) (value y ∷ []) (memberNamed defaults place x fs) (one-held y (a .0, b .0)) (member-known defaults place x fs (a .1) (b .1))
-  member-known defaults place x (absent m fs) a b = knows-pick (same (m .name) x) (absentNames defaults place m (m .presence)) (memberNamed defaults place x fs) (absent-known defaults place m (m .presence) (b .0)) (member-known defaults place x fs a (b .1))
+  member-known defaults place x (present m y fs) a b =
+      knows-pick (same (m .name) x) (value y ∷ []) (memberNamed defaults place x fs)
+      (one-held (value y) (a .0, b .0)) (member-known defaults place x fs (a .1) (b .1))
+  member-known defaults place x (absent m fs) a b =
+      knows-pick (same (m .name) x) (absentNames defaults place m (m .presence)) (memberNamed defaults place x fs)
+      (absent-known defaults place m (m .presence) (b .0)) (member-known defaults place x fs a (b .1))
 
   each-known : (xs : Values) → SeesElements v xs → LackEach t s xs → Knows t s v (each xs)
   unfolding SeesAll Lacks each Knows
@@ -161,38 +163,33 @@ module _ (t s v : List ℕ) where
   element-known : (n : ℕ) (xs : Values) → SeesElements v xs → LackEach t s xs → Knows t s v (names.elementAt n xs)
   unfolding SeesAll Lacks names.elementAt
   element-known n endValues a b = none-held
-  element-known n (next x xs) a b = knows-pick (eqb n 1) (value x ∷ []) (names.elementAt (n - 1) xs) (one-held x (a .0, b .0)) (element-known (n - 1) xs (a .1) (b .1))
+  element-known n (next x xs) a b =
+      knows-pick (eqb n 1) (value x ∷ []) (names.elementAt (n - 1) xs) (one-held (value x) (a .0, b .0)) (element-known (n - 1) xs (a .1) (b .1))
 
   index-known : (i : Index) (place : ℕ) (xs : Values) → SeesElements v xs → LackEach t s xs → Knows t s v (indexedBy i place xs)
   index-known (position n) place xs a b = element-known n xs a b
-  index-known (fromEnd n) place xs a b = knows-pick (leb n (size xs)) (names.elementAt (size xs + 1 - n) xs) [] (element-known (size xs + 1 - n) xs a b) none-held
-  index-known count place xs a b = count-held place (size xs)
+  index-known (fromEnd n) place xs a b =
+      knows-pick (leb n (size xs)) (names.elementAt (size xs + 1 - n) xs) [] (element-known (size xs + 1 - n) xs a b) none-held
+  index-known count place xs a b = one-held (countValue place (size xs)) tt
   index-known all place xs a b = each-known xs a b
 
-  step-known : (defaults : Bool) (i : Id) (x : Value) → Known t s v x → Knows t s v (step defaults i (value x))
+  step-known : (defaults : Bool) (i : Id) (h : Held) → KnowsOne t s v h → Knows t s v (step defaults i h)
   unfolding SeesAll Lacks step
-  step-known defaults i (leaf k p) w = none-held
-  step-known defaults (name x) (fields p fs) w = member-known defaults (p .place) x fs (w .0 .1) (w .1)
-  step-known defaults (index j) (fields p fs) w = none-held
-  step-known defaults (name x) (chosen p m y) w = knows-pick (same (m .name) x) (value y ∷ []) [] (one-held y (w .0 .1, w .1)) none-held
-  step-known defaults (index j) (chosen p m y) w = none-held
-  step-known defaults (name x) (elements p xs) w = none-held
-  step-known defaults (index j) (elements p xs) w = index-known j (p .place) xs (w .0 .1) (w .1)
-
-  step-default : (defaults : Bool) (i : Id) (p : ℕ) (m : Member) → Knows t s v (step defaults i (defaultValue p m))
-  unfolding step
-  step-default defaults i p m = none-held
-
-  step-count : (defaults : Bool) (i : Id) (p n : ℕ) → Knows t s v (step defaults i (countValue p n))
-  unfolding step
-  step-count defaults i p n = none-held
+  step-known defaults i (value (leaf k p)) w = none-held
+  step-known defaults (name x) (value (fields p fs)) w = member-known defaults (p .place) x fs (w .0 .1) (w .1)
+  step-known defaults (index j) (value (fields p fs)) w = none-held
+  step-known defaults (name x) (value (chosen p m y)) w = knows-pick (same (m .name) x) (value y ∷ []) [] (one-held (value y) (w .0 .1, w .1)) none-held
+  step-known defaults (index j) (value (chosen p m y)) w = none-held
+  step-known defaults (name x) (value (elements p xs)) w = none-held
+  step-known defaults (index j) (value (elements p xs)) w = index-known j (p .place) xs (w .0 .1) (w .1)
+  step-known defaults i (defaultValue p m) w = none-held
+  step-known defaults i (countValue p n) w = none-held
 
   replaced-known : (defaults : Bool) (i : Id) (hs : List Held) → Knows t s v hs → Knows t s v (replaced defaults i hs)
   unfolding Knows replaced
   replaced-known defaults i [] w = tt
-  replaced-known defaults i (value x ∷ hs) w = knows-append (step defaults i (value x)) (replaced defaults i hs) (step-known defaults i x (w .0)) (replaced-known defaults i hs (w .1))
-  replaced-known defaults i (defaultValue p m ∷ hs) w = knows-append (step defaults i (defaultValue p m)) (replaced defaults i hs) (step-default defaults i p m) (replaced-known defaults i hs (w .1))
-  replaced-known defaults i (countValue p n ∷ hs) w = knows-append (step defaults i (countValue p n)) (replaced defaults i hs) (step-count defaults i p n) (replaced-known defaults i hs w)
+  replaced-known defaults i (h ∷ hs) w =
+      knows-append (step defaults i h) (replaced defaults i hs) (step-known defaults i h (w .0)) (replaced-known defaults i hs (w .1))
 
   held-known : (defaults : Bool) (is : List Id) (hs : List Held) → Knows t s v hs → Knows t s v (held defaults is hs)
   unfolding held
@@ -208,24 +205,17 @@ seen-spot v (chosen p m x) w = w .0
 seen-spot v (elements p xs) w = w .0
 
 module _ (l : Limits) (t v : List ℕ) where
-  stored-back : (p : Spot) → Sees v p → readBack l t v (stored p) ≡ stored p
+  one-back : (h : Held) → KnowsOne t (rows (l .rows) t) v h → readBack l t v (component h) ≡ component h
   unfolding componentBy numbersOf
-  stored-back p w = ap (λ (c : List ℕ). stored (record { place = p .place; size = p .size; contents = c })) (w .contents)
-
-  default-back : (place : ℕ) (m : Member) → OfRow t (rows (l .rows) t) m → readBack l t v (byDefault place m) ≡ byDefault place m
-  unfolding componentBy numbersOf
-  default-back place m w = ap (byDefault place) w
-
-  count-back : (place n : ℕ) → readBack l t v (byCount place n) ≡ byCount place n
-  unfolding componentBy numbersOf
-  count-back place n = refl
+  one-back (value x) w =
+      let p = spotOf x in ap (λ (c : List ℕ). stored (record { place = p .place; size = p .size; contents = c })) (seen-spot v x (w .0) .contents)
+  one-back (defaultValue place m) w = ap (byDefault place) w
+  one-back (countValue place n) w = refl
 
   each-back : (hs : List Held) → Knows t (rows (l .rows) t) v hs → Each (λ c. readBack l t v c ≡ c) (map component hs)
   unfolding Knows Each
   each-back [] w = tt
-  each-back (value x ∷ hs) w = (stored-back (spotOf x) (seen-spot v x (w .0 .0)), each-back hs (w .1))
-  each-back (defaultValue p m ∷ hs) w = (default-back p m (w .0), each-back hs (w .1))
-  each-back (countValue p n ∷ hs) w = (count-back p n, each-back hs w)
+  each-back (h ∷ hs) w = (one-back h (w .0), each-back hs (w .1))
 
 each-map : (f : Component → Component) (cs : List Component) → Each (λ c. f c ≡ c) cs → map f cs ≡ cs
 unfolding Each
@@ -249,5 +239,11 @@ named-determined l t v x e defaults is =
     let s = rows (l .rows) t in
     let ty = typeFrom (l .chain) t s 0 in
     let known : Known t s v x = (stored-seen ty v x e, lacks-members t s v (decodes-stored ty v x e) (type-rowed t s (l .chain) 0)) in
-    let back : Each (λ c. readBack l t v c ≡ c) (components defaults is x) = each-back l t v (held defaults is (value x ∷ [])) (held-known t s v defaults is (value x ∷ []) (one-held t s v x known)) in
-    record { each = back; all = each-map (readBack l t v) (components defaults is x) back; listed = each-listed l t v (components defaults is x) back; acceptance = λ u text. each-accepted (accepts u text) (readBack l t v) (components defaults is x) back }
+    let back : Each (λ c. readBack l t v c ≡ c) (components defaults is x) =
+    each-back l t v (held defaults is (value x ∷ [])) (held-known t s v defaults is (value x ∷ []) (one-held t s v (value x) known)) in
+    record {
+      each = back;
+      all = each-map (readBack l t v) (components defaults is x) back;
+      listed = each-listed l t v (components defaults is x) back;
+      acceptance = λ u text. each-accepted (accepts u text) (readBack l t v) (components defaults is x) back;
+    }

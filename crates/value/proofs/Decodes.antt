@@ -115,10 +115,10 @@ framed-by {v = v} (filling {k = k} {at = at} {end = end} {start = start} {n = n}
 behind : {v : List ℕ} {octet at end start n : ℕ} → insideAt octet v at end ≡ Inside.Of start n → Behind v octet at end start n (spotAt v at start n) (start + n)
 behind e = record { header = e; spot = refl; ends = refl }
 
--- any header there, where what is decoded ends with it
 found-same : (a b c x y z : ℕ) → _≡_ {A = Header} (Header.Found a b c) (Header.Found x y z) → b + c ≡ y + z
 found-same a b c x y z e = let p : b ≡ y = cc in let q : c ≡ z = cc in ap₂ _+_ p q
 
+-- any header there, where what is decoded ends with it
 behind-any : (v : List ℕ) (at end start n after : ℕ) → anyTag (headerAt v at end) ≡ Inside.Of start n → Framed v at end after
     → Behind v (octet v at) at end start n (spotAt v at start n) after
 unfolding insideAt
@@ -127,11 +127,11 @@ behind-any v at end start n after e w =
     let ends = found-same _ start n _ (w .start) (w .n) (sym h ∙ w .header) ∙ w .ends in
     record { header = rw (h, eq-eqb (octet v at) (octet v at) refl); spot = refl; ends = ends }
 
--- under a tag mode, where the value inside is made
-abbrev Made : (v : List ℕ) → Ty → Tagging → Decoded → Type 0
+-- what is decoded inside a wrapper, at any place, is made; the same under a tag mode, at a place
+abbrev Made : List ℕ → Ty → Tagging → Decoded → Type 0
 Made v ty g d = (a e : ℕ) → unwrapped ty g v a e ≡ some d → Decodes v ty g a e (d .value) (d .after)
 
-abbrev MadeTagged : (v : List ℕ) → Ty → Tagging → ℕ → ℕ → Decoded → Type 0
+abbrev MadeTagged : List ℕ → Ty → Tagging → ℕ → ℕ → Decoded → Type 0
 MadeTagged v ty g at end d = inWrapper afterOf g (λ a e. unwrapped ty g v a e) v at end ≡ some d → Tagged v ty g at end (d .value) (d .after)
 
 tagged-by : (ty : Ty) (g : Tagging) (v : List ℕ) (at end : ℕ) (d : Decoded) → Made v ty g d → MadeTagged v ty g at end d
