@@ -17,8 +17,6 @@ use Rattle.engine.specs.Limits.{Limits}
 use Rattle.judge.specs.Truth.{Truth, TRUE, FALSE, UNDEFINED}
 use Rattle.judge.specs.Reading.{Outcome, settled, misfitAfter, reading}
 use Rattle.judge.specs.Assertion.{outcome}
-use Rattle.judge.specs.declared.Verdict.{Verdict}
-use Rattle.judge.specs.declared.Judged.{Judged}
 use Rattle.engine.specs.declared.Answer.{Answer}
 
 -- a refusal number, 0 for none; the truth and the number of tests. A refusal "returns its number, no truth and count 0"

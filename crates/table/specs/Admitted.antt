@@ -2,8 +2,7 @@
 use Prim.Native.Nat.{ℕ}
 use mathlib.Core.Bool.{Bool}
 use mathlib.Core.List.{List}
-use lib.ListN.{length}
-use Rattle.octets.specs.Pick.{pick, both}
+use Rattle.octets.specs.Pick.{both}
 use Rattle.rows.specs.Limits.{Limits}
 use Rattle.rows.specs.Row.{rows}
 use Rattle.table.specs.Types.{typeFrom}

@@ -2,7 +2,7 @@
 use Prim.Native.Nat.{ℕ, _+_}
 use mathlib.Core.List.{List, []}
 use lib.ListN.{length}
-use lib.Dec.{leb, eqb}
+use lib.Dec.{leb}
 use denote.Ref.{now}
 use Rattle.octets.specs.Pick.{pick}
 use Rattle.octets.specs.Octets.{part}
