@@ -10,7 +10,8 @@ use lib.Dec.{eqb}
 use lib.ListN.{length, take, drop, length-take, length-append}
 use lib.Seq.{take-take}
 use Rattle.octets.specs.Pick.{pick, no, bind}
-use Rattle.octets.specs.Octets.{octet, part, between}
+use Rattle.octets.specs.Octets.{octet, part}
+use Rattle.octets.specs.inner.Answers.{between}
 use Rattle.octets.specs.Text.{starts, trimmed}
 use Rattle.octets.specs.Quoted.{closing, closingAt}
 use Rattle.octets.specs.inner.Answers.{reportPlace}

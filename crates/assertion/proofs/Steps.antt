@@ -9,7 +9,8 @@ use borrow.Author.Tests.{eq-eqb, ne-eqb, not-true, not-false}
 use lib.ListN.{length, take, drop}
 use lib.Seq.{take-suc, take-length, length-take-le}
 use Rattle.octets.specs.Pick.{no}
-use Rattle.octets.specs.Octets.{octet, part, between, every, bytes}
+use Rattle.octets.specs.Octets.{octet, part, every, bytes}
+use Rattle.octets.specs.inner.Answers.{between}
 use Rattle.octets.specs.Text.{isLower, isUpper, isLetter, isAlnum, starts, skip, trimmed}
 use Rattle.octets.specs.Quoted.{closingAt, characters}
 use Rattle.octets.specs.inner.Answers.{reportPlace}

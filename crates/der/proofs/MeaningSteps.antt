@@ -12,7 +12,8 @@ use lib.Bits.{bitAnd, and-mask}
 use lib.ListN.{length, getD, drop, length-take, length-append, List·getD-append, List·getD-eq-default}
 use lib.Seq.{getD-take, getD-append-add}
 use Rattle.octets.specs.Pick.{pick}
-use Rattle.octets.specs.Octets.{octet, between, baseFrom}
+use Rattle.octets.specs.Octets.{octet, baseFrom}
+use Rattle.octets.specs.inner.Answers.{between}
 use Rattle.octets.proofs.Laws.{octet-past, rest-cons, rest-none}
 use Rattle.der.specs.Tag.{form, universal, ownOctet, implicitOctet, wrapperOctet}
 use Rattle.der.specs.Contents.{legal}

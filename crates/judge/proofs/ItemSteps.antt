@@ -8,7 +8,7 @@ use native.Mathlib.Omega.{arith}
 use borrow.Author.Tests.{not-true, not-false, le-leb}
 use lib.ListN.{length}
 use Rattle.octets.specs.Pick.{pick, both, bind, isSome}
-use Rattle.octets.specs.Octets.{between}
+use Rattle.octets.specs.inner.Answers.{between}
 use Rattle.table.specs.Types.{Ty, typeFrom}
 use Rattle.table.specs.inner.Work.{Sound}
 use Rattle.value.specs.Decode.{storedValue}

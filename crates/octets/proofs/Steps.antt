@@ -11,7 +11,8 @@ use lib.Dec.{ltb, eqb, eqb·suc-suc}
 use lib.ListN.{length, take, drop}
 use lib.Seq.{take-nil}
 use Rattle.octets.specs.Pick.{pick}
-use Rattle.octets.specs.Octets.{octet, part, between, every, larger, same}
+use Rattle.octets.specs.Octets.{octet, part, every, larger, same}
+use Rattle.octets.specs.inner.Answers.{between}
 use Rattle.octets.specs.inner.Answers.{highestFrom, highest}
 use Rattle.octets.specs.Text.{isDigit, isAlnum, mayFollow, isNumber, starts, lead, skip, decimalFrom, decimal}
 use Rattle.octets.specs.Utf8.{afterFirst, after, utf8From, utf8, mayEnd, awaits}

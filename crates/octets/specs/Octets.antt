@@ -21,10 +21,6 @@ two s i = octet s i * 256 + octet s (i + 1)
 abbrev pub part : List ℕ → ℕ → ℕ → List ℕ
 part s i n = take n (drop i s)
 
--- from place a up to place b
-abbrev pub between : List ℕ → ℕ → ℕ → List ℕ
-between s a b = part s a (b - a)
-
 -- the number that octets stand for, base 256, after octets that stand for n
 unfoldable pub baseFrom : ℕ → List ℕ → ℕ
 baseFrom n [] = n

@@ -6,7 +6,7 @@ ghost use Rattle.octets.specs.Octets as octets;
 ghost use Rattle.octets.specs.Text as text;
 ghost use Rattle.octets.specs.Utf8 as unicode;
 ghost use Rattle.octets.specs.Quoted.{closingAt, closing};
-ghost use Rattle.octets.specs.inner.Answers.{clip, reportPlace, growOf, highest};
+ghost use Rattle.octets.specs.inner.Answers.{clip, reportPlace, growOf, highest, between};
 
 // A number of any size: below 2^64, or beyond.
 pub enum Size {
@@ -73,7 +73,7 @@ pub fn part(s: &[u8], at: usize, n: usize) -> &[u8]
 
 // From place a up to place b; nothing where b is not further on.
 pub fn between(s: &[u8], a: usize, b: usize) -> &[u8]
-    ensures { λ r. ⌜ now r ≡ octets.between (now (s .entry)) a b ⌝ }
+    ensures { λ r. ⌜ now r ≡ between (now (s .entry)) a b ⌝ }
 {
     if b <= a {
         return part(s, a, 0);

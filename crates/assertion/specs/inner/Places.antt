@@ -5,7 +5,7 @@ use mathlib.Core.Option.{Option, none, some}
 use mathlib.Core.List.{List}
 use lib.ListN.{length, drop}
 use Rattle.octets.specs.Pick.{pick}
-use Rattle.octets.specs.Octets.{between}
+use Rattle.octets.specs.inner.Answers.{between}
 use Rattle.octets.specs.Text.{starts}
 use Rattle.octets.specs.Quoted.{characters}
 use Rattle.assertion.specs.Item.{Item}

@@ -1,12 +1,12 @@
 -- What the code's answers say.
-use Prim.Native.Nat.{ℕ, _+_, _*_}
+use Prim.Native.Nat.{ℕ, _+_, _-_, _*_}
 use mathlib.Core.Option.{Option, none, some}
 use mathlib.Core.List.{List, [], _∷_}
 use lib.Dec.{ltb}
 use Rattle.octets.specs.Pick.{pick}
 use Rattle.octets.specs.declared.Size.{Size}
 use Rattle.octets.specs.declared.Place.{Place}
-use Rattle.octets.specs.Octets.{larger}
+use Rattle.octets.specs.Octets.{part, larger}
 
 -- a number as the code holds it: beyond its numbers where it isn't below 2^64
 abbrev pub clip : ℕ → Size
@@ -30,3 +30,7 @@ highestFrom n (b ∷ bs) = highestFrom (larger n b) bs
 -- the largest octet, 0 where there is none
 abbrev pub highest : List ℕ → ℕ
 highest s = highestFrom 0 s
+
+-- from place a up to place b
+abbrev pub between : List ℕ → ℕ → ℕ → List ℕ
+between s a b = part s a (b - a)
