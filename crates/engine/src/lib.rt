@@ -10,13 +10,12 @@ use walk::State;
 use walk::Task;
 ghost use mathlib.Core.Path.{_≡_};
 ghost use mathlib.Core.Bool.{true, false};
-ghost use mathlib.Core.Option.{some};
 ghost use mathlib.Core.List.{[]};
 ghost use Prim.Native.Nat.{_≤_, _<_, _+_, _/_};
 ghost use lib.ListN.{length};
-ghost use Rattle.octets.specs.Pick.{pick, isSome};
+ghost use Rattle.octets.specs.Pick.{isSome};
 ghost use Rattle.table.specs.inner.Work.{Sound};
-ghost use Rattle.reference.specs.Reference.{readReference, givenIds};
+ghost use Rattle.reference.specs.Reference.{givenIds};
 ghost use Rattle.reference.specs.inner.Work.{leadsTo};
 ghost use Rattle.trail.specs.Trail.{trail};
 ghost use Rattle.walk.specs.inner.Run.{idsOr};
@@ -106,9 +105,9 @@ fn list_walked(
     requires sound { ⌜ Sound (tableLimits .chain) (now t) (now s) (now m) ⌝ }
     requires rows { ⌜ 0 < length (now s) ⌝ }
     requires small { ⌜ length (now v) < 18446744073709551615 ⌝ }
-    requires read { ⌜ isSome (pick given (readReference (now r)) (some [])) ≡ true ⌝ }
+    requires read { ⌜ isSome (givenIds given (now r)) ≡ true ⌝ }
     ensures { λ a. ⌜ listing a (now (room .exit))
-        ≡ walked (trail defaults (idsOr (pick given (readReference (now (r .entry))) (some []))) (rowType (now (t .entry)) (now (s .entry)) 0)
+        ≡ walked (trail defaults (idsOr (givenIds given (now (r .entry)))) (rowType (now (t .entry)) (now (s .entry)) 0)
         (now (v .entry))) (now (room .entry)) ⌝ }
 {
     let limit = too_many(room.len());

@@ -13,12 +13,11 @@ use walk::Task;
 ghost use Prim.Native.Nat.{_≤_, _<_};
 ghost use mathlib.Core.Path.{_≡_};
 ghost use mathlib.Core.Bool.{true};
-ghost use mathlib.Core.Option.{some};
 ghost use mathlib.Core.List.{[]};
 ghost use lib.ListN.{length};
-ghost use Rattle.octets.specs.Pick.{pick, both, isSome};
+ghost use Rattle.octets.specs.Pick.{both, isSome};
 ghost use Rattle.table.specs.inner.Work.{Sound};
-ghost use Rattle.reference.specs.Reference.{readReference};
+ghost use Rattle.reference.specs.Reference.{givenIds};
 ghost use Rattle.reference.specs.inner.Work as reference;
 ghost use Rattle.rules.specs.Asserted.{conforms};
 ghost use Rattle.rules.specs.inner.Answers.{meant, reportRule};
@@ -144,11 +143,11 @@ fn judge_asked(
     n: usize,
 ) -> Judged
     requires ready { ⌜ work.Ready (tableLimits .chain) (now t) (now s) (now m) (now v) ⌝ }
-    requires read { ⌜ isSome (pick given (readReference (now r)) (some [])) ≡ true ⌝ }
+    requires read { ⌜ isSome (givenIds given (now r)) ≡ true ⌝ }
     requires within { ⌜ n ≤ budget ⌝ }
     ensures { λ w. ⌜ w
         ≡ work.charged budget n (testing (run.acceptsRead (meant rule) (now (text .entry))) 0
-        (trail defaults (run.idsOr (pick given (readReference (now (r .entry))) (some []))) (rowType (now (t .entry)) (now (s .entry)) 0)
+        (trail defaults (run.idsOr (givenIds given (now (r .entry)))) (rowType (now (t .entry)) (now (s .entry)) 0)
         (now (v .entry)))) ⌝ }
 {
     let mut out = [0u64; 1];

@@ -9,13 +9,12 @@ ghost use mathlib.Core.Path.{_≡_};
 ghost use mathlib.Core.Bool.{true};
 ghost use Prim.Native.Nat.{_≤_, _<_, _+_, _-_};
 ghost use lib.ListN.{length};
-ghost use mathlib.Core.Option.{some};
 ghost use mathlib.Core.List.{[], _∷_};
-ghost use Rattle.octets.specs.Pick.{pick, isSome};
+ghost use Rattle.octets.specs.Pick.{isSome};
 ghost use Rattle.rows.specs.Row.{presenceAt, defaultAt};
 ghost use Rattle.table.specs.Types.{untagged, presenceOf};
 ghost use Rattle.table.specs.inner.Work.{Sound};
-ghost use Rattle.reference.specs.Reference.{count, all, index, readReference};
+ghost use Rattle.reference.specs.Reference.{count, all, index, givenIds};
 ghost use Rattle.reference.specs.inner.Work.{idsAt, headCapped, reportIdStep, advances};
 ghost use Rattle.reference.specs.Numbers.{contentsOf, byCount};
 ghost use Rattle.trail.specs.Opened.{openAt};
@@ -688,10 +687,10 @@ pub fn walk_value(
     requires sound { ⌜ Sound (tableLimits .chain) (now t) (now s) (now m) ⌝ }
     requires rows { ⌜ 0 < length (now s) ⌝ }
     requires small { ⌜ length (now v) < 18446744073709551615 ⌝ }
-    requires read { ⌜ isSome (pick given (readReference (now r)) (some [])) ≡ true ⌝ }
+    requires read { ⌜ isSome (givenIds given (now r)) ≡ true ⌝ }
     ensures { λ w. ⌜ run.seen w (now (out .exit))
         ≡ run.run task (now (text .entry)) (run.seen (State.Going n) (now (out .entry)))
-        (trail defaults (run.idsOr (pick given (readReference (now (r .entry))) (some []))) (rowType (now (t .entry)) (now (s .entry)) 0)
+        (trail defaults (run.idsOr (givenIds given (now (r .entry)))) (rowType (now (t .entry)) (now (s .entry)) 0)
         (now (v .entry))) ⌝ }
 {
     let Opening::Of(place, start, span) = trail::open_at(t, s, m, v, 0, 0, 0, 0, v.len()) else {
