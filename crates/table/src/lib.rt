@@ -36,7 +36,8 @@ fn context_bit(n: u8) -> u64
     0
 }
 
-fn kept(m: &[u64], i: usize) -> u64
+// The set of tags of row i; of a row past the end, none.
+pub fn kept(m: &[u64], i: usize) -> u64
     ensures { λ r. ⌜ r ≡ row.rowAt (now (m .entry)) i ⌝ }
 {
     if m.len() <= i {
