@@ -4,32 +4,37 @@ use mathlib.Core.Bool.{Bool, true, false, false≢true}
 use mathlib.Core.List.{List}
 use Prim.Native.Nat.{ℕ, _≤_, _<_, _+_, _*_}
 use native.Mathlib.Omega.{arith}
-use borrow.Author.Tests.{eq-eqb, ne-eqb, eqb-true, eqb-false, ltb-true}
+use borrow.Author.Tests.{eq-eqb, eqb-true, eqb-false, ltb-true}
 use lib.ListN.{length, getD}
 use lib.Dec.{ltb, eqb}
-use Rattle.octets.specs.Pick.{pick, both, no}
+use Rattle.octets.specs.Pick.{both, no}
 use Rattle.octets.specs.Octets.{baseFrom}
 use Rattle.octets.proofs.Laws.{both-true}
 use Rattle.rows.specs.Limits.{Limits}
-use Rattle.rows.specs.Row.{rows, rowAt, kindAt, elementAt, typeRowAt, membersAt, isGroup, isList, modeAt, numberAt, presenceAt, defaultAt}
+use Rattle.rows.specs.Row.{rows, rowAt, kindAt, elementAt, typeRowAt, membersAt, isGroup, isList, modeAt, presenceAt, defaultAt}
 use Rattle.groups.specs.Clauses.{isType, laterType, pointsLater}
 use Rattle.table.specs.Types.{untagged}
 use Rattle.table.specs.Admitted.{admitted}
-use Rattle.table.specs.Work.{Masked, Sound}
-use Rattle.table.proofs.Laws.{row-count, member-formed, points-later}
+use Rattle.table.specs.Work.{Masked}
+use Rattle.table.proofs.Laws.{row-count, row-0-is-type, member-formed, points-later}
 use Rattle.table.proofs.SoundLaws.{sound}
 use Rattle.words.proofs.Places.{row-place}
 use Rattle.words.specs.Rows.{tableRows, placeAt, taggingAt, memberKindAt}
 use Rattle.words.specs.Fields.{kindOf, firstOf, countOf, targetOf, typeOf, howOf, presenceOf, lengthOf, placeOf}
-use Rattle.words.specs.Words.{firstOctet, how, elementRow, secondOf, Shaped, Filled, Ready, Worded}
+use Rattle.words.specs.Words.{firstOctet, how, elementRow, secondOf, Shaped, Ready, Worded}
 
 -- ---- an admitted table is ready for its words
+is-type : (t s : List ℕ) (j : ℕ) → isType t s j ≡ true → kindAt t (rowAt s j) ≡ 16 → ⊥
+unfolding isType
+is-type t s j e h =
+    let b = both-true (ltb j (length s)) (no (eqb (kindAt t (rowAt s j)) 16)) e in
+    false≢true (sym (ap no (eq-eqb (kindAt t (rowAt s j)) 16 h)) ∙ b .1)
+
 later-type : (t s : List ℕ) (i j : ℕ) → laterType t s i j ≡ true → (j < length s) × (kindAt t (rowAt s j) ≡ 16 → ⊥)
 unfolding laterType isType
 later-type t s i j e =
     let a = both-true (ltb i j) (both (ltb j (length s)) (no (eqb (kindAt t (rowAt s j)) 16))) e in
-    let b = both-true (ltb j (length s)) (no (eqb (kindAt t (rowAt s j)) 16)) (a .1) in
-    (ltb-true j (length s) (b .0), λ h. false≢true (sym (ap no (eq-eqb (kindAt t (rowAt s j)) 16 h)) ∙ b .1))
+    (ltb-true j (length s) (both-true (ltb j (length s)) _ (a .1) .0), is-type t s j (a .1))
 
 module _ (t s : List ℕ) (i : ℕ) (points : pointsLater t s i ≡ true) where
   of-list : isList (kindAt t (rowAt s i)) ≡ true → laterType t s i (elementAt t (rowAt s i)) ≡ true
@@ -40,9 +45,12 @@ module _ (t s : List ℕ) (i : ℕ) (points : pointsLater t s i ≡ true) where
   unfolding pointsLater isList
   of-member h = rw h at points
 
-pub ready : (l : Limits) (t m : List ℕ) → admitted l t ≡ true → l .rows ≤ 128 → Masked (l .chain) t (rows (l .rows) t) m → Ready (l .chain) t (rows (l .rows) t) m
+pub ready : (l : Limits) (t m : List ℕ) → admitted l t ≡ true → l .rows ≤ 128 → Masked (l .chain) t (rows (l .rows) t) m
+    → Ready (l .chain) t (rows (l .rows) t) m
 ready l t m ok few masked = record {
   sound = sound l t m ok masked;
+  rooted = row-count l t ok .0;
+  root = is-type t _ 0 (row-0-is-type l t ok);
   few = let a = row-count l t ok .1 in omega arith;
   place = λ i h. let a = row-place (l .rows) t i h in let b = row-count l t ok .1 in omega arith;
   number = λ i h k. member-formed l t ok i h k .number;
@@ -111,6 +119,7 @@ module _ (t w : List ℕ) (i : ℕ) (ok : Worded t w) (here : i < length (tableR
       pub read-length : r ≡ lengthOf x → r ≡ length (defaultAt t (placeAt t i))
       read-length e = e ∙ shaped .of-member member .sized
 
-  pub read-number : (r : ℕ) → kindAt t (placeAt t i) ≡ 16 → presenceAt t (placeAt t i) ≡ 2 → r ≡ getD w (2 * i + 1) 0 → r ≡ baseFrom 0 (defaultAt t (placeAt t i))
+  pub read-number : (r : ℕ) → kindAt t (placeAt t i) ≡ 16 → presenceAt t (placeAt t i) ≡ 2 → r ≡ getD w (2 * i + 1) 0
+      → r ≡ baseFrom 0 (defaultAt t (placeAt t i))
   unfolding secondOf
   read-number r h g e = e ∙ ok .filled .second i here ∙ rw (h, g)

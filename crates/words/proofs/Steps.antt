@@ -1,5 +1,5 @@
 -- One lemma for each return and each turn of a loop; its premises are the facts as the code has them.
-use mathlib.Core.Path.{_≡_, refl, sym, ap, ap₂, _∙_}
+use mathlib.Core.Path.{_≡_, refl, sym, ap, _∙_}
 use mathlib.Core.Bool.{Bool, true, false}
 use mathlib.Core.List.{List}
 use Prim.Native.Nat.{ℕ, zero, suc, _≤_, _<_, _+_, _-_, _*_}
@@ -11,9 +11,9 @@ use lib.Seq.{getD-set-same, getD-set-other}
 use lib.Dec.{leb, eqb}
 use Rattle.octets.specs.Pick.{pick}
 use Rattle.octets.specs.Octets.{baseFrom}
-use Rattle.der.specs.Tag.{universal, form, ownOctet, implicitOctet, wrapperOctet}
+use Rattle.der.specs.Tag.{universal, ownOctet, implicitOctet, wrapperOctet}
 use Rattle.der.specs.Kind.{isConstructed}
-use Rattle.rows.specs.Row.{rowAt, kindAt, elementAt, typeRowAt, membersAt, isList, modeAt, numberAt, presenceAt, defaultLengthAt, defaultAt}
+use Rattle.rows.specs.Row.{rowAt, kindAt, elementAt, typeRowAt, membersAt, isList, modeAt, numberAt, presenceAt, defaultAt}
 use Rattle.groups.specs.Clauses.{typeKind}
 use Rattle.table.specs.Types.{Tagging, untagged, explicit, implicit, taggingOf}
 use Rattle.table.proofs.TagLaws.{universal-fits}
@@ -96,7 +96,8 @@ module _ (chain : ℕ) (t s m : List ℕ) (i p : ℕ) (ok : Ready chain t s m) (
   pub place-fits : p < 65536
   place-fits = rw placed (ok .place i here)
 
-  pub type-packed : (k f n e x : ℕ) → k ≡ kindAt t p → f ≡ firstOctet (taggingOf 0 0) k → n ≡ membersAt t p → e ≡ elementRow t p → Packed x k f n e 0 0 0 0 p → TypeWord t (rowAt s i) x
+  pub type-packed : (k f n e x : ℕ) → k ≡ kindAt t p → f ≡ firstOctet (taggingOf 0 0) k → n ≡ membersAt t p → e ≡ elementRow t p → Packed x k f n e 0 0 0 0 p
+      → TypeWord t (rowAt s i) x
   unfolding taggingOf
   type-packed k f n e x a b c d w = rw (← placed, ← a, ← b, ← c, ← d) w
 
@@ -185,17 +186,14 @@ module _ (chain : ℕ) (t s m w : List ℕ) (i : ℕ) (ok : Ready chain t s m) (
       few : 2 * i + 1 < length w
       few = let l = ok .few in omega arith
 
-      wrote : List ℕ
-      wrote = set (set w (2 * i) a) (2 * i + 1) b
-
-      apart : (j k : ℕ) → (k ≡ 2 * i → ⊥) → (k ≡ 2 * i + 1 → ⊥) → getD (set (set w (2 * i) a) (2 * i + 1) b) k 0 ≡ getD w k 0
-      apart j k x y = getD-set-other (set w (2 * i) a) (2 * i + 1) k b 0 y ∙ getD-set-other w (2 * i) k a 0 x
+      apart : (k : ℕ) → (k ≡ 2 * i → ⊥) → (k ≡ 2 * i + 1 → ⊥) → getD (set (set w (2 * i) a) (2 * i + 1) b) k 0 ≡ getD w k 0
+      apart k x y = getD-set-other (set w (2 * i) a) (2 * i + 1) k b 0 y ∙ getD-set-other w (2 * i) k a 0 x
 
       old-shape : (j : ℕ) → j < i → Shaped t s j (getD (set (set w (2 * i) a) (2 * i + 1) b) (2 * j) 0)
-      old-shape j l = rw (apart j (2 * j) (λ z. omega arith) (λ z. omega arith)) (so-far .shape j l)
+      old-shape j l = rw (apart (2 * j) (λ z. omega arith) (λ z. omega arith)) (so-far .shape j l)
 
       old-second : (j : ℕ) → j < i → getD (set (set w (2 * i) a) (2 * i + 1) b) (2 * j + 1) 0 ≡ secondOf t s m j
-      old-second j l = apart j (2 * j + 1) (λ z. omega arith) (λ z. omega arith) ∙ so-far .second j l
+      old-second j l = apart (2 * j + 1) (λ z. omega arith) (λ z. omega arith) ∙ so-far .second j l
 
       new-shape : Shaped t s i (getD (set (set w (2 * i) a) (2 * i + 1) b) (2 * i) 0)
       new-shape =

@@ -60,6 +60,8 @@ pub record Filled (t s m w : List ℕ) (n : ℕ) : Type 0 where
 -- what the words want of the rows s of a table and their sets m: fields that hold them, and types where rows name types
 pub record Ready (chain : ℕ) (t s m : List ℕ) : Type 0 where
   pub sound : Sound chain t s m
+  pub rooted : 0 < length s
+  pub root : kindAt t (rowAt s 0) ≡ kind.member → ⊥
   pub few : length s ≤ 128
   pub place : (i : ℕ) → i < length s → rowAt s i < 65536
   pub number : (i : ℕ) → i < length s → kindAt t (rowAt s i) ≡ kind.member → numberAt t (rowAt s i) ≤ 30

@@ -1,6 +1,6 @@
 // Row words: two numbers for each row of an admitted table, written once and read by what they say of the table.
 ghost use mathlib.Core.Path.{_≡_};
-ghost use mathlib.Core.Bool.{true, false};
+ghost use mathlib.Core.Bool.{true};
 ghost use Prim.Native.Nat.{_≤_, _<_, _+_, _-_, _*_};
 ghost use lib.ListN.{length, getD};
 ghost use Rattle.octets.specs.Octets.{baseFrom};

@@ -1,5 +1,4 @@
 use Rattle.words.proofs.Reading.{row-small, read-number}
-use borrow.Author.Needs.{needs}
 use Rattle.words.proofs.default_number.Statement.{statement}
 use Rattle.words.proofs.default_number.Tie as tie
 

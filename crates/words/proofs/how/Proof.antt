@@ -1,6 +1,5 @@
 use Rattle.words.specs.Words.{how}
 use Rattle.octets.proofs.Tests.{tests}
-use borrow.Author.Needs.{needs}
 use Rattle.words.proofs.how.Statement.{statement}
 use Rattle.words.proofs.how.Tie as tie
 
