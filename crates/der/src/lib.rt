@@ -713,7 +713,7 @@ pub fn read_boolean(c: &[u8]) -> bool
 }
 
 // The contents as a number without a sign.
-fn plain(c: &[u8]) -> u64
+pub fn plain(c: &[u8]) -> u64
     requires { ⌜ length (now c) ≤ 8 ⌝ }
     ensures { λ r. ⌜ r ≡ baseFrom 0 (now (c .entry)) ⌝ }
 {

@@ -16,10 +16,12 @@ use Rattle.rows.specs.Row.{rows}
 use Rattle.table.specs.Types.{Ty, typeFrom, typeAt}
 use Rattle.table.specs.inner.Work.{rowCount}
 use Rattle.table.specs.inner.Work.{Sound, Admits}
+use Rattle.words.specs.Rows as words
+use Rattle.words.specs.Rows.{tableRows}
 use Rattle.value.specs.Paper.{valueLimits}
 use Rattle.value.specs.Decode.{storedValue}
 use Rattle.value.specs.Check.{valueFits}
-use Rattle.value.proofs.EntrySteps.{not-admitted, is-admitted, rows-are}
+use Rattle.value.proofs.EntrySteps.{not-admitted, is-admitted, rows-are, stored-here}
 use Rattle.assertion.specs.Assertion.{Read}
 use Rattle.filter.specs.Filter.{Filter}
 use Rattle.filter.specs.Parse.{filterFits, filterAt, parse}
@@ -123,8 +125,10 @@ module _ (ty : Ty) (v s : List ℕ) (budget : ℕ) (r : Reading) (told : filter.
     unfolding withFilter judgedText evaluated
     typed-judged a e q = q ∙ ap (λ (o : Option (Read Filter)). judgedReport (judgedText (outcome ty v) budget o)) (read-at s r told f good) ∙ budget-told budget (reading (outcome ty v) (the-filter s r told f good .0)) ∙ sym (rw (the-filter s r told f good .1, sym stored ∙ not-false x e) refl)
 
-pub typed-ready : (t s m v : List ℕ) (x : Bool) → Sound (tableLimits .chain) t s m → NamesDiffer t s → 0 < length s → length v ≤ 65536 → x ≡ isSome (storedValue (typeFrom (tableLimits .chain) t s 0) v) → not x ≡ false → Ready (tableLimits .chain) t s m v
-typed-ready t s m v x sound names here short stored e = record { sound = sound; names = names; rows = here; short = short; stored = sym stored ∙ not-false x e }
+pub typed-ready : (t s m v : List ℕ) (x : Bool) → Sound (tableLimits .chain) t s m → NamesDiffer t s → 0 < length s → s ≡ tableRows t → length v ≤ 65536
+    → x ≡ isSome (storedValue (words.typeAt t 0) v) → not x ≡ false → Ready (tableLimits .chain) t s m v
+typed-ready t s m v x sound names here places short stored e =
+    record { sound = sound; names = names; rows = here; short = short; stored = sym (stored-here t s v x places stored) ∙ not-false x e }
 
 -- ---- 2, then the others
 module _ (t v s : List ℕ) (budget n : ℕ) (count : n ≡ rowCount tableLimits t) where

@@ -29,6 +29,8 @@ ghost use Rattle.engine.specs.Listing.{report, lists, walked, referenceF
 ghost use Rattle.engine.specs.Paper.{limits};
 ghost use Rattle.rows.specs.Paper.{tableLimits};
 ghost use Rattle.table.specs.inner.Rows.{rowType};
+ghost use Rattle.words.specs.Rows.{tableRows};
+ghost use Rattle.words.specs.Words.{Worded};
 
 // The answer of the listing: the number of named values, or a refusal.
 pub enum Listed {
@@ -138,6 +140,7 @@ fn list_typed(
     t: &[u8],
     s: &[usize],
     m: &[u64],
+    w: &[u64; 256],
     v: &[u8],
     given: bool,
     r: &[u8],
@@ -146,6 +149,8 @@ fn list_typed(
 ) -> Listed
     requires sound { ⌜ Sound (tableLimits .chain) (now t) (now s) (now m) ⌝ }
     requires rows { ⌜ 0 < length (now s) ⌝ }
+    requires places { ⌜ now s ≡ tableRows (now t) ⌝ }
+    requires worded { ⌜ Worded (now t) (now w) ⌝ }
     requires small { ⌜ length (now v) < 18446744073709551615 ⌝ }
     ensures { λ a. ⌜ listing a (now (room .exit))
         ≡ withIds (rowType (now (t .entry)) (now (s .entry)) 0) (now (v .entry)) defaults (now (room .entry)) (givenIds given (now (r .entry))) ⌝ }
@@ -153,7 +158,7 @@ fn list_typed(
     if !is_allowed(t, s, m, given, r) {
         return Listed::Refused(3);
     }
-    if !value::is_stored(t, s, m, v) {
+    if !value::is_stored(t, w, v) {
         return Listed::Refused(4);
     }
     list_walked(t, s, m, v, given, r, defaults, room)
@@ -178,10 +183,13 @@ fn list_admitted(
     if n == 0 {
         return Listed::Refused(2);
     }
+    let mut w = [0u64; 256];
+    words::fill(table, &starts[..n], &masks, &mut w);
     list_typed(
         table,
         &starts[..n],
         &masks,
+        &w,
         value,
         given,
         reference,
@@ -263,10 +271,20 @@ fn ask_judged(t: &[u8], s: &[usize], m: &[u64], v: &[u8], filter: &[u8], budget:
 }
 
 // The answer by the rows of an admitted table.
-fn ask_typed(t: &[u8], s: &[usize], m: &[u64], v: &[u8], filter: &[u8], budget: usize) -> Answer
+fn ask_typed(
+    t: &[u8],
+    s: &[usize],
+    m: &[u64],
+    w: &[u64; 256],
+    v: &[u8],
+    filter: &[u8],
+    budget: usize,
+) -> Answer
     requires sound { ⌜ Sound (tableLimits .chain) (now t) (now s) (now m) ⌝ }
     requires names { ⌜ NamesDiffer (now t) (now s) ⌝ }
     requires rows { ⌜ 0 < length (now s) ⌝ }
+    requires places { ⌜ now s ≡ tableRows (now t) ⌝ }
+    requires worded { ⌜ Worded (now t) (now w) ⌝ }
     requires short { ⌜ length (now v) ≤ 65536 ⌝ }
     ensures { λ a. ⌜ answer.report a
         ≡ answer.withFilter (rowType (now (t .entry)) (now (s .entry)) 0) (now (v .entry)) budget (parse filterLimits (now (filter .entry))) ⌝ }
@@ -274,7 +292,7 @@ fn ask_typed(t: &[u8], s: &[usize], m: &[u64], v: &[u8], filter: &[u8], budget: 
     let Reading::Good(_) = filter::read(filter) else {
         return Answer::Refused(3);
     };
-    if !value::is_stored(t, s, m, v) {
+    if !value::is_stored(t, w, v) {
         return Answer::Refused(4);
     }
     ask_judged(t, s, m, v, filter, budget)
@@ -291,7 +309,9 @@ fn ask_admitted(table: &[u8], value: &[u8], filter: &[u8], budget: usize) -> Ans
     if n == 0 {
         return Answer::Refused(2);
     }
-    ask_typed(table, &starts[..n], &masks, value, filter, budget)
+    let mut w = [0u64; 256];
+    words::fill(table, &starts[..n], &masks, &mut w);
+    ask_typed(table, &starts[..n], &masks, &w, value, filter, budget)
 }
 
 // The answer to a filter over a value: any octets for table, value and filter, any budget.

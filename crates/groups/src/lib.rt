@@ -161,7 +161,7 @@ fn alternatives_mandatory(t: &[u8], s: &[usize], i: usize) -> bool
 }
 
 // The kind of a member row's type.
-fn type_kind(t: &[u8], s: &[usize], i: usize) -> u8
+pub fn type_kind(t: &[u8], s: &[usize], i: usize) -> u8
     ensures { λ r. ⌜ r ≡ clause.typeKind (now (t .entry)) (now (s .entry)) i ⌝ }
 {
     let type_row = rows::type_row_at(t, rows::row_at(s, i));

@@ -9,7 +9,7 @@ use Rattle.octets.proofs.Laws.{both-true, all-at}
 use Rattle.rows.specs.Limits.{Limits}
 use Rattle.rows.specs.Row.{rows, rowAt, kindAt, elementAt, membersAt}
 use Rattle.rows.proofs.Laws.{MemberFacts, member-facts}
-use Rattle.groups.specs.Clauses.{everyRow, wholeRows, bodyFormed, pointsLater, membersStand, memberPlace, namesDiffer, alternativesMandatory, noImplicitChoice, defaultLegal, chainFits}
+use Rattle.groups.specs.Clauses.{everyRow, wholeRows, bodyFormed, pointsLater, membersStand, memberPlace, namesDiffer, alternativesMandatory, noImplicitChoice, defaultLegal, chainFits, isType, firstIsType}
 use Rattle.groups.specs.inner.Work.{Later}
 use Rattle.groups.proofs.LaterSteps.{is-later, member-follows}
 use Rattle.table.specs.Types.{membersFrom, typed, typeAt}
@@ -47,6 +47,10 @@ module _ (l : Limits) (t : List ℕ) (ok : admitted l t ≡ true) where
   unfolding rowsFormed wholeRows
   row-count = let w = both-true _ _ (both-true (wholeRows (l .rows) s) _ formed .0) in (leb-true _ _ (w .0), leb-true _ _ (w .1))
 
+  pub row-0-is-type : isType t s 0 ≡ true
+  unfolding rowsFormed firstIsType
+  row-0-is-type = both-true (everyRow (bodyFormed (l .members) (l .name) t s) s) _ (both-true (wholeRows (l .rows) s) _ formed .1) .1
+
   points : everyRow (pointsLater t s) s ≡ true
   points = named-points t s named
 
@@ -69,6 +73,9 @@ module _ (l : Limits) (t : List ℕ) (ok : admitted l t ≡ true) where
     pub member-formed : kindAt t (rowAt s i) ≡ 16 → MemberFacts (l .name) t (rowAt s i)
     unfolding bodyFormed
     member-formed k = member-facts (l .members) (l .name) t (rowAt s i) body-formed k
+
+    pub points-later : pointsLater t s i ≡ true
+    points-later = all-at (pointsLater t s) (length s) i points here
 
     -- the members of a row follow it directly
     pub member-stands : (j : ℕ) → j < membersAt t (rowAt s i) → (i + 1 + j < length s) × (kindAt t (memberPlace s i j) ≡ 16)

@@ -1,5 +1,5 @@
 -- An admitted table with its sets of tags, for the layers above: `Sound`, and what its sets say of a member.
-use mathlib.Core.Path.{_≡_, sym, ap, _∙_}
+use mathlib.Core.Path.{_≡_, sym, ap, _∙_, refl}
 use mathlib.Core.Bool.{Bool, true, false}
 use mathlib.Core.List.{List}
 use Prim.Native.Nat.{ℕ, _<_, _+_, _/_, _^_}
@@ -48,5 +48,8 @@ member-tags chain t s m i ok h g l =
 pub tag-fits : (o g : ℕ) → g ≡ tagOf o → g < 64
 tag-fits o g e = rw e (tag-small o)
 
-pub set-begins : (o g a b : ℕ) → g ≡ tagOf o → a ≡ b → eqb (bitAnd (a / 2 ^ g) 1) 1 ≡ bitOf b (tagOf o)
-set-begins o g a b e q = bit-is a b g q ∙ ap (bitOf b) e
+pub tag-bit : (o g a : ℕ) → g ≡ tagOf o → eqb (bitAnd (a / 2 ^ g) 1) 1 ≡ bitOf a (tagOf o)
+tag-bit o g a e = bit-is a a g refl ∙ ap (bitOf a) e
+
+pub set-begins : (o a b : ℕ) (r : Bool) → a ≡ b → r ≡ bitOf a (tagOf o) → r ≡ bitOf b (tagOf o)
+set-begins o a b r e q = q ∙ ap (λ (x : ℕ). bitOf x (tagOf o)) e

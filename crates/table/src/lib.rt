@@ -36,7 +36,8 @@ fn context_bit(n: u8) -> u64
     0
 }
 
-fn kept(m: &[u64], i: usize) -> u64
+// The set of tags of row i; of a row past the end, none.
+pub fn kept(m: &[u64], i: usize) -> u64
     ensures { λ r. ⌜ r ≡ row.rowAt (now (m .entry)) i ⌝ }
 {
     if m.len() <= i {
@@ -54,22 +55,26 @@ fn member_mask(m: &[u64], t: &[u8], p: usize) -> u64
     context_bit(rows::number_at(t, p))
 }
 
-// Whether a member can begin with the tag of an octet: that tag's bit of its set.
+// Whether a set has the tag of an octet.
+pub fn has_tag(set: u64, o: u8) -> bool
+    ensures { λ r. ⌜ r ≡ work.bitOf set (tagOf o) ⌝ }
+{
+    let tag = der::tag_of(o);
+    (set >> tag) & 1 == 1
+}
+
+// Whether a member can begin with the tag of an octet: its set has it.
 pub fn member_begins(m: &[u64], t: &[u8], p: usize, o: u8) -> bool
     ensures { λ r. ⌜ r ≡ work.bitOf (work.memberMask (now (m .entry)) (now (t .entry)) p) (tagOf o) ⌝ }
 {
-    let set = member_mask(m, t, p);
-    let tag = der::tag_of(o);
-    (set >> tag) & 1 == 1
+    has_tag(member_mask(m, t, p), o)
 }
 
 // Whether the type of a row can begin with the tag of an octet.
 pub fn row_begins(m: &[u64], i: usize, o: u8) -> bool
     ensures { λ r. ⌜ r ≡ work.bitOf (row.rowAt (now (m .entry)) i) (tagOf o) ⌝ }
 {
-    let set = kept(m, i);
-    let tag = der::tag_of(o);
-    (set >> tag) & 1 == 1
+    has_tag(kept(m, i), o)
 }
 
 fn group_mask(m: &[u64], t: &[u8], s: &[usize], i: usize, n: usize) -> u64

@@ -52,7 +52,7 @@ module _ (chain : ℕ) (t s m : List ℕ) (row : ℕ) (ok : Sound chain t s m) (
 
   tests-as : (a : ℕ) → a < membersAt t (rowAt s row) → markedOf m t s row v stop at a ≡ startsHere (memberOf t (row + 1 + a) (rowAt s (row + 1 + a))) (typeFrom chain t s (typeRowAt t (rowAt s (row + 1 + a)))) v stop at
   unfolding markedOf
-  tests-as a l = starts-as chain t s m (row + 1 + a) ok (ok .stands row here a l) (ok .members row here a l) (ok .later .of-member row here a l .1) v at stop
+  tests-as a l = starts-as chain t s m (row + 1 + a) ok (ok .later .of-member row here a l .1) v at stop
 
   one : (a k : ℕ) → trail.findAlternative x (membersFrom (typeFrom chain t s) t s (row + 1 + a) (suc k)) v stop at
       ≡ pick (startsHere (memberOf t (row + 1 + a) (rowAt s (row + 1 + a))) (typeFrom chain t s (typeRowAt t (rowAt s (row + 1 + a)))) v stop at) (taken a) (trail.findAlternative x (membersFrom (typeFrom chain t s) t s (row + 1 + (a + 1)) k) v stop at)

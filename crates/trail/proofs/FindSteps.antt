@@ -95,7 +95,7 @@ module _ (chain : ℕ) (t s m : List ℕ) (row : ℕ) (ok : Sound chain t s m) (
     (p : ℕ) (b : Bool) (placed : p ≡ rowAt s row) (told : b ≡ either (eqb (presenceAt t p) 0) (marked m t p v stop i)) where
   is-there : either (isMandatory (memberOf t row (rowAt s row) .presence)) (startsHere (memberOf t row (rowAt s row)) (typeFrom chain t s (typeRowAt t (rowAt s row))) v stop i) ≡ b
   unfolding memberOf
-  is-there = sym (told ∙ ap (λ (y : ℕ). either (eqb (presenceAt t y) 0) (marked m t y v stop i)) placed ∙ ap₂ either (sym (mandatory-as (presenceAt t (rowAt s row)) (defaultAt t (rowAt s row)))) (starts-as chain t s m row ok here member target v i stop))
+  is-there = sym (told ∙ ap (λ (y : ℕ). either (eqb (presenceAt t y) 0) (marked m t y v stop i)) placed ∙ ap₂ either (sym (mandatory-as (presenceAt t (rowAt s row)) (defaultAt t (rowAt s row)))) (starts-as chain t s m row ok target v i stop))
 
   pub look-is-there : (l : Looked) → b ≡ true
       → l ≡ orBroken (thereOr (same (unfilled (nameAt t (rowAt s row))) x) (typeFrom chain t s (typeRowAt t (rowAt s row)))) (openAt (typeFrom chain t s (typeRowAt t (rowAt s row))) (taggingOf (modeAt t (rowAt s row)) (numberAt t (rowAt s row))) v i stop)

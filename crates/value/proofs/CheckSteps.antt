@@ -17,12 +17,15 @@ use Rattle.der.specs.Contents.{legal}
 use Rattle.der.specs.declared.Inside.{Inside}
 use Rattle.rows.specs.Row.{rowAt, kindAt, elementAt, typeRowAt, membersAt, isList, modeAt, numberAt}
 use Rattle.table.specs.Types.{untagged, implicit, taggingOf, Ty, basic, sequence, choice, listOf, Members, membersFrom, typed, typeFrom}
+use Rattle.groups.specs.Clauses.{typeKind}
 use Rattle.table.specs.inner.Work.{Sound}
+use Rattle.words.specs.Words.{firstOctet, how, Ready}
 use Rattle.value.specs.Value.{spotAt, Value, leaf, fields, Fields, Values}
 use Rattle.value.specs.Order.{rising}
 use Rattle.value.specs.Decode.{Decoded, decoded, afterOf, tagOctet, inside, inWrapper, leafOf, fieldsOf, elementsOf, many, unwrapped, fieldsFrom, alternativeFrom, decode}
-use Rattle.value.specs.inner.Work.{checked, upTo, fieldsChecked, inOrder, elementsChecked}
+use Rattle.value.specs.inner.Work.{checked, upTo, fieldsChecked, inOrder, elementsChecked, Answers, Wraps}
 use Rattle.value.specs.declared.Checked.{Checked}
+use Rattle.value.proofs.ModeSteps.{own-tag, mode-tag, mode-wrapper, is-explicit, not-explicit}
 
 -- ---- a row's type by its kind
 pub typed-choice : (k : ℕ) (e : Ty) (ms : Members) → k ≡ 13 → typed k e ms ≡ choice ms
@@ -76,28 +79,22 @@ told-elements k v at f start n = go (f n (start + n) start)
     go none = refl
     go (some xs) = by (either (eqb k kind.sequenceOf) (rising v xs)) _ refl
 
-module _ (chain : ℕ) (t s m : List ℕ) (row : ℕ) (ok : Sound chain t s m) (here : row < length s) (p k : ℕ) (placed : p ≡ rowAt s row) (read : k ≡ kindAt t p) where
+module _ (chain : ℕ) (t s m : List ℕ) (row : ℕ) (ok : Sound chain t s m) (here : row < length s) (k : ℕ) (read : k ≡ kindAt t (rowAt s row)) where
   abbrev element : Ty
   element = typeFrom chain t s (elementAt t (rowAt s row))
 
   abbrev parts : Members
   parts = membersFrom (typeFrom chain t s) t s (row + 1) (membersAt t (rowAt s row))
 
-  the-kind : k ≡ kindAt t (rowAt s row)
-  the-kind = read ∙ ap (kindAt t) placed
-
   the-type : typeFrom chain t s row ≡ typed k element parts
-  the-type = ok .step row here ∙ ap (λ (x : ℕ). typed x element parts) (sym the-kind)
-
-  -- ---- calls
-  pub check-falls : (z : ℕ) → 5 * (length s - row) + 3 ≡ z → 5 * (length s - row) + 2 < z
-  check-falls z e = omega arith
+  the-type = ok .step row here ∙ ap (λ (x : ℕ). typed x element parts) (sym read)
 
   pub list-row : (l : Bool) → l ≡ isList k → l ≡ true → isList (kindAt t (rowAt s row)) ≡ true
-  list-row l e h = ap isList (sym the-kind) ∙ sym e ∙ h
+  list-row l e h = ap isList (sym read) ∙ sym e ∙ h
 
   module _ (v : List ℕ) (at end mode number : ℕ) where
-    pub check-by-choice : (r : Checked) → k ≡ 13 → r ≡ checked (alternativeFrom parts v at end) → r ≡ checked (unwrapped (typeFrom chain t s row) (taggingOf mode number) v at end)
+    check-by-choice : (r : Checked) → k ≡ 13 → r ≡ checked (alternativeFrom parts v at end)
+        → r ≡ checked (unwrapped (typeFrom chain t s row) (taggingOf mode number) v at end)
     unfolding unwrapped
     check-by-choice r h e = rw (the-type ∙ typed-choice k element parts h) e
 
@@ -105,7 +102,7 @@ module _ (chain : ℕ) (t s m : List ℕ) (row : ℕ) (ok : Sound chain t s m) (
       is-open : (i : Inside) → h ≡ i → insideAt (tagOctet (taggingOf mode number) k) v at end ≡ i
       is-open i e = ap (λ (x : ℕ). insideAt x v at end) (sym tag) ∙ sym opening ∙ e
 
-      pub check-misfit : h ≡ Inside.Misfit → Checked.Bad ≡ checked (unwrapped (typeFrom chain t s row) (taggingOf mode number) v at end)
+      check-misfit : h ≡ Inside.Misfit → Checked.Bad ≡ checked (unwrapped (typeFrom chain t s row) (taggingOf mode number) v at end)
       unfolding unwrapped
       check-misfit e = go (eqb k 12) refl (isList k) refl
         where
@@ -118,55 +115,92 @@ module _ (chain : ℕ) (t s m : List ℕ) (row : ℕ) (ok : Sound chain t s m) (
           go false q false u = rw (the-type ∙ typed-basic k element parts no-choice (eqb-false k 12 q) u, misfit)
 
       module _ (start n : ℕ) (found : h ≡ Inside.Of start n) where
-        pub check-by-fields : (r : Checked) → k ≡ 12 → r ≡ fieldsChecked parts v (start + n) start → r ≡ checked (unwrapped (typeFrom chain t s row) (taggingOf mode number) v at end)
+        check-by-fields : (r : Checked) → k ≡ 12 → r ≡ fieldsChecked parts v (start + n) start
+            → r ≡ checked (unwrapped (typeFrom chain t s row) (taggingOf mode number) v at end)
         unfolding unwrapped fieldsChecked
         check-by-fields r j e =
             rw (the-type ∙ typed-sequence k element parts j, (ap (λ (x : ℕ). insideAt (tagOctet (taggingOf mode number) x) v at end) (sym j) ∙ is-open (Inside.Of start n) found))
             (e ∙ sym (told-fields v at (λ stop i. fieldsFrom parts v stop i) start n))
 
-        pub check-by-elements : (r : Checked) (l : Bool) → l ≡ isList k → l ≡ true → r ≡ elementsChecked (kindAt t (rowAt s row)) element v (start + n) start → r ≡ checked (unwrapped (typeFrom chain t s row) (taggingOf mode number) v at end)
+        check-by-elements : (r : Checked) (l : Bool) → l ≡ isList k → l ≡ true → r ≡ elementsChecked (kindAt t (rowAt s row)) element v (start + n) start
+            → r ≡ checked (unwrapped (typeFrom chain t s row) (taggingOf mode number) v at end)
         unfolding unwrapped elementsChecked
         check-by-elements r l el j e =
             let q : start + n - start ≡ n = omega arith in
             rw (the-type ∙ typed-list k element parts (sym el ∙ j), is-open (Inside.Of start n) found)
-            (e ∙ ap₂ (λ (x y : ℕ). upTo (start + n) (inOrder x v (many (λ i stop. unwrapped element untagged v i stop) y (start + n) start))) (sym the-kind) q
+            (e ∙ ap₂ (λ (x y : ℕ). upTo (start + n) (inOrder x v (many (λ i stop. unwrapped element untagged v i stop) y (start + n) start))) (sym read) q
             ∙ sym (told-elements k v at (many (λ i stop. unwrapped element untagged v i stop)) start n))
 
-        pub check-by-basic : (r : Checked) (l : Bool) → (k ≡ 12 → ⊥) → l ≡ isList k → l ≡ false → r ≡ upTo (start + n) (legal k (part v start (start + n - start))) → r ≡ checked (unwrapped (typeFrom chain t s row) (taggingOf mode number) v at end)
+        check-by-basic : (r : Checked) (l : Bool) → (k ≡ 12 → ⊥) → l ≡ isList k → l ≡ false → r ≡ upTo (start + n) (legal k (part v start (start + n - start)))
+            → r ≡ checked (unwrapped (typeFrom chain t s row) (taggingOf mode number) v at end)
         unfolding unwrapped
         check-by-basic r l no-sequence el j e =
             let q : start + n - start ≡ n = omega arith in
             rw (the-type ∙ typed-basic k element parts no-choice no-sequence (sym el ∙ j), is-open (Inside.Of start n) found)
             (e ∙ ap (λ (x : ℕ). upTo (start + n) (legal k (part v start x))) q ∙ sym (told-leaf k v at start n))
 
+  -- ---- by a tag octet
+  module _ (v : List ℕ) (at end tag : ℕ) where
+    pub answer-choice : (r : Checked) → k ≡ 13 → r ≡ checked (alternativeFrom parts v at end)
+        → Answers (typeFrom chain t s row) (kindAt t (rowAt s row)) tag v at end r
+    answer-choice r h e = record { says = λ mode n q. check-by-choice v at end mode n r h e }
+
+    module _ (no-choice : k ≡ 13 → ⊥) (h : Inside) (opening : h ≡ insideAt tag v at end) where
+      tags : (mode n : ℕ) → ((kindAt t (rowAt s row) ≡ 13 → ⊥) → tag ≡ tagOctet (taggingOf mode n) (kindAt t (rowAt s row)))
+          → tag ≡ tagOctet (taggingOf mode n) k
+      tags mode n q = q (λ z. no-choice (read ∙ z)) ∙ ap (tagOctet (taggingOf mode n)) (sym read)
+
+      pub answer-misfit : h ≡ Inside.Misfit → Answers (typeFrom chain t s row) (kindAt t (rowAt s row)) tag v at end Checked.Bad
+      answer-misfit e = record { says = λ mode n q. check-misfit v at end mode n no-choice tag h (tags mode n q) opening e }
+
+      module _ (start n : ℕ) (found : h ≡ Inside.Of start n) where
+        pub answer-fields : (r : Checked) → k ≡ 12 → r ≡ fieldsChecked parts v (start + n) start
+            → Answers (typeFrom chain t s row) (kindAt t (rowAt s row)) tag v at end r
+        answer-fields r j e = record { says = λ mode u q. check-by-fields v at end mode u no-choice tag h (tags mode u q) opening start n found r j e }
+
+        pub answer-elements : (r : Checked) (l : Bool) → l ≡ isList k → l ≡ true → r ≡ elementsChecked (kindAt t (rowAt s row)) element v (start + n) start
+            → Answers (typeFrom chain t s row) (kindAt t (rowAt s row)) tag v at end r
+        answer-elements r l a j e =
+            record { says = λ mode u q. check-by-elements v at end mode u no-choice tag h (tags mode u q) opening start n found r l a j e }
+
+        pub answer-basic : (r : Checked) (l : Bool) → (k ≡ 12 → ⊥) → l ≡ isList k → l ≡ false
+            → r ≡ upTo (start + n) (legal k (part v start (start + n - start)))
+            → Answers (typeFrom chain t s row) (kindAt t (rowAt s row)) tag v at end r
+        answer-basic r l b a j e =
+            record { says = λ mode u q. check-by-basic v at end mode u no-choice tag h (tags mode u q) opening start n found r l b a j e }
+
 -- ---- under a member's tag mode
 module _ (ty : Ty) (v : List ℕ) (at end mode number : ℕ) where
-  pub not-explicit : (mode ≡ 1 → ⊥) → decode ty (taggingOf mode number) v at end ≡ unwrapped ty (taggingOf mode number) v at end
+  pub bare-decode : (mode ≡ 1 → ⊥) → decode ty (taggingOf mode number) v at end ≡ unwrapped ty (taggingOf mode number) v at end
   unfolding decode inWrapper taggingOf
-  not-explicit h = rw (ne-eqb mode 1 h) (go (eqb mode 0))
+  bare-decode h = rw (ne-eqb mode 1 h) (go (eqb mode 0))
     where
       go : (x : Bool) → inWrapper afterOf (pick x untagged (implicit number)) (unwrapped ty (pick x untagged (implicit number)) v) v at end ≡ unwrapped ty (pick x untagged (implicit number)) v at end
       go true = refl
       go false = refl
 
-  pub tagged-plain : (r : Checked) → (mode ≡ 1 → ⊥) → r ≡ checked (unwrapped ty (taggingOf mode number) v at end) → r ≡ checked (decode ty (taggingOf mode number) v at end)
-  tagged-plain r h e = e ∙ ap checked (sym (not-explicit h))
+  tagged-plain : (r : Checked) → (mode ≡ 1 → ⊥) → r ≡ checked (unwrapped ty (taggingOf mode number) v at end)
+      → r ≡ checked (decode ty (taggingOf mode number) v at end)
+  tagged-plain r h e = e ∙ ap checked (sym (bare-decode h))
 
 module _ (ty : Ty) (v : List ℕ) (at end number : ℕ) where
-  is-explicit : decode ty (taggingOf 1 number) v at end ≡ opened (insideAt (wrapperOctet number) v at end) (inside afterOf (unwrapped ty (taggingOf 1 number) v))
+  explicit-decode : decode ty (taggingOf 1 number) v at end ≡ opened (insideAt (wrapperOctet number) v at end)
+      (inside afterOf (unwrapped ty (taggingOf 1 number) v))
   unfolding decode inWrapper taggingOf
-  is-explicit = refl
+  explicit-decode = refl
 
   module _ (o : ℕ) (h : Inside) (tag : o ≡ wrapperOctet number) (opening : h ≡ insideAt o v at end) where
     wrapper : (i : Inside) → h ≡ i → insideAt (wrapperOctet number) v at end ≡ i
     wrapper i e = ap (λ (x : ℕ). insideAt x v at end) (sym tag) ∙ sym opening ∙ e
 
-    pub wrapped-misfit : h ≡ Inside.Misfit → Checked.Bad ≡ checked (decode ty (taggingOf 1 number) v at end)
-    wrapped-misfit e = rw (is-explicit, wrapper Inside.Misfit e)
+    wrapped-misfit : h ≡ Inside.Misfit → Checked.Bad ≡ checked (decode ty (taggingOf 1 number) v at end)
+    wrapped-misfit e = rw (explicit-decode, wrapper Inside.Misfit e)
 
     module _ (start n : ℕ) (found : h ≡ Inside.Of start n) (c : Checked) (inner : c ≡ checked (unwrapped ty (taggingOf 1 number) v start (start + n))) where
       filling : checked (decode ty (taggingOf 1 number) v at end) ≡ checked (bind (unwrapped ty (taggingOf 1 number) v start (start + n)) (λ d. pick (eqb (d .after) (start + n)) (some d) none))
-      filling = ap checked (is-explicit ∙ ap (λ (i : Inside). opened i (inside afterOf (unwrapped ty (taggingOf 1 number) v))) (wrapper (Inside.Of start n) found))
+      filling =
+          ap checked
+          (explicit-decode ∙ ap (λ (i : Inside). opened i (inside afterOf (unwrapped ty (taggingOf 1 number) v))) (wrapper (Inside.Of start n) found))
 
       filled : (x : Option Decoded) (a : ℕ) → Checked.At a ≡ checked x → checked (bind x (λ d. pick (eqb (d .after) (start + n)) (some d) none)) ≡ pick (eqb a (start + n)) (Checked.At a) Checked.Bad
       filled none a e = absurd (let z : _≡_ {A = ℕ} 0 1 = cc in omega arith)
@@ -176,7 +210,7 @@ module _ (ty : Ty) (v : List ℕ) (at end number : ℕ) where
           go true = refl
           go false = refl
 
-      pub wrapped-inner : c ≡ Checked.Bad → Checked.Bad ≡ checked (decode ty (taggingOf 1 number) v at end)
+      wrapped-inner : c ≡ Checked.Bad → Checked.Bad ≡ checked (decode ty (taggingOf 1 number) v at end)
       wrapped-inner e = sym (filling ∙ go (unwrapped ty (taggingOf 1 number) v start (start + n)) (sym e ∙ inner))
         where
           go : (x : Option Decoded) → Checked.Bad ≡ checked x → checked (bind x (λ d. pick (eqb (d .after) (start + n)) (some d) none)) ≡ Checked.Bad
@@ -187,35 +221,77 @@ module _ (ty : Ty) (v : List ℕ) (at end number : ℕ) where
         whole : checked (decode ty (taggingOf 1 number) v at end) ≡ pick (eqb next (start + n)) (Checked.At next) Checked.Bad
         whole = filling ∙ filled (unwrapped ty (taggingOf 1 number) v start (start + n)) next (sym after ∙ inner)
 
-        pub wrapped-surplus : (next ≡ start + n → ⊥) → Checked.Bad ≡ checked (decode ty (taggingOf 1 number) v at end)
+        wrapped-surplus : (next ≡ start + n → ⊥) → Checked.Bad ≡ checked (decode ty (taggingOf 1 number) v at end)
         wrapped-surplus h = sym (whole ∙ ap (λ (x : Bool). pick x (Checked.At next) Checked.Bad) (ne-eqb next (start + n) h))
 
-        pub wrapped-filled : next ≡ start + n → Checked.At next ≡ checked (decode ty (taggingOf 1 number) v at end)
+        wrapped-filled : next ≡ start + n → Checked.At next ≡ checked (decode ty (taggingOf 1 number) v at end)
         wrapped-filled h = sym (whole ∙ ap (λ (x : Bool). pick x (Checked.At next) Checked.Bad) (eq-eqb next (start + n) h))
 
--- ---- the same of a member row, whose parts the code has read
-module _ (t s : List ℕ) (row p target : ℕ) (placed : p ≡ rowAt s row) (targeted : target ≡ typeRowAt t p) where
-  the-row : target ≡ typeRowAt t (rowAt s row)
-  the-row = targeted ∙ ap (typeRowAt t) placed
+-- ---- in a wrapper, by its tag octet
+module _ (ty : Ty) (v : List ℕ) (at end tag : ℕ) (h : Inside) (opening : h ≡ insideAt tag v at end) where
+  pub wraps-misfit : h ≡ Inside.Misfit → Wraps ty tag v at end Checked.Bad
+  wraps-misfit e = record { says = λ n q. wrapped-misfit ty v at end n tag h q opening e }
 
-  pub tagged-here : typeRowAt t (rowAt s row) < length s → target < length s
-  tagged-here h = rw the-row h
+  module _ (start n k own : ℕ) (found : h ≡ Inside.Of start n) (read : own ≡ firstOctet untagged k) (c : Checked)
+      (inner : Answers ty k own v start (start + n) c) where
+    asks : (u : ℕ) → c ≡ checked (unwrapped ty (taggingOf 1 u) v start (start + n))
+    asks u = inner .says 1 u (λ z. own-tag own k u read z .1)
 
-  pub wrapped-falls : (z : ℕ) → 5 * (length s - typeRowAt t (rowAt s row)) + 5 ≡ z → 5 * (length s - target) + 4 < z
-  wrapped-falls z e = let q = the-row in omega arith
+    pub wraps-inner : c ≡ Checked.Bad → Wraps ty tag v at end Checked.Bad
+    wraps-inner e = record { says = λ u q. wrapped-inner ty v at end u tag h q opening start n found c (asks u) e }
 
-  pub tagged-falls : (z : ℕ) → 5 * (length s - typeRowAt t (rowAt s row)) + 5 ≡ z → 5 * (length s - target) + 3 < z
-  tagged-falls z e = let q = the-row in omega arith
+    pub wraps-surplus : (next : ℕ) → c ≡ Checked.At next → (next ≡ start + n → ⊥) → Wraps ty tag v at end Checked.Bad
+    wraps-surplus next a e = record { says = λ u q. wrapped-surplus ty v at end u tag h q opening start n found c (asks u) next a e }
 
-  module _ (chain : ℕ) (v : List ℕ) (at end mode number : ℕ) (moded : mode ≡ modeAt t p) (numbered : number ≡ numberAt t p) (r : Checked) where
-    the-same : checked (decode (typeFrom chain t s target) (taggingOf mode number) v at end) ≡ checked (decode (typeFrom chain t s (typeRowAt t (rowAt s row))) (taggingOf (modeAt t (rowAt s row)) (numberAt t (rowAt s row))) v at end)
-    the-same = rw (the-row, (moded ∙ ap (modeAt t) placed), (numbered ∙ ap (numberAt t) placed))
+    pub wraps-filled : (next : ℕ) → c ≡ Checked.At next → next ≡ start + n → Wraps ty tag v at end (Checked.At next)
+    wraps-filled next a e = record { says = λ u q. wrapped-filled ty v at end u tag h q opening start n found c (asks u) next a e }
 
-    pub tagged-explicit : mode ≡ 1 → r ≡ checked (decode (typeFrom chain t s target) (taggingOf 1 number) v at end) → r ≡ checked (decode (typeFrom chain t s (typeRowAt t (rowAt s row))) (taggingOf (modeAt t (rowAt s row)) (numberAt t (rowAt s row))) v at end)
-    tagged-explicit h e = e ∙ ap (λ (x : ℕ). checked (decode (typeFrom chain t s target) (taggingOf x number) v at end)) (sym h) ∙ the-same
+-- ---- a member row, whose words the code has read
+module _ (chain : ℕ) (t s m : List ℕ) (row : ℕ) (ok : Ready chain t s m) (here : row < length s) (member : kindAt t (rowAt s row) ≡ 16) (j : ℕ)
+    (read : j ≡ typeRowAt t (rowAt s row)) where
+  pub target-here : j < length s
+  target-here = rw read (ok .target row here member)
 
-    pub tagged-other : (mode ≡ 1 → ⊥) → r ≡ checked (unwrapped (typeFrom chain t s target) (taggingOf mode number) v at end) → r ≡ checked (decode (typeFrom chain t s (typeRowAt t (rowAt s row))) (taggingOf (modeAt t (rowAt s row)) (numberAt t (rowAt s row))) v at end)
-    tagged-other h e = tagged-plain (typeFrom chain t s target) v at end mode number r h e ∙ the-same
+  pub target-typed : kindAt t (rowAt s j) ≡ 16 → ⊥
+  target-typed = rw read (ok .of-member row here member)
 
-pub inner-falls : (s : List ℕ) (row z : ℕ) → 5 * (length s - row) + 4 ≡ z → 5 * (length s - row) + 3 < z
-inner-falls s row z e = omega arith
+module _ (chain : ℕ) (t s : List ℕ) (row j : ℕ) (read : j ≡ typeRowAt t (rowAt s row)) (f h : ℕ) (v : List ℕ) (at end : ℕ) (r : Checked)
+    (opens : f ≡ firstOctet (taggingOf (modeAt t (rowAt s row)) (numberAt t (rowAt s row))) (typeKind t s row))
+    (tagged : h ≡ how (typeKind t s row) (modeAt t (rowAt s row))) where
+  abbrev mode : ℕ
+  mode = modeAt t (rowAt s row)
+
+  abbrev number : ℕ
+  number = numberAt t (rowAt s row)
+
+  pub tagged-explicit : h ≡ 1 → Wraps (typeFrom chain t s j) f v at end r
+      → r ≡ checked (decode (typeFrom chain t s (typeRowAt t (rowAt s row))) (taggingOf mode number) v at end)
+  tagged-explicit z a =
+      let m1 = is-explicit (typeKind t s row) mode h tagged z in
+      a .says number (mode-wrapper f (typeKind t s row) mode number opens m1)
+      ∙ ap₂ (λ (x y : ℕ). checked (decode (typeFrom chain t s x) (taggingOf y number) v at end)) read (sym m1)
+
+  pub tagged-other : (h ≡ 1 → ⊥) → Answers (typeFrom chain t s j) (kindAt t (rowAt s j)) f v at end r
+      → r ≡ checked (decode (typeFrom chain t s (typeRowAt t (rowAt s row))) (taggingOf mode number) v at end)
+  tagged-other z a =
+      let m0 = not-explicit (typeKind t s row) mode h tagged z in
+      tagged-plain (typeFrom chain t s (typeRowAt t (rowAt s row))) v at end mode number r m0
+      (a .says mode number
+      (λ q. mode-tag f (kindAt t (rowAt s j)) mode number (opens ∙ ap (λ (x : ℕ). firstOctet (taggingOf mode number) (kindAt t (rowAt s x))) (sym read)) m0 q)
+      ∙ ap (λ (x : ℕ). checked (unwrapped (typeFrom chain t s x) (taggingOf mode number) v at end)) read)
+
+-- ---- measures
+pub falls-body : (n row z : ℕ) → 5 * (n - row) + 3 ≡ z → 5 * (n - row) + 2 < z
+falls-body n row z e = omega arith
+
+pub falls-tagged : (n j z : ℕ) → 5 * (n - j) + 6 ≡ z → 5 * (n - j) + 5 < z
+falls-tagged n j z e = omega arith
+
+pub falls-wrapped : (n j i z : ℕ) → i ≡ j → 5 * (n - j) + 5 ≡ z → 5 * (n - i) + 4 < z
+falls-wrapped n j i z q e = omega arith
+
+pub falls-value : (n j i z : ℕ) → i ≡ j → 5 * (n - j) + 5 ≡ z → 5 * (n - i) + 3 < z
+falls-value n j i z q e = omega arith
+
+pub falls-inner : (n row z : ℕ) → 5 * (n - row) + 4 ≡ z → 5 * (n - row) + 3 < z
+falls-inner n row z e = omega arith

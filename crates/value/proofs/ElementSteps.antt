@@ -15,11 +15,13 @@ use Rattle.der.specs.Order.{notAbove}
 use Rattle.rows.specs.Row.{rowAt, kindAt, elementAt, isList}
 use Rattle.table.specs.Types.{untagged, taggingOf, Ty, typeFrom}
 use Rattle.table.specs.inner.Work.{Sound}
+use Rattle.words.specs.Words.{firstOctet, Ready}
 use Rattle.value.specs.Value.{Value, Values, endValues, next, encoding}
 use Rattle.value.specs.Order.{rising}
 use Rattle.value.specs.Decode.{Decoded, nextThen, many, unwrapped}
-use Rattle.value.specs.inner.Work.{checked, upTo, inOrder, elementsChecked, risingAfter, orderAfter, neighbours}
+use Rattle.value.specs.inner.Work.{checked, upTo, inOrder, elementsChecked, risingAfter, orderAfter, neighbours, Answers}
 use Rattle.value.specs.declared.Checked.{Checked}
+use Rattle.value.proofs.ModeSteps.{own-tag}
 use Rattle.value.proofs.Views.{many-end, many-more}
 use Rattle.value.proofs.Decodes.{Own, own, framed, decodes}
 use Rattle.value.proofs.Laws.{own-encoding, framed-long, framed-within}
@@ -87,20 +89,20 @@ module _ (chain : ℕ) (t s m : List ℕ) (row : ℕ) (ok : Sound chain t s m) (
       let q : start - start ≡ 0 = omega arith in
       record { n = stop - start; enough = omega arith; low = omega arith; high = h; same = ap (λ (x : ℕ). orderAfter k v (part v start x) (many one (stop - start) stop start)) q ∙ order-all k v (many one (stop - start) stop start) }
 
-  module _ (p e : ℕ) (placed : p ≡ rowAt s row) (read : e ≡ elementAt t p) where
-    the-row : e ≡ elementAt t (rowAt s row)
-    the-row = read ∙ ap (elementAt t) placed
-
+  module _ (e : ℕ) (read : e ≡ elementAt t (rowAt s row)) where
     pub element-here : e < length s
-    element-here = rw the-row (ok .later .of-list row here list .1)
+    element-here = rw read (ok .later .of-list row here list .1)
 
     pub element-falls : (z : ℕ) → 5 * (length s - row) + 2 ≡ z → 5 * (length s - e) + 3 < z
-    element-falls z q = let a = ok .later .of-list row here list in let b = a .0 in let d = a .1 in let f = the-row in omega arith
+    element-falls z q = let a = ok .later .of-list row here list in let b = a .0 in let d = a .1 in omega arith
 
-    module _ (before i : ℕ) (w : Listed chain t s row v start stop before i) (l : i < stop) (c : Checked) (asked : c ≡ checked (unwrapped (typeFrom chain t s e) (taggingOf 0 0) v i stop)) where
+    module _ (before i : ℕ) (w : Listed chain t s row v start stop before i) (l : i < stop) (c : Checked) (tag : ℕ)
+        (tagged : tag ≡ firstOctet untagged (kindAt t (rowAt s e)))
+        (answered : Answers (typeFrom chain t s e) (kindAt t (rowAt s e)) tag v i stop c) where
       asks : c ≡ checked (one i stop)
       unfolding taggingOf
-      asks = asked ∙ ap (λ (x : ℕ). checked (unwrapped (typeFrom chain t s x) untagged v i stop)) the-row
+      asks = answered .says 0 0 (λ z. own-tag tag (kindAt t (rowAt s e)) 0 tagged z .0)
+          ∙ ap (λ (x : ℕ). checked (unwrapped (typeFrom chain t s x) untagged v i stop)) read
 
       opens : (r : ℕ) × (w .n ≡ suc r) × (many one (w .n) stop i ≡ nextThen (λ j. many one r stop j) (one i stop))
       opens = go (w .n) (w .enough)
@@ -145,9 +147,9 @@ module _ (chain : ℕ) (t s m : List ℕ) (row : ℕ) (ok : Sound chain t s m) (
             ∙ order-next k v (part v before (i - before)) (value-there .0 .value) (many one (opens .0) stop (value-there .0 .after))
             ∙ ap₂ (λ (x : List ℕ) (y : ℕ). both (either (eqb k kind.sequenceOf) (notAbove (part v before (i - before)) x)) (orderAfter k v x (many one (opens .0) stop y))) encoded (value-there .2)
 
-        module _ (q : ℕ) (o : Bool) (kinded : q ≡ kindAt t p) (ordered : o ≡ neighbours q v before i after) where
+        module _ (q : ℕ) (o : Bool) (kinded : q ≡ kindAt t (rowAt s row)) (ordered : o ≡ neighbours q v before i after) where
           in-order : neighbours k v before i after ≡ o
-          in-order = sym (ordered ∙ ap (λ (x : ℕ). neighbours x v before i after) (kinded ∙ ap (kindAt t) placed))
+          in-order = sym (ordered ∙ ap (λ (x : ℕ). neighbours x v before i after) kinded)
 
           pub elements-disorder : not o ≡ true → Checked.Bad ≡ elementsChecked k element v stop start
           elements-disorder h = sym (answer ∙ ap (upTo stop) (split ∙ ap (λ (x : Bool). both x (orderAfter k v (part v i (after - i)) (many one (opens .0) stop after))) (in-order ∙ not-true o h)))
@@ -173,3 +175,7 @@ module _ (chain : ℕ) (t s m : List ℕ) (row : ℕ) (ok : Sound chain t s m) (
       either-true : (x : Bool) → either x true ≡ true
       either-true true = refl
       either-true false = refl
+
+pub element-typed : (chain : ℕ) (t s m : List ℕ) (row e : ℕ) → Ready chain t s m → row < length s → isList (kindAt t (rowAt s row)) ≡ true
+    → e ≡ elementAt t (rowAt s row) → kindAt t (rowAt s e) ≡ 16 → ⊥
+element-typed chain t s m row e ok here list read = rw read (ok .of-element row here list)

@@ -3,7 +3,7 @@ use mathlib.Core.Path.{_≡_, refl, sym, ap, _∙_}
 use mathlib.Core.Bool.{Bool, true, false, not}
 use mathlib.Core.Option.{Option, none, some}
 use mathlib.Core.List.{List}
-use Prim.Native.Nat.{ℕ, _≤_, _<_, _+_}
+use Prim.Native.Nat.{ℕ, _≤_, _<_}
 use native.Mathlib.Omega.{arith}
 use borrow.Author.Tests.{not-true, not-false}
 use lib.ListN.{length, take}
@@ -12,29 +12,35 @@ use borrow.Table.Elements.{take-le}
 use Rattle.octets.specs.Pick.{pick, bind, isSome}
 use Rattle.rows.specs.Limits.{Limits, tableFits}
 use Rattle.rows.specs.Paper.{tableLimits}
-use Rattle.rows.specs.Row.{rows}
-use Rattle.table.specs.Types.{untagged, taggingOf, Ty, typeFrom, typeAt}
+use Rattle.rows.specs.Row.{rows, kindAt}
+use Rattle.table.specs.Types as types
+use Rattle.table.specs.Types.{untagged, taggingOf, Ty}
+use Rattle.table.specs.inner.Rows.{rowType}
 use Rattle.table.specs.Admitted.{admitted}
 use Rattle.table.specs.inner.Work.{rowCount}
 use Rattle.table.specs.inner.Work.{Sound, Admits}
 use Rattle.table.proofs.Laws.{row-count}
 use Rattle.table.proofs.SoundLaws.{sound}
+use Rattle.words.specs.Rows.{tableRows, placeAt, typeAt}
+use Rattle.words.specs.Words.{firstOctet, Filled, Ready, Worded}
+use Rattle.words.proofs.Reading.{ready}
 use Rattle.value.specs.Paper.{valueLimits}
 use Rattle.value.specs.Decode.{Decoded, unwrapped, decode, inWrapper, storedValue}
 use Rattle.value.specs.Check.{good, refused, report, valueFits, isStored, storage, valueReport}
-use Rattle.value.specs.inner.Work.{checked}
+use Rattle.value.specs.inner.Work.{checked, Answers}
 use Rattle.value.specs.declared.Checked.{Checked}
 use Rattle.value.specs.declared.ValueCheck.{ValueCheck}
+use Rattle.value.proofs.ModeSteps.{own-tag}
 
 -- ---- the whole buffer
-module _ (ty : Ty) (v : List ℕ) (c : Checked) (asked : c ≡ checked (unwrapped ty (taggingOf 0 0) v 0 (length v))) where
+module _ (ty : Ty) (v : List ℕ) (k tag : ℕ) (c : Checked) (tagged : tag ≡ firstOctet untagged k) (answered : Answers ty k tag v 0 (length v) c) where
   stored-by : isSome (storedValue ty v) ≡ isSome (bind (unwrapped ty untagged v 0 (length v)) (λ d. pick (eqb (d .after) (length v)) (some (d .value)) none))
   unfolding storedValue decode inWrapper
   stored-by = refl
 
   asks : c ≡ checked (unwrapped ty untagged v 0 (length v))
   unfolding taggingOf
-  asks = asked
+  asks = answered .says 0 0 (λ z. own-tag tag k 0 tagged z .0)
 
   by-none : (o : Option Decoded) → Checked.Bad ≡ checked o → false ≡ isSome (bind o (λ d. pick (eqb (d .after) (length v)) (some (d .value)) none))
   by-none none e = refl
@@ -106,16 +112,41 @@ module _ (t starts masks : List ℕ) (n : ℕ) (count : n ≡ rowCount tableLimi
   pub fit-here : n ≤ length starts
   fit-here = rows-fit tableLimits t starts masks n count z left
 
+  -- and its words
+  pub places-here : take n starts ≡ tableRows t
+  places-here = rows-are tableLimits t starts masks n count z left
+
+  ready-rows : Ready (tableLimits .chain) t (tableRows t) masks
+  ready-rows = ready tableLimits t masks (is-admitted tableLimits t starts masks n count z) (omega arith) (left .sets (omega arith))
+
+  pub ready-here : Ready (tableLimits .chain) t (take n starts) masks
+  ready-here = rw places-here ready-rows
+
+  pub worded-here : (w : List ℕ) → Filled t (take n starts) masks w (length (take n starts)) → Worded t w
+  worded-here w f = record { m = masks; ready = ready-rows; filled = (rw places-here at f) }
+
+-- a value by the words is one by the rows
+pub stored-here : (t s v : List ℕ) (x : Bool) → s ≡ tableRows t → x ≡ isSome (storedValue (typeAt t 0) v) → x ≡ isSome (storedValue (rowType t s 0) v)
+stored-here t s v x e q = q ∙ ap (λ (y : List ℕ). isSome (storedValue (rowType t y 0) v)) (sym e)
+
+-- row 0
+module _ (t w : List ℕ) (ok : Worded t w) where
+  pub root-here : 0 < length (tableRows t)
+  root-here = ok .ready .rooted
+
+  pub root-typed : kindAt t (placeAt t 0) ≡ 16 → ⊥
+  root-typed = ok .ready .root
+
 -- ---- the answers
 module _ (t v starts masks : List ℕ) (n : ℕ) (count : n ≡ rowCount tableLimits t) where
   pub storage-not : n ≡ 0 → refused 2 ≡ storage tableLimits t v
   unfolding storage
   storage-not z = rw (not-admitted tableLimits t starts masks n count z)
 
-  module _ (z : n ≡ 0 → ⊥) (left : Admits (tableLimits .rows) (tableLimits .chain) t n starts masks) (r : Bool) (told-stored : r ≡ isSome (storedValue (typeFrom (tableLimits .chain) t (take n starts) 0) v)) where
+  module _ (z : n ≡ 0 → ⊥) (r : Bool) (told-stored : r ≡ isSome (storedValue (typeAt t 0) v)) where
     is-stored : isStored tableLimits t v ≡ r
-    unfolding isStored typeAt
-    is-stored = sym (told-stored ∙ ap (λ (s : List ℕ). isSome (storedValue (typeFrom (tableLimits .chain) t s 0) v)) (rows-are tableLimits t starts masks n count z left))
+    unfolding isStored types.typeAt
+    is-stored = sym told-stored
 
     pub storage-bad : not r ≡ true → refused 4 ≡ storage tableLimits t v
     unfolding storage

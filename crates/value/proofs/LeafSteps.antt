@@ -8,17 +8,17 @@ use borrow.Author.Tests.{eq-eqb, ne-eqb, lt-ltb, le-ltb}
 use lib.Dec.{eqb}
 use Rattle.octets.specs.Pick.{pick}
 use Rattle.octets.specs.Octets.{octet, part, same}
-use Rattle.rows.specs.Row.{rowAt, kindAt, typeRowAt, modeAt, numberAt, presenceAt, defaultAt}
+use Rattle.rows.specs.Row.{rowAt, typeRowAt, presenceAt}
 use Rattle.der.specs.Tag.{tagOf, ownOctet, implicitOctet, wrapperOctet}
 use Rattle.der.specs.Header.{insideAt}
 use Rattle.der.specs.Order.{notAbove}
 use Rattle.der.specs.declared.Inside.{Inside}
 use Rattle.der.proofs.Laws.{inside-within}
 use Rattle.groups.specs.Clauses.{memberPlace}
-use Rattle.table.specs.Types.{Tagging, untagged, explicit, implicit, taggingOf}
+use Rattle.table.specs.Types.{Tagging, untagged, explicit, implicit, taggingOf, memberOf, typeFrom}
 use Rattle.table.specs.inner.Work.{bitOf, memberMask}
-use Rattle.value.specs.Decode.{tagOctet}
-use Rattle.value.specs.inner.Work.{upTo, first, marked, markedOf, contentsAt, holds, storedDefault, absentChecked, neighbours}
+use Rattle.value.specs.Decode.{tagOctet, startsHere}
+use Rattle.value.specs.inner.Work.{upTo, first, marked, markedOf, startsOf, contentsAt, holds, storedDefault, absentChecked, neighbours}
 use Rattle.value.specs.declared.Checked.{Checked}
 
 -- ---- tags
@@ -69,9 +69,6 @@ module _ (mode n k : ℕ) where
 pub inside-fits : (o : ℕ) (v : List ℕ) (at end start n : ℕ) (h : Inside) → h ≡ insideAt o v at end → h ≡ Inside.Of start n → end < 18446744073709551616 → start + n < 18446744073709551616
 inside-fits o v at end start n h e q l = let w = inside-within o v at end start n (sym e ∙ q) in omega arith
 
-pub kind-through : (t s : List ℕ) (p j q k : ℕ) → j ≡ typeRowAt t p → q ≡ rowAt s j → k ≡ kindAt t q → k ≡ kindAt t (rowAt s (typeRowAt t p))
-kind-through t s p j q k e f g = g ∙ ap (kindAt t) (f ∙ ap (rowAt s) e)
-
 -- ---- a default that is stored
 module _ (v d : List ℕ) (g : Tagging) (k at end : ℕ) (h : Inside) (e : h ≡ contentsAt g k v at end) where
   pub holds-none : h ≡ Inside.Misfit → false ≡ holds v d (contentsAt g k v at end)
@@ -84,11 +81,6 @@ module _ (t s : List ℕ) (p : ℕ) (v : List ℕ) (at end pr : ℕ) (read : pr 
   pub stored-not : (pr ≡ 2 → ⊥) → false ≡ storedDefault t s p v at end
   unfolding storedDefault
   stored-not h = rw (← read, ne-eqb pr 2 h)
-
-  pub stored-is : (k mode n : ℕ) (c : List ℕ) (r : Bool) → pr ≡ 2 → k ≡ kindAt t (rowAt s (typeRowAt t p)) → c ≡ defaultAt t p → mode ≡ modeAt t p → n ≡ numberAt t p
-      → r ≡ holds v c (contentsAt (taggingOf mode n) k v at end) → r ≡ storedDefault t s p v at end
-  unfolding storedDefault
-  stored-is k mode n c r h ek ec em en told = rw (← read, eq-eqb pr 2 h, ← ek, ← ec, ← em, ← en) told
 
 -- a member that is not there
 module _ (t : List ℕ) (p i pr : ℕ) (read : pr ≡ presenceAt t p) where
@@ -139,23 +131,28 @@ pub first-step : (f : ℕ → Bool) (k a : ℕ) → first f (suc k) a ≡ pick (
 unfolding first
 first-step f k a = refl
 
-module _ (m t s : List ℕ) (row : ℕ) (v : List ℕ) (stop i n j : ℕ) (inv : first (markedOf m t s row v stop i) n 0 ≡ first (markedOf m t s row v stop i) (n - j) j) where
-  abbrev f : ℕ → Bool
-  f = markedOf m t s row v stop i
-
+-- the loop over alternatives, by the test f of each
+module _ (f : ℕ → Bool) (n j : ℕ) (inv : first f n 0 ≡ first f (n - j) j) where
   opens : j < n → first f (n - j) j ≡ pick (f j) j (first f (n - (j + 1)) (j + 1))
   opens l = let q : n - j ≡ suc (n - (j + 1)) = omega arith in ap (λ (x : ℕ). first f x j) q ∙ first-step f (n - (j + 1)) j
 
-  module _ (l : j < n) (p : ℕ) (r : Bool) (placed : p ≡ memberPlace s row j) (told : r ≡ marked m t p v stop i) where
-    here : r ≡ f j
-    unfolding markedOf
-    here = told ∙ ap (λ (x : ℕ). marked m t x v stop i) placed
-
+  module _ (l : j < n) (r : Bool) (told : r ≡ f j) where
     pub first-found : r ≡ true → j ≡ first f n 0
-    first-found h = sym (inv ∙ opens l ∙ ap (λ (x : Bool). pick x j (first f (n - (j + 1)) (j + 1))) (sym here ∙ h))
+    first-found h = sym (inv ∙ opens l ∙ ap (λ (x : Bool). pick x j (first f (n - (j + 1)) (j + 1))) (sym told ∙ h))
 
     pub first-again : r ≡ false → first f n 0 ≡ first f (n - (j + 1)) (j + 1)
-    first-again h = inv ∙ opens l ∙ ap (λ (x : Bool). pick x j (first f (n - (j + 1)) (j + 1))) (sym here ∙ h)
+    first-again h = inv ∙ opens l ∙ ap (λ (x : Bool). pick x j (first f (n - (j + 1)) (j + 1))) (sym told ∙ h)
 
   pub first-done : n ≤ j → j ≡ first f n 0
   first-done h = let q : n - j ≡ 0 = omega arith in first-none f j ∙ ap (λ (x : ℕ). first f x j) (sym q) ∙ sym inv
+
+pub marked-here : (m t s : List ℕ) (row : ℕ) (v : List ℕ) (stop i j p : ℕ) (r : Bool) → p ≡ memberPlace s row j → r ≡ marked m t p v stop i
+    → r ≡ markedOf m t s row v stop i j
+unfolding markedOf
+marked-here m t s row v stop i j p r e told = told ∙ ap (λ (x : ℕ). marked m t x v stop i) e
+
+pub starts-here : (chain : ℕ) (t s : List ℕ) (row : ℕ) (v : List ℕ) (stop i j : ℕ) (r : Bool)
+    → r ≡ startsHere (memberOf t (row + 1 + j) (rowAt s (row + 1 + j))) (typeFrom chain t s (typeRowAt t (rowAt s (row + 1 + j)))) v stop i
+    → r ≡ startsOf chain t s row v stop i j
+unfolding startsOf
+starts-here chain t s row v stop i j r told = told

@@ -3,9 +3,13 @@ pub mod Decodes
 pub mod Laws
 pub mod Before
 pub mod LeafSteps
+pub mod ModeSteps
+pub mod TagSteps
+pub mod DefaultSteps
 pub mod CheckSteps
 pub mod PlainSteps
 pub mod MemberSteps
+pub mod FirstSteps
 pub mod ChoiceSteps
 pub mod ElementSteps
 pub mod EntrySteps

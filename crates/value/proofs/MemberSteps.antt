@@ -16,16 +16,16 @@ use Rattle.der.specs.Header.{insideAt}
 use Rattle.der.specs.declared.Inside.{Inside}
 use Rattle.der.proofs.Laws.{tag-small}
 use Rattle.rows.specs.Row.{rowAt, kindAt, typeRowAt, membersAt, modeAt, numberAt, presenceAt, defaultAt}
-use Rattle.groups.specs.Clauses.{defaultAllowed, defaultLegal}
-use Rattle.table.specs.Types.{Tagging, untagged, explicit, implicit, mandatory, optional, default, taggingOf, presenceOf, Member, memberOf}
-use Rattle.table.specs.Types.{Ty, basic, Members, more, membersFrom, typed, typeFrom}
+use Rattle.groups.specs.Clauses.{typeKind, defaultAllowed, defaultLegal}
+use Rattle.table.specs.Types.{Tagging, untagged, explicit, implicit, mandatory, optional, default, taggingOf, presenceOf, Member, memberOf, Ty, basic, Members, more, membersFrom, typed, typeFrom}
 use Rattle.table.specs.Begins.{isMandatory}
 use Rattle.table.specs.inner.Work.{Sound}
+use Rattle.words.specs.Words.{how, Ready}
 use Rattle.table.proofs.TagLaws.{mandatory-as}
 use Rattle.table.proofs.SoundLaws.{member-tags}
 use Rattle.value.specs.Value.{spotAt, spotOf, Fields, endFields, present, absent}
 use Rattle.value.specs.Decode.{Decoded, afterOf, tagOctet, inWrapper, startsHere, isDefault, unlessDefault, presentThen, absentThen, unwrapped, fieldsFrom, decode}
-use Rattle.value.specs.inner.Work.{checked, upTo, marked, within, contentsAt, holds, storedDefault, isPlain, plainChecked, absentChecked, memberChecked, fieldsChecked}
+use Rattle.value.specs.inner.Work.{checked, upTo, marked, within, contentsAt, holds, storedDefault, plainChecked, absentChecked, memberChecked, fieldsChecked}
 use Rattle.value.specs.declared.Checked.{Checked}
 use Rattle.value.proofs.Views.{leaf-view, wrapper-view}
 use Rattle.value.proofs.CheckSteps.{typed-small}
@@ -48,7 +48,40 @@ few n h a b c = omega arith
 small-basic : (k : ℕ) (e : Ty) (ms : Members) → leb 1 k ≡ true → leb k 3 ≡ true → typed k e ms ≡ basic k
 small-basic k e ms a b = let l = leb-true k 3 b in typed-small k e ms (omega arith)
 
-module _ (chain : ℕ) (t s m : List ℕ) (row : ℕ) (ok : Sound chain t s m) (here : row < length s) (member : kindAt t (rowAt s row) ≡ 16) (target : typeRowAt t (rowAt s row) < length s) where
+-- a member can begin at a place, as its set says
+pub starts-as : (chain : ℕ) (t s m : List ℕ) (row : ℕ) → Sound chain t s m → typeRowAt t (rowAt s row) < length s → (v : List ℕ) (i stop : ℕ)
+    → marked m t (rowAt s row) v stop i ≡ startsHere (memberOf t row (rowAt s row)) (typeFrom chain t s (typeRowAt t (rowAt s row))) v stop i
+unfolding marked startsHere
+starts-as chain t s m row ok target v i stop = ap (both (ltb i stop)) (member-tags chain t s m row ok target (tagOf (octet v i)) (tag-small (octet v i)))
+
+-- ---- numbers of rows
+module _ (chain : ℕ) (t s m : List ℕ) (row : ℕ) (ok : Ready chain t s m) (here : row < length s) where
+  pub row-fits : row + 1 < 18446744073709551616
+  row-fits = let a = ok .few in omega arith
+
+  module _ (n j : ℕ) (count : n ≤ membersAt t (rowAt s row)) (l : j < n) where
+    in-group : j < membersAt t (rowAt s row)
+    in-group = omega arith
+
+    pub alternative-here : row + 1 + j < length s
+    alternative-here = ok .sound .stands row here j in-group
+
+    pub alternative-member : kindAt t (rowAt s (row + 1 + j)) ≡ 16
+    alternative-member = ok .sound .members row here j in-group
+
+    pub alternative-fits : row + 1 + j < 18446744073709551616
+    alternative-fits = let a = ok .few in let b = alternative-here in omega arith
+
+  pub member-fits : (n j : ℕ) → n ≡ membersAt t (rowAt s row) → j < n → row + 1 + j < 18446744073709551616
+  member-fits n j e l = alternative-fits n j (omega arith) l
+
+pub count-le : (n m : ℕ) → n ≡ m → n ≤ m
+count-le n m e = omega arith
+
+module _ (chain : ℕ) (t s m : List ℕ) (row : ℕ) (ok : Ready chain t s m) (here : row < length s) (member : kindAt t (rowAt s row) ≡ 16) where
+  target : typeRowAt t (rowAt s row) < length s
+  target = ok .target row here member
+
   abbrev place : ℕ
   place = rowAt s row
 
@@ -68,13 +101,10 @@ module _ (chain : ℕ) (t s m : List ℕ) (row : ℕ) (ok : Sound chain t s m) (
   default-kind : presenceAt t place ≡ 2 → target-type ≡ basic (kindAt t (rowAt s target-row))
   unfolding defaultLegal defaultAllowed
   default-kind e =
-      let legal = rw (member, e) at (ok .defaults row here) in
+      let legal = rw (member, e) at (ok .sound .defaults row here) in
       let w = both-true _ _ legal in
       let b = both-true _ _ (w .0) in
-      ok .step target-row target ∙ small-basic (kindAt t (rowAt s target-row)) _ _ (b .0) (b .1)
-
-  pub member-falls : (z : ℕ) → 5 * (length s - typeRowAt t (rowAt s row)) + 6 ≡ z → 5 * (length s - typeRowAt t (rowAt s row)) + 5 < z
-  member-falls z e = omega arith
+      ok .sound .step target-row target ∙ small-basic (kindAt t (rowAt s target-row)) _ _ (b .0) (b .1)
 
   module _ (v : List ℕ) (i stop : ℕ) where
     is-default : (d : Decoded) → decode target-type tagging v i stop ≡ some d → isDefault (presenceOf (presenceAt t place) (defaultAt t place)) (spotOf (d .value) .contents) ≡ storedDefault t s place v i stop
@@ -92,31 +122,21 @@ module _ (chain : ℕ) (t s m : List ℕ) (row : ℕ) (ok : Sound chain t s m) (
             let f : decode (basic (kindAt t (rowAt s target-row))) tagging v i stop ≡ some d = ap (λ (ty : Ty). decode ty tagging v i stop) (sym (default-kind (eqb-true (presenceAt t place) 2 u))) ∙ e in
             let w = contents-are tagging (kindAt t (rowAt s target-row)) v i stop d f in
             ap (λ (x : List ℕ). same x (defaultAt t place)) (w .3) ∙ ap (holds v (defaultAt t place)) (sym (w .2))
-        go false p false q false u = absurd (few (presenceAt t place) (ok .presence row here member) (eqb-false (presenceAt t place) 0 p) (eqb-false (presenceAt t place) 1 q) (eqb-false (presenceAt t place) 2 u))
+        go false p false q false u =
+            absurd (few (presenceAt t place) (ok .sound .presence row here member) (eqb-false (presenceAt t place) 0 p) (eqb-false (presenceAt t place) 1 q)
+            (eqb-false (presenceAt t place) 2 u))
 
-    -- the member can begin here, as its set says
-    pub starts-as : marked m t place v stop i ≡ startsHere the-member target-type v stop i
-    unfolding marked startsHere
-    starts-as = ap (both (ltb i stop)) (member-tags chain t s m row ok target (tagOf (octet v i)) (tag-small (octet v i)))
-
-    module _ (p : ℕ) (x : Bool) (placed : p ≡ rowAt s row) (begins : x ≡ marked m t p v stop i) where
-      starting : x ≡ startsHere the-member target-type v stop i
-      starting = begins ∙ ap (λ (y : ℕ). marked m t y v stop i) placed ∙ starts-as
-
-      pub member-absent : (r : Checked) → not x ≡ true → r ≡ absentChecked t p i → r ≡ memberChecked the-member target-type v stop i
+    module _ (x : Bool) (starting : x ≡ startsHere (memberOf t row (rowAt s row)) (typeFrom chain t s (typeRowAt t (rowAt s row))) v stop i) where
+      pub member-absent : (r : Checked) → not x ≡ true → r ≡ absentChecked t place i → r ≡ memberChecked the-member target-type v stop i
       unfolding memberChecked absentChecked memberOf
       member-absent r h e =
           let off : startsHere the-member target-type v stop i ≡ false = sym starting ∙ not-true x h in
-          rw off (e ∙ ap (λ (y : ℕ). pick (eqb (presenceAt t y) 0) Checked.Bad (Checked.At i)) placed
-          ∙ ap (λ (y : Bool). pick y Checked.Bad (Checked.At i)) (sym (mandatory-as (presenceAt t place) (defaultAt t place))))
+          rw off (e ∙ ap (λ (y : Bool). pick y Checked.Bad (Checked.At i)) (sym (mandatory-as (presenceAt t place) (defaultAt t place))))
 
-      module _ (on : not x ≡ false) (y : Bool) (stored : y ≡ storedDefault t s p v i stop) where
+      module _ (on : not x ≡ false) (y : Bool) (stored : y ≡ storedDefault t s (rowAt s row) v i stop) where
         there : memberChecked the-member target-type v stop i ≡ checked (bind (decode target-type tagging v i stop) (λ d. pick (isDefault (presenceOf (presenceAt t place) (defaultAt t place)) (spotOf (d .value) .contents)) none (some d)))
         unfolding memberChecked memberOf
         there = let h : startsHere the-member target-type v stop i ≡ true = sym starting ∙ not-false x on in rw h
-
-        is-stored : y ≡ storedDefault t s place v i stop
-        is-stored = stored ∙ ap (λ (z : ℕ). storedDefault t s z v i stop) placed
 
         by-default : (o : Option Decoded) → decode target-type tagging v i stop ≡ o
             → checked (bind o (λ d. pick (isDefault (presenceOf (presenceAt t place) (defaultAt t place)) (spotOf (d .value) .contents)) none (some d))) ≡ pick y Checked.Bad (checked o)
@@ -125,7 +145,7 @@ module _ (chain : ℕ) (t s m : List ℕ) (row : ℕ) (ok : Sound chain t s m) (
             go : (z : Bool) → Checked.Bad ≡ pick z Checked.Bad Checked.Bad
             go true = refl
             go false = refl
-        by-default (some d) q = ap (λ (z : Bool). checked (pick z none (some d))) (is-default d q ∙ sym is-stored) ∙ go y
+        by-default (some d) q = ap (λ (z : Bool). checked (pick z none (some d))) (is-default d q ∙ sym stored) ∙ go y
           where
             go : (z : Bool) → checked (pick z none (some d)) ≡ pick z Checked.Bad (Checked.At (d .after))
             go true = refl
@@ -141,21 +161,14 @@ module _ (chain : ℕ) (t s m : List ℕ) (row : ℕ) (ok : Sound chain t s m) (
         member-is r h e = e ∙ sym (by-stored ∙ ap (λ (z : Bool). pick z Checked.Bad (checked (decode target-type tagging v i stop))) h)
 
       -- a plain member
-      module _ (on : not x ≡ false) (k : ℕ) (b : Bool) (read : k ≡ kindAt t (rowAt s (typeRowAt t p))) (tested : b ≡ isPlain k (modeAt t p)) where
-        the-kind : k ≡ kindAt t (rowAt s target-row)
-        the-kind = read ∙ ap (λ (y : ℕ). kindAt t (rowAt s (typeRowAt t y))) placed
-
-        by-plain : isPlain (kindAt t (rowAt s target-row)) (modeAt t place) ≡ true → plainChecked t place (kindAt t (rowAt s target-row)) tagging v i stop ≡ memberChecked the-member target-type v stop i
-        unfolding storedDefault
-        by-plain h =
-            plain-decoded (kindAt t (rowAt s target-row)) (modeAt t place) h t place (numberAt t place) v i stop
-            ∙ ap (λ (ty : Ty). pick (storedDefault t s place v i stop) Checked.Bad (checked (decode ty tagging v i stop))) (sym (ok .step target-row target ∙ plain-basic (kindAt t (rowAt s target-row)) (modeAt t place) h _ _))
-            ∙ sym (by-stored on (storedDefault t s place v i stop) (ap (λ (y : ℕ). storedDefault t s y v i stop) (sym placed)))
-
-        pub member-plain : (r : Checked) → b ≡ true → r ≡ plainChecked t p k (taggingOf (modeAt t p) (numberAt t p)) v i stop → r ≡ memberChecked the-member target-type v stop i
-        member-plain r h e =
-            e ∙ ap₂ (λ (y z : ℕ). plainChecked t y z (taggingOf (modeAt t y) (numberAt t y)) v i stop) placed the-kind
-            ∙ by-plain (sym (ap₂ (λ (y z : ℕ). isPlain z (modeAt t y)) placed the-kind) ∙ sym tested ∙ h)
+      pub by-plain : x ≡ true → how (typeKind t s row) (modeAt t place) ≡ 0
+          → plainChecked t place (typeKind t s row) tagging v i stop ≡ memberChecked the-member target-type v stop i
+      unfolding storedDefault
+      by-plain on h =
+          plain-decoded (typeKind t s row) (modeAt t place) h t place (numberAt t place) v i stop
+          ∙ ap (λ (ty : Ty). pick (storedDefault t s place v i stop) Checked.Bad (checked (decode ty tagging v i stop)))
+          (sym (ok .sound .step target-row target ∙ plain-basic (typeKind t s row) (modeAt t place) h _ _))
+          ∙ sym (by-stored (ap not on) (storedDefault t s place v i stop) refl)
 
 -- ---- members in turn
 abbrev thenFields : Members → List ℕ → ℕ → Checked → Bool
@@ -196,11 +209,11 @@ pub record Fielded (chain : ℕ) (t s : List ℕ) (row : ℕ) (v : List ℕ) (st
   pub same : isSome (fieldsFrom (membersFrom (typeFrom chain t s) t s (row + 1 + j) (n - j)) v stop i) ≡ isSome (fieldsFrom (membersFrom (typeFrom chain t s) t s (row + 1) n) v stop start)
 
 module _ (chain : ℕ) (t s m : List ℕ) (row : ℕ) (ok : Sound chain t s m) (here : row < length s) (v : List ℕ) (start stop : ℕ) where
-  pub fields-start : (p n : ℕ) → p ≡ rowAt s row → n ≡ membersAt t p → Fielded chain t s row v start stop n start 0
-  fields-start p n e q =
+  pub fields-start : (n : ℕ) → n ≡ membersAt t (rowAt s row) → Fielded chain t s row v start stop n start 0
+  fields-start n q =
       let a : row + 1 + 0 ≡ row + 1 = omega arith in
       let b : n - 0 ≡ n = omega arith in
-      record { count = q ∙ ap (membersAt t) e; few = omega arith; same = ap₂ (λ (x y : ℕ). isSome (fieldsFrom (membersFrom (typeFrom chain t s) t s x y) v stop start)) a b }
+      record { count = q; few = omega arith; same = ap₂ (λ (x y : ℕ). isSome (fieldsFrom (membersFrom (typeFrom chain t s) t s x y) v stop start)) a b }
 
   module _ (n i j : ℕ) (w : Fielded chain t s row v start stop n i j) where
     whole : upTo stop (isSome (fieldsFrom (membersFrom (typeFrom chain t s) t s (row + 1 + j) (n - j)) v stop i)) ≡ fieldsChecked (membersFrom (typeFrom chain t s) t s (row + 1) (membersAt t (rowAt s row))) v stop start
@@ -214,17 +227,8 @@ module _ (chain : ℕ) (t s m : List ℕ) (row : ℕ) (ok : Sound chain t s m) (
       pub field-here : row + 1 + j < length s
       field-here = ok .stands row here j in-row
 
-      pub field-fits : length s < 18446744073709551616 → row + 1 + j < 18446744073709551616
-      field-fits h = let q = field-here in omega arith
-
-      pub field-row-fits : length s < 18446744073709551616 → row + 1 < 18446744073709551616
-      field-row-fits h = omega arith
-
       pub field-member : kindAt t (rowAt s (row + 1 + j)) ≡ 16
       field-member = ok .members row here j in-row
-
-      pub field-target : typeRowAt t (rowAt s (row + 1 + j)) < length s
-      field-target = ok .later .of-member row here j in-row .1
 
       pub field-falls : (k : ℕ) → 5 * (length s - row) + 2 ≡ k → 5 * (length s - typeRowAt t (rowAt s (row + 1 + j))) + 6 < k
       field-falls k e = let a = ok .later .of-member row here j in-row in let b = a .0 in let d = a .1 in omega arith

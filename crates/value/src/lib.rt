@@ -6,18 +6,20 @@ ghost use mathlib.Core.Bool.{true, false};
 ghost use Prim.Native.Nat.{_≤_, _<_, _+_, _-_};
 ghost use lib.ListN.{length};
 ghost use Rattle.octets.specs.Pick.{isSome};
-ghost use Rattle.octets.specs.Octets.{part};
+ghost use Rattle.octets.specs.Octets.{part, same};
+ghost use Rattle.der.specs.Tag.{tagOf};
 ghost use Rattle.der.specs.Contents.{legal};
-ghost use Rattle.rows.specs.Row.{rowAt, kindAt, elementAt, typeRowAt, isList, modeAt, numberAt};
+ghost use Rattle.rows.specs.Row.{kindAt, elementAt, membersAt, isList, modeAt, presenceAt, defaultAt};
 ghost use Rattle.table.specs.Types.{taggingOf};
-ghost use Rattle.table.specs.inner.Work.{Sound};
-ghost use Rattle.value.specs.Decode.{tagOctet, unwrapped, alternativeFrom, decode, storedValue};
+ghost use Rattle.table.specs.Begins.{memberBegins};
+ghost use Rattle.words.specs.Rows.{tableRows, placeAt, typeAt, membersAfter, memberAt, taggingAt, memberTypeAt, memberKindAt};
+ghost use Rattle.words.specs.Words.{how, Worded};
+ghost use Rattle.value.specs.Decode.{tagOctet, startsHere, alternativeFrom, decode, storedValue};
 ghost use Rattle.value.specs.Paper.{valueLimits};
 ghost use Rattle.value.specs.Check.{report, valueFits, storage, valueReport};
 ghost use Rattle.value.specs.Part as parts;
 ghost use Rattle.value.specs.inner.Work as work;
 ghost use Rattle.rows.specs.Paper.{tableLimits};
-ghost use Rattle.table.specs.inner.Rows.{rowType, rowMembers, rowMember, rowTagging, rowMemberType};
 
 // A stored value: the limits of every one.
 pub struct Value;
@@ -97,64 +99,199 @@ pub fn find_alternative(
     j
 }
 
-// The kind of the type of the member row at p.
-fn type_kind(t: &[u8], s: &[usize], p: usize) -> u8
-    ensures { λ r. ⌜ r ≡ kindAt (now (t .entry)) (rowAt (now (s .entry)) (typeRowAt (now (t .entry)) p)) ⌝ }
+// ---- octets that can begin a value
+// Whether tag octets have one class and number.
+fn same_tag(a: usize, b: usize) -> bool
+    ensures { λ r. ⌜ r ≡ work.sameTag a b ⌝ }
 {
-    rows::kind_at(t, rows::row_at(s, rows::type_row_at(t, p)))
-}
-
-// ---- defaults
-// The contents of a basic value under a tag mode, inside its wrapper where it has one.
-fn contents_at(mode: u8, number: u8, kind: u8, v: &[u8], at: usize, end: usize) -> Inside
-    ensures { λ r. ⌜ r ≡ work.contentsAt (taggingOf mode number) kind (now (v .entry)) at end ⌝ }
-{
-    if mode != 1 {
-        return der::open(tag_octet(mode, number, kind), v, at, end);
-    }
-    let Inside::Of(start, n) = der::open(der::wrapper_octet(number), v, at, end) else {
-        return Inside::Misfit;
-    };
-    der::open(der::own_octet(kind), v, start, start + n)
-}
-
-// Whether these contents stand at a place, as a basic value under a tag mode.
-fn holds(c: &[u8], mode: u8, number: u8, kind: u8, v: &[u8], at: usize, end: usize) -> bool
-    ensures { λ r. ⌜ r ≡ work.holds (now (v .entry)) (now (c .entry)) (work.contentsAt (taggingOf mode number) kind (now (v .entry)) at end) ⌝ }
-{
-    let Inside::Of(start, n) = contents_at(mode, number, kind, v, at, end) else {
-        return false;
-    };
-    octets::same(octets::part(v, start, n), c)
-}
-
-// Whether the member row at p has a default, whose contents stand at a place.
-fn stored_default(t: &[u8], s: &[usize], p: usize, v: &[u8], at: usize, end: usize) -> bool
-    ensures { λ r. ⌜ r ≡ work.storedDefault (now (t .entry)) (now (s .entry)) p (now (v .entry)) at end ⌝ }
-{
-    if rows::presence_at(t, p) != 2 {
+    if a & 31 != b & 31 {
         return false;
     }
-    let kind = type_kind(t, s, p);
-    holds(
-        rows::default_at(t, p),
-        rows::mode_at(t, p),
-        rows::number_at(t, p),
-        kind,
-        v,
-        at,
-        end,
-    )
+    a >> 6 == b >> 6
 }
 
-// The member row at p where it is not there: a mandatory one has to be.
-fn absent(t: &[u8], p: usize, i: usize) -> Checked
-    ensures { λ r. ⌜ r ≡ work.absentChecked (now (t .entry)) p i ⌝ }
+// Whether a value can begin with an octet: by its first tag octet; where that is 0, by its set of tags.
+fn opens(first: usize, set: u64, o: u8) -> bool
+    ensures { λ r. ⌜ r ≡ work.opensBy first set o ⌝ }
 {
-    if rows::presence_at(t, p) == 0 {
+    if first == 0 {
+        return table::has_tag(set, o);
+    }
+    same_tag(first, octets::wide(o))
+}
+
+// Whether the member of a row can begin with an octet.
+fn begins_with(t: &[u8], w: &[u64; 256], row: usize, o: u8) -> bool
+    requires worded { ⌜ Worded (now t) (now w) ⌝ }
+    requires here { ⌜ row < length (tableRows (now t)) ⌝ }
+    requires member { ⌜ kindAt (now t) (placeAt (now t) row) ≡ 16 ⌝ }
+    ensures { λ r. ⌜ r ≡ memberBegins (memberAt (now (t .entry)) row) (memberTypeAt (now (t .entry)) row) (tagOf o) ⌝ }
+{
+    opens(words::first(t, w, row), words::second_word(w, row), o)
+}
+
+// Whether it can begin with the octet at i, which has to lie before stop.
+fn member_starts(t: &[u8], w: &[u64; 256], v: &[u8], row: usize, stop: usize, i: usize) -> bool
+    requires worded { ⌜ Worded (now t) (now w) ⌝ }
+    requires here { ⌜ row < length (tableRows (now t)) ⌝ }
+    requires member { ⌜ kindAt (now t) (placeAt (now t) row) ≡ 16 ⌝ }
+    ensures { λ r. ⌜ r ≡ startsHere (memberAt (now (t .entry)) row) (memberTypeAt (now (t .entry)) row) (now (v .entry)) stop i ⌝ }
+{
+    if stop <= i {
+        return false;
+    }
+    begins_with(t, w, row, octets::octet(v, i))
+}
+
+// ---- members that are not there, and defaults
+// The member of a row where it is not there: a mandatory one has to be.
+fn absent(t: &[u8], w: &[u64; 256], row: usize, i: usize) -> Checked
+    requires worded { ⌜ Worded (now t) (now w) ⌝ }
+    requires here { ⌜ row < length (tableRows (now t)) ⌝ }
+    requires member { ⌜ kindAt (now t) (placeAt (now t) row) ≡ 16 ⌝ }
+    ensures { λ r. ⌜ r ≡ work.absentChecked (now (t .entry)) (placeAt (now (t .entry)) row) i ⌝ }
+{
+    if words::presence(t, w, row) == 0 {
         return Checked::Bad;
     }
     Checked::At(i)
+}
+
+// Whether contents are the default of the member of a row, which has one.
+fn equals_default(t: &[u8], w: &[u64; 256], row: usize, c: &[u8]) -> bool
+    requires worded { ⌜ Worded (now t) (now w) ⌝ }
+    requires here { ⌜ row < length (tableRows (now t)) ⌝ }
+    requires member { ⌜ kindAt (now t) (placeAt (now t) row) ≡ 16 ⌝ }
+    requires stored { ⌜ presenceAt (now t) (placeAt (now t) row) ≡ 2 ⌝ }
+    ensures { λ r. ⌜ r ≡ same (now (c .entry)) (defaultAt (now (t .entry)) (placeAt (now (t .entry)) row)) ⌝ }
+{
+    if c.len() != words::default_length(t, w, row) {
+        return false;
+    }
+    der::plain(c) == words::default_number(t, w, row)
+}
+
+// Whether the n octets from start on are the contents of the default of the member of a row.
+fn is_default(t: &[u8], w: &[u64; 256], row: usize, v: &[u8], start: usize, n: usize) -> bool
+    requires worded { ⌜ Worded (now t) (now w) ⌝ }
+    requires here { ⌜ row < length (tableRows (now t)) ⌝ }
+    requires member { ⌜ kindAt (now t) (placeAt (now t) row) ≡ 16 ⌝ }
+    ensures { λ r. ⌜ r ≡ work.isDefaultAt (now (t .entry)) (placeAt (now (t .entry)) row) (now (v .entry)) start n ⌝ }
+{
+    if words::presence(t, w, row) == 2 {
+        return equals_default(t, w, row, octets::part(v, start, n));
+    }
+    false
+}
+
+// ---- values of one header
+// Contents of a basic kind, from start up to stop.
+fn check_basic(kind: u8, v: &[u8], start: usize, stop: usize) -> Checked
+    ensures { λ r. ⌜ r ≡ work.upTo stop (legal kind (part (now (v .entry)) start (stop - start))) ⌝ }
+{
+    if der::legal(kind, v, start, stop) {
+        return Checked::At(stop);
+    }
+    Checked::Bad
+}
+
+// The plain member of a row, at a place where it is there: one header, contents of the kind, and not its default.
+fn check_plain(t: &[u8], w: &[u64; 256], v: &[u8], row: usize, at: usize, end: usize) -> Checked
+    requires worded { ⌜ Worded (now t) (now w) ⌝ }
+    requires here { ⌜ row < length (tableRows (now t)) ⌝ }
+    requires member { ⌜ kindAt (now t) (placeAt (now t) row) ≡ 16 ⌝ }
+    requires plain { ⌜ how (memberKindAt (now t) row) (modeAt (now t) (placeAt (now t) row)) ≡ 0 ⌝ }
+    ensures { λ r. ⌜ r
+        ≡ work.plainChecked (now (t .entry)) (placeAt (now (t .entry)) row) (memberKindAt (now (t .entry)) row) (taggingAt (now (t .entry)) row)
+        (now (v .entry)) at end ⌝ }
+{
+    let Inside::Of(start, n) = der::open(words::first(t, w, row), v, at, end) else {
+        return Checked::Bad;
+    };
+    if is_default(t, w, row, v, start, n) {
+        return Checked::Bad;
+    }
+    check_basic(words::kind_of_type(t, w, row), v, start, start + n)
+}
+
+// The plain member of a row at a place, before stop: by its first octet alone.
+fn check_plain_member(
+    t: &[u8],
+    w: &[u64; 256],
+    v: &[u8],
+    row: usize,
+    i: usize,
+    stop: usize,
+) -> Checked
+    requires worded { ⌜ Worded (now t) (now w) ⌝ }
+    requires here { ⌜ row < length (tableRows (now t)) ⌝ }
+    requires member { ⌜ kindAt (now t) (placeAt (now t) row) ≡ 16 ⌝ }
+    requires plain { ⌜ how (memberKindAt (now t) row) (modeAt (now t) (placeAt (now t) row)) ≡ 0 ⌝ }
+    ensures { λ r. ⌜ r ≡ work.memberChecked (memberAt (now (t .entry)) row) (memberTypeAt (now (t .entry)) row) (now (v .entry)) stop i ⌝ }
+{
+    if stop <= i {
+        return absent(t, w, row, i);
+    }
+    let first = words::first(t, w, row);
+    let o = octets::wide(octets::octet(v, i));
+    if o == first {
+        return check_plain(t, w, v, row, i, stop);
+    }
+    if same_tag(first, o) {
+        return Checked::Bad;
+    }
+    absent(t, w, row, i)
+}
+
+// ---- a default that is stored in a wrapper
+// The contents of the member of a row inside its wrapper.
+fn wrapped_contents(t: &[u8], w: &[u64; 256], v: &[u8], row: usize, at: usize, end: usize) -> Inside
+    requires worded { ⌜ Worded (now t) (now w) ⌝ }
+    requires here { ⌜ row < length (tableRows (now t)) ⌝ }
+    requires member { ⌜ kindAt (now t) (placeAt (now t) row) ≡ 16 ⌝ }
+    requires explicit { ⌜ modeAt (now t) (placeAt (now t) row) ≡ 1 ⌝ }
+    ensures { λ r. ⌜ r ≡ work.contentsAt (taggingAt (now (t .entry)) row) (memberKindAt (now (t .entry)) row) (now (v .entry)) at end ⌝ }
+{
+    let Inside::Of(start, n) = der::open(words::first(t, w, row), v, at, end) else {
+        return Inside::Misfit;
+    };
+    der::open(
+        der::own_octet(words::kind_of_type(t, w, row)),
+        v,
+        start,
+        start + n,
+    )
+}
+
+// Whether they are its default, which it has.
+fn wrapped_default(t: &[u8], w: &[u64; 256], v: &[u8], row: usize, at: usize, end: usize) -> bool
+    requires worded { ⌜ Worded (now t) (now w) ⌝ }
+    requires here { ⌜ row < length (tableRows (now t)) ⌝ }
+    requires member { ⌜ kindAt (now t) (placeAt (now t) row) ≡ 16 ⌝ }
+    requires explicit { ⌜ modeAt (now t) (placeAt (now t) row) ≡ 1 ⌝ }
+    requires stored { ⌜ presenceAt (now t) (placeAt (now t) row) ≡ 2 ⌝ }
+    ensures { λ r. ⌜ r
+        ≡ work.holds (now (v .entry)) (defaultAt (now (t .entry)) (placeAt (now (t .entry)) row))
+        (work.contentsAt (taggingAt (now (t .entry)) row) (memberKindAt (now (t .entry)) row) (now (v .entry)) at end) ⌝ }
+{
+    let Inside::Of(start, n) = wrapped_contents(t, w, v, row, at, end) else {
+        return false;
+    };
+    equals_default(t, w, row, octets::part(v, start, n))
+}
+
+// Whether the default of the member of a row, which is not plain, stands at a place.
+fn stored_default(t: &[u8], w: &[u64; 256], v: &[u8], row: usize, at: usize, end: usize) -> bool
+    requires worded { ⌜ Worded (now t) (now w) ⌝ }
+    requires here { ⌜ row < length (tableRows (now t)) ⌝ }
+    requires member { ⌜ kindAt (now t) (placeAt (now t) row) ≡ 16 ⌝ }
+    requires other { ⌜ (how (memberKindAt (now t) row) (modeAt (now t) (placeAt (now t) row)) ≡ 0 → ⊥) ⌝ }
+    ensures { λ r. ⌜ r ≡ work.storedDefault (now (t .entry)) (tableRows (now (t .entry))) (placeAt (now (t .entry)) row) (now (v .entry)) at end ⌝ }
+{
+    if words::presence(t, w, row) != 2 {
+        return false;
+    }
+    wrapped_default(t, w, v, row, at, end)
 }
 
 // Whether neighbours in a list are in order: those of a SET OF, each not above the next.
@@ -172,78 +309,56 @@ fn in_order(kind: u8, v: &[u8], before: usize, i: usize, next: usize) -> bool
     )
 }
 
-// ---- values of one header
-fn check_basic(kind: u8, v: &[u8], start: usize, stop: usize) -> Checked
-    ensures { λ r. ⌜ r ≡ work.upTo stop (legal kind (part (now (v .entry)) start (stop - start))) ⌝ }
+// The first of n alternatives that can begin with the octet at a place; n where none can.
+fn first_alternative(
+    t: &[u8],
+    w: &[u64; 256],
+    v: &[u8],
+    row: usize,
+    n: usize,
+    at: usize,
+    end: usize,
+) -> usize
+    requires worded { ⌜ Worded (now t) (now w) ⌝ }
+    requires here { ⌜ row < length (tableRows (now t)) ⌝ }
+    requires count { ⌜ n ≤ membersAt (now t) (placeAt (now t) row) ⌝ }
+    ensures { λ r. ⌜ r ≡ work.first (work.startsOf (tableLimits .chain) (now (t .entry)) (tableRows (now (t .entry))) row (now (v .entry)) end at) n 0 ⌝ }
 {
-    if der::legal(kind, v, start, stop) {
-        return Checked::At(stop);
+    let mut j = 0;
+    while j < n {
+        if member_starts(t, w, v, row + 1 + j, end, at) {
+            return j;
+        }
+        j += 1;
     }
-    Checked::Bad
-}
-
-// ---- plain members: of a basic type, under no tag or an implicit one
-// Whether the member row at p, whose type is of a kind, is one.
-fn is_plain(t: &[u8], p: usize, kind: u8) -> bool
-    ensures { λ r. ⌜ r ≡ work.isPlain kind (modeAt (now (t .entry)) p) ⌝ }
-{
-    if rows::mode_at(t, p) == 1 {
-        return false;
-    }
-    kind <= 11
-}
-
-// Whether the n octets from start on are the contents of the default of the member row at p.
-fn is_default(t: &[u8], p: usize, v: &[u8], start: usize, n: usize) -> bool
-    ensures { λ r. ⌜ r ≡ work.isDefaultAt (now (t .entry)) p (now (v .entry)) start n ⌝ }
-{
-    if rows::presence_at(t, p) == 2 {
-        return octets::same(octets::part(v, start, n), rows::default_at(t, p));
-    }
-    false
-}
-
-// The plain member of the row at p, of a kind, at a place where it is there: one header, contents of the kind, and not its default.
-fn check_plain(t: &[u8], p: usize, kind: u8, v: &[u8], at: usize, end: usize) -> Checked
-    ensures { λ r. ⌜ r
-        ≡ work.plainChecked (now (t .entry)) p kind (taggingOf (modeAt (now (t .entry)) p) (numberAt (now (t .entry)) p)) (now (v .entry)) at end ⌝ }
-{
-    let tag = tag_octet(rows::mode_at(t, p), rows::number_at(t, p), kind);
-    let Inside::Of(start, n) = der::open(tag, v, at, end) else {
-        return Checked::Bad;
-    };
-    if is_default(t, p, v, start, n) {
-        return Checked::Bad;
-    }
-    check_basic(kind, v, start, start + n)
+    j
 }
 
 // ---- "a nested value is checked as its row says, one level deeper"
 // The elements of the list of a row, from start up to stop.
 fn check_elements(
     t: &[u8],
-    s: &[usize],
-    m: &[u64],
+    w: &[u64; 256],
     v: &[u8],
     row: usize,
     start: usize,
     stop: usize,
 ) -> Checked
-    requires sound { ⌜ Sound (tableLimits .chain) (now t) (now s) (now m) ⌝ }
-    requires here { ⌜ row < length (now s) ⌝ }
-    requires list { ⌜ isList (kindAt (now t) (rowAt (now s) row)) ≡ true ⌝ }
+    requires worded { ⌜ Worded (now t) (now w) ⌝ }
+    requires here { ⌜ row < length (tableRows (now t)) ⌝ }
+    requires list { ⌜ isList (kindAt (now t) (placeAt (now t) row)) ≡ true ⌝ }
     requires ordered { ⌜ start ≤ stop ⌝ }
     ensures { λ r. ⌜ r
-        ≡ work.elementsChecked (kindAt (now (t .entry)) (rowAt (now (s .entry)) row))
-        (rowType (now (t .entry)) (now (s .entry)) (elementAt (now (t .entry)) (rowAt (now (s .entry)) row))) (now (v .entry)) stop start ⌝ }
+        ≡ work.elementsChecked (kindAt (now (t .entry)) (placeAt (now (t .entry)) row))
+        (typeAt (now (t .entry)) (elementAt (now (t .entry)) (placeAt (now (t .entry)) row))) (now (v .entry)) stop start ⌝ }
 {
-    let p = rows::row_at(s, row);
-    let kind = rows::kind_at(t, p);
-    let element = rows::element_at(t, p);
+    let kind = words::kind(t, w, row);
+    let element = words::element(t, w, row);
+    let tag = words::own_first(t, w, element);
     let mut before = start;
     let mut i = start;
     while i < stop {
-        let Checked::At(next) = check(t, s, m, v, element, 0, 0, i, stop) else {
+        let Checked::At(next) = check(t, w, v, element, tag, i, stop) else {
             return Checked::Bad;
         };
         if !in_order(kind, v, before, i, next) {
@@ -258,22 +373,21 @@ fn check_elements(
 // The members of the SEQUENCE of a row, from start up to stop.
 fn check_fields(
     t: &[u8],
-    s: &[usize],
-    m: &[u64],
+    w: &[u64; 256],
     v: &[u8],
     row: usize,
     start: usize,
     stop: usize,
 ) -> Checked
-    requires sound { ⌜ Sound (tableLimits .chain) (now t) (now s) (now m) ⌝ }
-    requires here { ⌜ row < length (now s) ⌝ }
-    ensures { λ r. ⌜ r ≡ work.fieldsChecked (rowMembers (now (t .entry)) (now (s .entry)) row) (now (v .entry)) stop start ⌝ }
+    requires worded { ⌜ Worded (now t) (now w) ⌝ }
+    requires here { ⌜ row < length (tableRows (now t)) ⌝ }
+    ensures { λ r. ⌜ r ≡ work.fieldsChecked (membersAfter (now (t .entry)) row) (now (v .entry)) stop start ⌝ }
 {
-    let n = rows::members_at(t, rows::row_at(s, row));
+    let n = words::members(t, w, row);
     let mut i = start;
     let mut j = 0;
     while j < n {
-        let Checked::At(next) = check_member(t, s, m, v, row + 1 + j, i, stop) else {
+        let Checked::At(next) = check_member(t, w, v, row + 1 + j, i, stop) else {
             return Checked::Bad;
         };
         i = next;
@@ -286,82 +400,60 @@ fn check_fields(
 }
 
 // The member of a row at a place, before stop: where it is there it has to be a value of its type, and not its default.
-fn check_member(
-    t: &[u8],
-    s: &[usize],
-    m: &[u64],
-    v: &[u8],
-    row: usize,
-    i: usize,
-    stop: usize,
-) -> Checked
-    requires sound { ⌜ Sound (tableLimits .chain) (now t) (now s) (now m) ⌝ }
-    requires here { ⌜ row < length (now s) ⌝ }
-    requires member { ⌜ kindAt (now t) (rowAt (now s) row) ≡ 16 ⌝ }
-    requires target { ⌜ typeRowAt (now t) (rowAt (now s) row) < length (now s) ⌝ }
-    ensures { λ r. ⌜ r
-        ≡ work.memberChecked (rowMember (now (t .entry)) (now (s .entry)) row) (rowMemberType (now (t .entry)) (now (s .entry)) row) (now (v .entry)) stop i ⌝ }
+fn check_member(t: &[u8], w: &[u64; 256], v: &[u8], row: usize, i: usize, stop: usize) -> Checked
+    requires worded { ⌜ Worded (now t) (now w) ⌝ }
+    requires here { ⌜ row < length (tableRows (now t)) ⌝ }
+    requires member { ⌜ kindAt (now t) (placeAt (now t) row) ≡ 16 ⌝ }
+    ensures { λ r. ⌜ r ≡ work.memberChecked (memberAt (now (t .entry)) row) (memberTypeAt (now (t .entry)) row) (now (v .entry)) stop i ⌝ }
 {
-    let p = rows::row_at(s, row);
-    if !starts_here(t, m, p, v, stop, i) {
-        return absent(t, p, i);
+    if words::tagged(t, w, row) == 0 {
+        return check_plain_member(t, w, v, row, i, stop);
     }
-    let kind = type_kind(t, s, p);
-    if is_plain(t, p, kind) {
-        return check_plain(t, p, kind, v, i, stop);
+    if !member_starts(t, w, v, row, stop, i) {
+        return absent(t, w, row, i);
     }
-    if stored_default(t, s, p, v, i, stop) {
+    if stored_default(t, w, v, row, i, stop) {
         return Checked::Bad;
     }
-    check_tagged(t, s, m, v, row, i, stop)
+    check_tagged(t, w, v, row, i, stop)
 }
 
 // A value of the type of a member row, under its tag mode.
-fn check_tagged(
-    t: &[u8],
-    s: &[usize],
-    m: &[u64],
-    v: &[u8],
-    row: usize,
-    at: usize,
-    end: usize,
-) -> Checked
-    requires sound { ⌜ Sound (tableLimits .chain) (now t) (now s) (now m) ⌝ }
-    requires target { ⌜ typeRowAt (now t) (rowAt (now s) row) < length (now s) ⌝ }
-    ensures { λ r. ⌜ r
-        ≡ work.checked (decode (rowMemberType (now (t .entry)) (now (s .entry)) row) (rowTagging (now (t .entry)) (now (s .entry)) row)
-        (now (v .entry)) at end) ⌝ }
+fn check_tagged(t: &[u8], w: &[u64; 256], v: &[u8], row: usize, at: usize, end: usize) -> Checked
+    requires worded { ⌜ Worded (now t) (now w) ⌝ }
+    requires here { ⌜ row < length (tableRows (now t)) ⌝ }
+    requires member { ⌜ kindAt (now t) (placeAt (now t) row) ≡ 16 ⌝ }
+    ensures { λ r. ⌜ r ≡ work.checked (decode (memberTypeAt (now (t .entry)) row) (taggingAt (now (t .entry)) row) (now (v .entry)) at end) ⌝ }
 {
-    let p = rows::row_at(s, row);
-    let mode = rows::mode_at(t, p);
-    let number = rows::number_at(t, p);
-    let target = rows::type_row_at(t, p);
-    if mode == 1 {
-        return check_wrapped(t, s, m, v, target, number, at, end);
+    let target = words::type_row(t, w, row);
+    let first = words::first(t, w, row);
+    if words::tagged(t, w, row) == 1 {
+        return check_wrapped(t, w, v, target, first, at, end);
     }
-    check(t, s, m, v, target, mode, number, at, end)
+    check(t, w, v, target, first, at, end)
 }
 
-// A value of the type of a row in an explicit wrapper, which it fills.
+// A value of the type of a row in the wrapper of a tag octet, which it fills.
 fn check_wrapped(
     t: &[u8],
-    s: &[usize],
-    m: &[u64],
+    w: &[u64; 256],
     v: &[u8],
     row: usize,
-    number: u8,
+    tag: usize,
     at: usize,
     end: usize,
 ) -> Checked
-    requires sound { ⌜ Sound (tableLimits .chain) (now t) (now s) (now m) ⌝ }
-    requires here { ⌜ row < length (now s) ⌝ }
-    ensures { λ r. ⌜ r ≡ work.checked (decode (rowType (now (t .entry)) (now (s .entry)) row) (taggingOf 1 number) (now (v .entry)) at end) ⌝ }
+    requires worded { ⌜ Worded (now t) (now w) ⌝ }
+    requires here { ⌜ row < length (tableRows (now t)) ⌝ }
+    requires typed { ⌜ (kindAt (now t) (placeAt (now t) row) ≡ 16 → ⊥) ⌝ }
+    ensures { λ r. ⌜ work.Wraps (typeAt (now (t .entry)) row) tag (now (v .entry)) at end r ⌝ }
 {
-    let Inside::Of(start, n) = der::open(der::wrapper_octet(number), v, at, end) else {
+    let Inside::Of(start, n) = der::open(tag, v, at, end) else {
         return Checked::Bad;
     };
     let stop = start + n;
-    let Checked::At(next) = check(t, s, m, v, row, 1, number, start, stop) else {
+    let own = words::own_first(t, w, row);
+    let Checked::At(next) = check(t, w, v, row, own, start, stop) else {
         return Checked::Bad;
     };
     if next != stop {
@@ -371,68 +463,58 @@ fn check_wrapped(
 }
 
 // The alternative of the CHOICE of a row that can begin here.
-fn check_choice(
-    t: &[u8],
-    s: &[usize],
-    m: &[u64],
-    v: &[u8],
-    row: usize,
-    at: usize,
-    end: usize,
-) -> Checked
-    requires sound { ⌜ Sound (tableLimits .chain) (now t) (now s) (now m) ⌝ }
-    requires here { ⌜ row < length (now s) ⌝ }
-    ensures { λ r. ⌜ r ≡ work.checked (alternativeFrom (rowMembers (now (t .entry)) (now (s .entry)) row) (now (v .entry)) at end) ⌝ }
+fn check_choice(t: &[u8], w: &[u64; 256], v: &[u8], row: usize, at: usize, end: usize) -> Checked
+    requires worded { ⌜ Worded (now t) (now w) ⌝ }
+    requires here { ⌜ row < length (tableRows (now t)) ⌝ }
+    ensures { λ r. ⌜ r ≡ work.checked (alternativeFrom (membersAfter (now (t .entry)) row) (now (v .entry)) at end) ⌝ }
 {
-    let n = rows::members_at(t, rows::row_at(s, row));
-    let j = find_alternative(t, s, m, v, row, n, at, end);
+    let n = words::members(t, w, row);
+    let j = first_alternative(t, w, v, row, n, at, end);
     if n <= j {
         return Checked::Bad;
     }
-    check_tagged(t, s, m, v, row + 1 + j, at, end)
+    check_tagged(t, w, v, row + 1 + j, at, end)
 }
 
-// The value of the type of a row at a place, before an end, behind the tag octet of a tag mode.
+// The value of the type of a row at a place, before an end, behind a tag octet.
 fn check(
     t: &[u8],
-    s: &[usize],
-    m: &[u64],
+    w: &[u64; 256],
     v: &[u8],
     row: usize,
-    mode: u8,
-    number: u8,
+    tag: usize,
     at: usize,
     end: usize,
 ) -> Checked
-    requires sound { ⌜ Sound (tableLimits .chain) (now t) (now s) (now m) ⌝ }
-    requires here { ⌜ row < length (now s) ⌝ }
-    ensures { λ r. ⌜ r ≡ work.checked (unwrapped (rowType (now (t .entry)) (now (s .entry)) row) (taggingOf mode number) (now (v .entry)) at end) ⌝ }
+    requires worded { ⌜ Worded (now t) (now w) ⌝ }
+    requires here { ⌜ row < length (tableRows (now t)) ⌝ }
+    ensures { λ r. ⌜ work.Answers (typeAt (now (t .entry)) row) (kindAt (now (t .entry)) (placeAt (now (t .entry)) row)) tag (now (v .entry)) at end r ⌝ }
 {
-    let kind = rows::kind_at(t, rows::row_at(s, row));
+    let kind = words::kind(t, w, row);
     if kind == 13 {
-        return check_choice(t, s, m, v, row, at, end);
+        return check_choice(t, w, v, row, at, end);
     }
-    let Inside::Of(start, n) = der::open(tag_octet(mode, number, kind), v, at, end) else {
+    let Inside::Of(start, n) = der::open(tag, v, at, end) else {
         return Checked::Bad;
     };
     let stop = start + n;
     if kind == 12 {
-        return check_fields(t, s, m, v, row, start, stop);
+        return check_fields(t, w, v, row, start, stop);
     }
     if rows::is_list(kind) {
-        return check_elements(t, s, m, v, row, start, stop);
+        return check_elements(t, w, v, row, start, stop);
     }
     check_basic(kind, v, start, stop)
 }
 
 // ---- the value check
 // Whether the whole buffer is one value of the type of row 0.
-pub fn is_stored(t: &[u8], s: &[usize], m: &[u64], v: &[u8]) -> bool
-    requires sound { ⌜ Sound (tableLimits .chain) (now t) (now s) (now m) ⌝ }
-    requires here { ⌜ 0 < length (now s) ⌝ }
-    ensures { λ r. ⌜ r ≡ isSome (storedValue (rowType (now (t .entry)) (now (s .entry)) 0) (now (v .entry))) ⌝ }
+pub fn is_stored(t: &[u8], w: &[u64; 256], v: &[u8]) -> bool
+    requires worded { ⌜ Worded (now t) (now w) ⌝ }
+    ensures { λ r. ⌜ r ≡ isSome (storedValue (typeAt (now (t .entry)) 0) (now (v .entry))) ⌝ }
 {
-    let Checked::At(next) = check(t, s, m, v, 0, 0, 0, 0, v.len()) else {
+    let tag = words::own_first(t, w, 0);
+    let Checked::At(next) = check(t, w, v, 0, tag, 0, v.len()) else {
         return false;
     };
     next == v.len()
@@ -448,7 +530,9 @@ fn check_storage(table: &[u8], value: &[u8]) -> ValueCheck
     if n == 0 {
         return ValueCheck::Refused(2);
     }
-    if !is_stored(table, &starts[..n], &masks, value) {
+    let mut w = [0u64; 256];
+    words::fill(table, &starts[..n], &masks, &mut w);
+    if !is_stored(table, &w, value) {
         return ValueCheck::Refused(4);
     }
     ValueCheck::Good

@@ -1,4 +1,4 @@
-use Rattle.value.proofs.EntrySteps.{fit-here, counted-here, sound-here, rows-here}
+use Rattle.value.proofs.EntrySteps.{fit-here, counted-here, sound-here, rows-here, places-here, ready-here, worded-here}
 use Rattle.engine.proofs.AskSteps.{admitted-not, names-here, admitted-is}
 use borrow.Author.Needs.{needs}
 use Rattle.engine.proofs.ask_admitted.Statement.{statement}
@@ -13,7 +13,11 @@ ask-admitted-spec =
     (λ c κs. search needs)  -- admit-table-requires
     (λ c. search admitted-not)  -- returns
     (λ c. search fit-here)  -- array-share-prefix-starts
+    (λ c. search counted-here)  -- slice-aggregate-fill
+    (λ c. search needs)  -- slice-aggregate-fill-2
+    (λ c κs. (search ready-here, search needs))  -- fill-requires
+    (λ c. search fit-here)  -- array-share-prefix-starts-2
     (λ c. search counted-here)  -- slice-aggregate-ask-typed
     (λ c. search needs)  -- slice-aggregate-ask-typed-2
-    (λ c κs. (search sound-here, (search names-here, (search rows-here, search needs))))  -- ask-typed-requires
+    (λ c κs. (search sound-here, (search names-here, (search rows-here, (search places-here, (search worded-here, search needs))))))  -- ask-typed-requires
     (λ c. search admitted-is))  -- returns-2

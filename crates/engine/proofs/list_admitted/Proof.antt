@@ -1,5 +1,5 @@
 use Rattle.engine.proofs.ListSteps.{admitted-not, admitted-typed}
-use Rattle.value.proofs.EntrySteps.{fit-here, counted-here, sound-here, rows-here}
+use Rattle.value.proofs.EntrySteps.{fit-here, counted-here, sound-here, rows-here, places-here, ready-here, worded-here}
 use borrow.Author.Needs.{needs}
 use Rattle.engine.proofs.list_admitted.Statement.{statement}
 use Rattle.engine.proofs.list_admitted.Tie as tie
@@ -13,8 +13,12 @@ list-admitted-spec =
     (λ c κs. search needs)  -- admit-table-requires
     (λ c. search admitted-not)  -- returns
     (λ c. search fit-here)  -- array-share-prefix-starts
+    (λ c. search counted-here)  -- slice-aggregate-fill
+    (λ c. search needs)  -- slice-aggregate-fill-2
+    (λ c κs. (search ready-here, search needs))  -- fill-requires
+    (λ c. search fit-here)  -- array-share-prefix-starts-2
     (λ c. search counted-here)  -- slice-aggregate-list-typed
     (λ c. search needs)  -- slice-aggregate-list-typed-2
-    (λ c κs. (search sound-here, (search rows-here, search needs)))  -- list-typed-requires
+    (λ c κs. (search sound-here, (search rows-here, (search places-here, (search worded-here, search needs)))))  -- list-typed-requires
     (λ c. search needs)  -- same-length
     (λ c. search admitted-typed))  -- returns-2

@@ -1,11 +1,20 @@
+-- The check: each need is answered by one lemma.
+use Prim.Native.Nat.{_*_, _+_, _-_, _<_, ℕ}
+use Rattle.value.proofs.LeafSteps.{inside-fits}
+use Rattle.value.proofs.MemberSteps.{row-fits, member-fits, count-le, Fielded, field-falls, field-here, field-member, fields-again, fields-bad}
+use Rattle.value.proofs.MemberSteps.{fields-done, fields-short, fields-start, member-absent, member-default, member-is}
+use Rattle.value.proofs.ModeSteps.{is-plain, is-other}
+use Rattle.value.proofs.CheckSteps.{falls-body, falls-tagged, falls-wrapped, falls-value, falls-inner, list-row, answer-choice, answer-misfit}
+use Rattle.value.proofs.CheckSteps.{answer-fields, answer-elements, answer-basic, wraps-misfit, wraps-inner, wraps-surplus, wraps-filled, target-here}
+use Rattle.value.proofs.CheckSteps.{target-typed, tagged-explicit, tagged-other}
+use Rattle.value.proofs.ChoiceSteps.{choice-none, choice-here, choice-member, choice-falls, choice-is}
+use Rattle.value.proofs.ElementSteps.{Listed, element-here, element-typed, element-falls, elements-bad, element-after, element-less, elements-disorder}
+use Rattle.value.proofs.ElementSteps.{elements-again, elements-done, elements-start, listed-low}
 use borrow.Author.Needs.{needs}
 use lib.ListN.{length}
+use Rattle.rows.specs.Paper.{tableLimits}
 use Rattle.rows.specs.Row.{rowAt, typeRowAt}
-use Rattle.value.proofs.LeafSteps.{inside-fits}
-use Rattle.value.proofs.CheckSteps.{check-by-basic, check-by-choice, check-by-elements, check-by-fields, check-falls, check-misfit, inner-falls, list-row, tagged-explicit, tagged-falls, tagged-here, tagged-other, wrapped-falls, wrapped-filled, wrapped-inner, wrapped-misfit, wrapped-surplus}
-use Rattle.value.proofs.MemberSteps.{Fielded, field-falls, field-fits, field-here, field-member, field-row-fits, field-target, fields-again, fields-bad, fields-done, fields-short, fields-start, member-absent, member-default, member-falls, member-is, member-plain}
-use Rattle.value.proofs.ChoiceSteps.{choice-falls, choice-fits, choice-is, choice-none, choice-row-fits, choice-target}
-use Rattle.value.proofs.ElementSteps.{Listed, element-after, element-falls, element-here, element-less, elements-again, elements-bad, elements-disorder, elements-done, elements-start, listed-low}
+use Rattle.words.specs.Rows.{tableRows}
 use borrow.Fn.Kinds.{In}
 use borrow.Fn.PlainCycle.{Measures, is, falls, and}
 use Rattle.value.proofs.check.Reads as check
@@ -30,159 +39,202 @@ use Rattle.value.proofs.check_wrapped.Reads as check-wrapped
 use Rattle.value.proofs.check_wrapped.Kinds as check-wrapped-kinds
 use Rattle.value.proofs.+check+check_choice+check_elements+check_fields+check_member+check_tagged+check_wrapped.Lts-check_wrapped as check-wrapped-lts
 use Rattle.der.proofs.open.Reads as open-reads
-use Rattle.der.proofs.wrapper_octet.Reads as wrapper-octet-reads
-use Rattle.rows.proofs.element_at.Reads as element-at-reads
 use Rattle.rows.proofs.is_list.Reads as is-list-reads
-use Rattle.rows.proofs.kind_at.Reads as kind-at-reads
-use Rattle.rows.proofs.members_at.Reads as members-at-reads
-use Rattle.rows.proofs.mode_at.Reads as mode-at-reads
-use Rattle.rows.proofs.number_at.Reads as number-at-reads
-use Rattle.rows.proofs.row_at.Reads as row-at-reads
-use Rattle.rows.proofs.type_row_at.Reads as type-row-at-reads
 use Rattle.value.proofs.absent.Reads as absent-reads
 use Rattle.value.proofs.check_basic.Reads as check-basic-reads
-use Rattle.value.proofs.check_plain.Reads as check-plain-reads
-use Rattle.value.proofs.find_alternative.Reads as find-alternative-reads
+use Rattle.value.proofs.check_plain_member.Reads as check-plain-member-reads
+use Rattle.value.proofs.first_alternative.Reads as first-alternative-reads
 use Rattle.value.proofs.in_order.Reads as in-order-reads
-use Rattle.value.proofs.is_plain.Reads as is-plain-reads
-use Rattle.value.proofs.starts_here.Reads as starts-here-reads
+use Rattle.value.proofs.member_starts.Reads as member-starts-reads
 use Rattle.value.proofs.stored_default.Reads as stored-default-reads
-use Rattle.value.proofs.tag_octet.Reads as tag-octet-reads
-use Rattle.value.proofs.type_kind.Reads as type-kind-reads
+use Rattle.words.proofs.element.Reads as element-reads
+use Rattle.words.proofs.first.Reads as first-reads
+use Rattle.words.proofs.kind.Reads as kind-reads
+use Rattle.words.proofs.members.Reads as members-reads
+use Rattle.words.proofs.own_first.Reads as own-first-reads
+use Rattle.words.proofs.tagged.Reads as tagged-reads
+use Rattle.words.proofs.type_row.Reads as type-row-reads
 use Rattle.value.proofs.+check+check_choice+check_elements+check_fields+check_member+check_tagged+check_wrapped.{statement}
 use Rattle.value.proofs.+check+check_choice+check_elements+check_fields+check_member+check_tagged+check_wrapped.Tie.{close}
-use Prim.Native.Nat.{_*_, _+_, _-_, _<_, ℕ}
 
-abbrev μ-check : Measures 4 check-kinds.ps ℕ
-μ-check κs a = 5 * (length (a .1 .0 .now) - a .1 .1 .1 .1 .0) + 3
+abbrev μ-check : Measures 3 check-kinds.ps ℕ
+μ-check κs a = 5 * (length (tableRows (a .0 .now)) - a .1 .1 .1 .0) + 3
 
-abbrev μ-check-choice : Measures 4 check-choice-kinds.ps ℕ
-μ-check-choice κs a = 5 * (length (a .1 .0 .now) - a .1 .1 .1 .1 .0) + 2
+abbrev μ-check-choice : Measures 3 check-choice-kinds.ps ℕ
+μ-check-choice κs a = 5 * (length (tableRows (a .0 .now)) - a .1 .1 .1 .0) + 2
 
-abbrev μ-check-elements : Measures 4 check-elements-kinds.ps ℕ
-μ-check-elements κs a = 5 * (length (a .1 .0 .now) - a .1 .1 .1 .1 .0) + 2
+abbrev μ-check-elements : Measures 3 check-elements-kinds.ps ℕ
+μ-check-elements κs a = 5 * (length (tableRows (a .0 .now)) - a .1 .1 .1 .0) + 2
 
-abbrev μ-check-fields : Measures 4 check-fields-kinds.ps ℕ
-μ-check-fields κs a = 5 * (length (a .1 .0 .now) - a .1 .1 .1 .1 .0) + 2
+abbrev μ-check-fields : Measures 3 check-fields-kinds.ps ℕ
+μ-check-fields κs a = 5 * (length (tableRows (a .0 .now)) - a .1 .1 .1 .0) + 2
 
-abbrev μ-check-member : Measures 4 check-member-kinds.ps ℕ
-μ-check-member κs a = 5 * (length (a .1 .0 .now) - typeRowAt (a .0 .now) (rowAt (a .1 .0 .now) (a .1 .1 .1 .1 .0))) + 6
+abbrev μ-check-member : Measures 3 check-member-kinds.ps ℕ
+μ-check-member κs a = 5 * (length (tableRows (a .0 .now)) - typeRowAt (a .0 .now) (rowAt (tableRows (a .0 .now)) (a .1 .1 .1 .0))) + 6
 
-abbrev μ-check-tagged : Measures 4 check-tagged-kinds.ps ℕ
-μ-check-tagged κs a = 5 * (length (a .1 .0 .now) - typeRowAt (a .0 .now) (rowAt (a .1 .0 .now) (a .1 .1 .1 .1 .0))) + 5
+abbrev μ-check-tagged : Measures 3 check-tagged-kinds.ps ℕ
+μ-check-tagged κs a = 5 * (length (tableRows (a .0 .now)) - typeRowAt (a .0 .now) (rowAt (tableRows (a .0 .now)) (a .1 .1 .1 .0))) + 5
 
-abbrev μ-check-wrapped : Measures 4 check-wrapped-kinds.ps ℕ
-μ-check-wrapped κs a = 5 * (length (a .1 .0 .now) - a .1 .1 .1 .1 .0) + 4
+abbrev μ-check-wrapped : Measures 3 check-wrapped-kinds.ps ℕ
+μ-check-wrapped κs a = 5 * (length (tableRows (a .0 .now)) - a .1 .1 .1 .0) + 4
 
-abbrev check-at : ℕ → In 4 check-kinds.ps
-check-at t = and 4 check-kinds.ps (is 4 check-kinds.ps μ-check t) check.Pre
+abbrev check-at : ℕ → In 3 check-kinds.ps
+check-at t = and 3 check-kinds.ps (is 3 check-kinds.ps μ-check t) check.Pre
 
-abbrev check-below : ℕ → In 4 check-kinds.ps
-check-below t = and 4 check-kinds.ps (falls 4 check-kinds.ps _<_ μ-check t) check.Pre
+abbrev check-below : ℕ → In 3 check-kinds.ps
+check-below t = and 3 check-kinds.ps (falls 3 check-kinds.ps _<_ μ-check t) check.Pre
 
-abbrev check-choice-at : ℕ → In 4 check-choice-kinds.ps
-check-choice-at t = and 4 check-choice-kinds.ps (is 4 check-choice-kinds.ps μ-check-choice t) check-choice.Pre
+abbrev check-choice-at : ℕ → In 3 check-choice-kinds.ps
+check-choice-at t = and 3 check-choice-kinds.ps (is 3 check-choice-kinds.ps μ-check-choice t) check-choice.Pre
 
-abbrev check-choice-below : ℕ → In 4 check-choice-kinds.ps
-check-choice-below t = and 4 check-choice-kinds.ps (falls 4 check-choice-kinds.ps _<_ μ-check-choice t) check-choice.Pre
+abbrev check-choice-below : ℕ → In 3 check-choice-kinds.ps
+check-choice-below t = and 3 check-choice-kinds.ps (falls 3 check-choice-kinds.ps _<_ μ-check-choice t) check-choice.Pre
 
-abbrev check-elements-at : ℕ → In 4 check-elements-kinds.ps
-check-elements-at t = and 4 check-elements-kinds.ps (is 4 check-elements-kinds.ps μ-check-elements t) check-elements.Pre
+abbrev check-elements-at : ℕ → In 3 check-elements-kinds.ps
+check-elements-at t = and 3 check-elements-kinds.ps (is 3 check-elements-kinds.ps μ-check-elements t) check-elements.Pre
 
-abbrev check-elements-below : ℕ → In 4 check-elements-kinds.ps
-check-elements-below t = and 4 check-elements-kinds.ps (falls 4 check-elements-kinds.ps _<_ μ-check-elements t) check-elements.Pre
+abbrev check-elements-below : ℕ → In 3 check-elements-kinds.ps
+check-elements-below t = and 3 check-elements-kinds.ps (falls 3 check-elements-kinds.ps _<_ μ-check-elements t) check-elements.Pre
 
-abbrev check-fields-at : ℕ → In 4 check-fields-kinds.ps
-check-fields-at t = and 4 check-fields-kinds.ps (is 4 check-fields-kinds.ps μ-check-fields t) check-fields.Pre
+abbrev check-fields-at : ℕ → In 3 check-fields-kinds.ps
+check-fields-at t = and 3 check-fields-kinds.ps (is 3 check-fields-kinds.ps μ-check-fields t) check-fields.Pre
 
-abbrev check-fields-below : ℕ → In 4 check-fields-kinds.ps
-check-fields-below t = and 4 check-fields-kinds.ps (falls 4 check-fields-kinds.ps _<_ μ-check-fields t) check-fields.Pre
+abbrev check-fields-below : ℕ → In 3 check-fields-kinds.ps
+check-fields-below t = and 3 check-fields-kinds.ps (falls 3 check-fields-kinds.ps _<_ μ-check-fields t) check-fields.Pre
 
-abbrev check-member-at : ℕ → In 4 check-member-kinds.ps
-check-member-at t = and 4 check-member-kinds.ps (is 4 check-member-kinds.ps μ-check-member t) check-member.Pre
+abbrev check-member-at : ℕ → In 3 check-member-kinds.ps
+check-member-at t = and 3 check-member-kinds.ps (is 3 check-member-kinds.ps μ-check-member t) check-member.Pre
 
-abbrev check-member-below : ℕ → In 4 check-member-kinds.ps
-check-member-below t = and 4 check-member-kinds.ps (falls 4 check-member-kinds.ps _<_ μ-check-member t) check-member.Pre
+abbrev check-member-below : ℕ → In 3 check-member-kinds.ps
+check-member-below t = and 3 check-member-kinds.ps (falls 3 check-member-kinds.ps _<_ μ-check-member t) check-member.Pre
 
-abbrev check-tagged-at : ℕ → In 4 check-tagged-kinds.ps
-check-tagged-at t = and 4 check-tagged-kinds.ps (is 4 check-tagged-kinds.ps μ-check-tagged t) check-tagged.Pre
+abbrev check-tagged-at : ℕ → In 3 check-tagged-kinds.ps
+check-tagged-at t = and 3 check-tagged-kinds.ps (is 3 check-tagged-kinds.ps μ-check-tagged t) check-tagged.Pre
 
-abbrev check-tagged-below : ℕ → In 4 check-tagged-kinds.ps
-check-tagged-below t = and 4 check-tagged-kinds.ps (falls 4 check-tagged-kinds.ps _<_ μ-check-tagged t) check-tagged.Pre
+abbrev check-tagged-below : ℕ → In 3 check-tagged-kinds.ps
+check-tagged-below t = and 3 check-tagged-kinds.ps (falls 3 check-tagged-kinds.ps _<_ μ-check-tagged t) check-tagged.Pre
 
-abbrev check-wrapped-at : ℕ → In 4 check-wrapped-kinds.ps
-check-wrapped-at t = and 4 check-wrapped-kinds.ps (is 4 check-wrapped-kinds.ps μ-check-wrapped t) check-wrapped.Pre
+abbrev check-wrapped-at : ℕ → In 3 check-wrapped-kinds.ps
+check-wrapped-at t = and 3 check-wrapped-kinds.ps (is 3 check-wrapped-kinds.ps μ-check-wrapped t) check-wrapped.Pre
 
-abbrev check-wrapped-below : ℕ → In 4 check-wrapped-kinds.ps
-check-wrapped-below t = and 4 check-wrapped-kinds.ps (falls 4 check-wrapped-kinds.ps _<_ μ-check-wrapped t) check-wrapped.Pre
+abbrev check-wrapped-below : ℕ → In 3 check-wrapped-kinds.ps
+check-wrapped-below t = and 3 check-wrapped-kinds.ps (falls 3 check-wrapped-kinds.ps _<_ μ-check-wrapped t) check-wrapped.Pre
 
 abbrev check-elements-Inv-loop : check-elements-lts.InvT-loop
-check-elements-Inv-loop t s m v row start stop p kind element before₀ i₀ before i = Listed 16 t s row v start stop before i
+check-elements-Inv-loop t w v row start stop kind element tag before₀ i₀ before i = Listed (tableLimits .chain) t (tableRows t) row v start stop before i
 
 abbrev check-elements-μ-loop : check-elements-lts.MeasureT-loop
-check-elements-μ-loop t s m v row start stop p kind element before₀ i₀ before i = stop - i
+check-elements-μ-loop t w v row start stop kind element tag before₀ i₀ before i = stop - i
 
 abbrev check-fields-Inv-loop : check-fields-lts.InvT-loop
-check-fields-Inv-loop t s m v row start stop n i₀ j₀ i j = Fielded 16 t s row v start stop n i j
+check-fields-Inv-loop t w v row start stop n i₀ j₀ i j = Fielded (tableLimits .chain) t (tableRows t) row v start stop n i j
 
 abbrev check-fields-μ-loop : check-fields-lts.MeasureT-loop
-check-fields-μ-loop t s m v row start stop n i₀ j₀ i j = n - j
+check-fields-μ-loop t w v row start stop n i₀ j₀ i j = n - j
 
 abbrev check-claims : ℕ → check-lts.Claims
-check-claims t = (row-at-reads.Asked, row-at-reads.Learnt, kind-at-reads.Asked, kind-at-reads.Learnt, check-choice-below t, check-choice.Post, tag-octet-reads.Asked, tag-octet-reads.Learnt, open-reads.Asked, open-reads.Learnt, check-fields-below t, check-fields.Post, is-list-reads.Asked, is-list-reads.Learnt, check-elements-below t, check-elements.Post, check-basic-reads.Asked, check-basic-reads.Learnt)
+check-claims t = (
+  kind-reads.Asked,
+  kind-reads.Learnt,
+  check-choice-below t,
+  check-choice.Post,
+  open-reads.Asked,
+  open-reads.Learnt,
+  check-fields-below t,
+  check-fields.Post,
+  is-list-reads.Asked,
+  is-list-reads.Learnt,
+  check-elements-below t,
+  check-elements.Post,
+  check-basic-reads.Asked,
+  check-basic-reads.Learnt,
+)
 
 abbrev check-choice-claims : ℕ → check-choice-lts.Claims
-check-choice-claims t = (row-at-reads.Asked, row-at-reads.Learnt, members-at-reads.Asked, members-at-reads.Learnt, find-alternative-reads.Asked, find-alternative-reads.Learnt, check-tagged-below t, check-tagged.Post)
+check-choice-claims t =
+    (members-reads.Asked, members-reads.Learnt, first-alternative-reads.Asked, first-alternative-reads.Learnt, check-tagged-below t, check-tagged.Post)
 
 abbrev check-elements-claims : ℕ → check-elements-lts.Claims
-check-elements-claims t = (row-at-reads.Asked, row-at-reads.Learnt, kind-at-reads.Asked, kind-at-reads.Learnt, element-at-reads.Asked, element-at-reads.Learnt, check-below t, check.Post, in-order-reads.Asked, in-order-reads.Learnt)
+check-elements-claims t = (
+  kind-reads.Asked,
+  kind-reads.Learnt,
+  element-reads.Asked,
+  element-reads.Learnt,
+  own-first-reads.Asked,
+  own-first-reads.Learnt,
+  check-below t,
+  check.Post,
+  in-order-reads.Asked,
+  in-order-reads.Learnt,
+)
 
 abbrev check-fields-claims : ℕ → check-fields-lts.Claims
-check-fields-claims t = (row-at-reads.Asked, row-at-reads.Learnt, members-at-reads.Asked, members-at-reads.Learnt, check-member-below t, check-member.Post)
+check-fields-claims t = (members-reads.Asked, members-reads.Learnt, check-member-below t, check-member.Post)
 
 abbrev check-member-claims : ℕ → check-member-lts.Claims
-check-member-claims t = (row-at-reads.Asked, row-at-reads.Learnt, starts-here-reads.Asked, starts-here-reads.Learnt, absent-reads.Asked, absent-reads.Learnt, type-kind-reads.Asked, type-kind-reads.Learnt, is-plain-reads.Asked, is-plain-reads.Learnt, check-plain-reads.Asked, check-plain-reads.Learnt, stored-default-reads.Asked, stored-default-reads.Learnt, check-tagged-below t, check-tagged.Post)
+check-member-claims t = (
+  tagged-reads.Asked,
+  tagged-reads.Learnt,
+  check-plain-member-reads.Asked,
+  check-plain-member-reads.Learnt,
+  member-starts-reads.Asked,
+  member-starts-reads.Learnt,
+  absent-reads.Asked,
+  absent-reads.Learnt,
+  stored-default-reads.Asked,
+  stored-default-reads.Learnt,
+  check-tagged-below t,
+  check-tagged.Post,
+)
 
 abbrev check-tagged-claims : ℕ → check-tagged-lts.Claims
-check-tagged-claims t = (row-at-reads.Asked, row-at-reads.Learnt, mode-at-reads.Asked, mode-at-reads.Learnt, number-at-reads.Asked, number-at-reads.Learnt, type-row-at-reads.Asked, type-row-at-reads.Learnt, check-wrapped-below t, check-wrapped.Post, check-below t, check.Post)
+check-tagged-claims t = (
+  type-row-reads.Asked,
+  type-row-reads.Learnt,
+  first-reads.Asked,
+  first-reads.Learnt,
+  tagged-reads.Asked,
+  tagged-reads.Learnt,
+  check-wrapped-below t,
+  check-wrapped.Post,
+  check-below t,
+  check.Post,
+)
 
 abbrev check-wrapped-claims : ℕ → check-wrapped-lts.Claims
-check-wrapped-claims t = (wrapper-octet-reads.Asked, wrapper-octet-reads.Learnt, open-reads.Asked, open-reads.Learnt, check-below t, check.Post)
+check-wrapped-claims t = (open-reads.Asked, open-reads.Learnt, own-first-reads.Asked, own-first-reads.Learnt, check-below t, check.Post)
 
 pub +check+check-choice+check-elements+check-fields+check-member+check-tagged+check-wrapped-spec : {M : Type 1} → statement M
 +check+check-choice+check-elements+check-fields+check-member+check-tagged+check-wrapped-spec =
     close μ-check μ-check-choice μ-check-elements μ-check-fields μ-check-member μ-check-tagged μ-check-wrapped
     (λ t. check-lts.spec (check-claims t) (check-at t) check.Post
-    (λ c κs. search needs)  -- row-at-requires
-    (λ c κs. search needs)  -- kind-at-requires
-    (λ c κs. (search check-falls, (search needs, search needs)))  -- check-choice-requires
-    (λ c. search check-by-choice)  -- returns
-    (λ c κs. search needs)  -- tag-octet-requires
+    (λ c κs. search needs)  -- kind-requires
+    (λ c κs. (search falls-body, (search needs, search needs)))  -- check-choice-requires
+    (λ c. search answer-choice)  -- returns
     (λ c κs. search needs)  -- open-requires
     (λ c. search needs)  -- enum-known-start
     (λ c. search needs)  -- enum-told
-    (λ c. search check-misfit)  -- returns-2
+    (λ c. search answer-misfit)  -- returns-2
     (λ c. record { fits = search inside-fits })  -- add-stop
-    (λ c κs. (search check-falls, (search needs, search needs)))  -- check-fields-requires
-    (λ c. search check-by-fields)  -- returns-3
+    (λ c κs. (search falls-body, (search needs, search needs)))  -- check-fields-requires
+    (λ c. search answer-fields)  -- returns-3
     (λ c κs. search needs)  -- is-list-requires
-    (λ c κs. (search check-falls, (search needs, (search needs, (search list-row, search needs)))))  -- check-elements-requires
-    (λ c. search check-by-elements)  -- returns-4
+    (λ c κs. (search falls-body, (search needs, (search needs, (search list-row, search needs)))))  -- check-elements-requires
+    (λ c. search answer-elements)  -- returns-4
     (λ c κs. search needs)  -- check-basic-requires
-    (λ c. search check-by-basic))  -- returns-5
+    (λ c. search answer-basic))  -- returns-5
     (λ t. check-choice-lts.spec (check-choice-claims t) (check-choice-at t) check-choice.Post
-    (λ c κs. search needs)  -- row-at-requires
-    (λ c κs. search needs)  -- members-at-requires
-    (λ c κs. search needs)  -- find-alternative-requires
+    (λ c κs. search needs)  -- members-requires
+    (λ c κs. (search needs, (search needs, search count-le)))  -- first-alternative-requires
     (λ c. search choice-none)  -- returns
-    (λ c. record { fits = search choice-row-fits })  -- add-check-tagged
-    (λ c. record { fits = search choice-fits })  -- add-check-tagged-2
-    (λ c κs. (search choice-falls, (search needs, search choice-target)))  -- check-tagged-requires
+    (λ c. record { fits = search row-fits })  -- add-check-tagged
+    (λ c. record { fits = search member-fits })  -- add-check-tagged-2
+    (λ c κs. (search choice-falls, (search needs, (search choice-here, search choice-member))))  -- check-tagged-requires
     (λ c. search choice-is))  -- returns-2
     (λ t. check-elements-lts.spec (check-elements-claims t) (check-elements-at t) check-elements.Post check-elements-Inv-loop check-elements-μ-loop
-    (λ c κs. search needs)  -- row-at-requires
-    (λ c κs. search needs)  -- kind-at-requires
-    (λ c κs. search needs)  -- element-at-requires
+    (λ c κs. search needs)  -- kind-requires
+    (λ c κs. search needs)  -- element-requires
+    (λ c κs. (search needs, (search element-here, search element-typed)))  -- own-first-requires
     (λ c. search elements-start)  -- loop-holds
     (λ c κs. (search element-falls, (search needs, search element-here)))  -- check-requires
     (λ c. search needs)  -- enum-known-next
@@ -194,12 +246,11 @@ pub +check+check-choice+check-elements+check-fields+check-member+check-tagged+ch
     (λ c. search elements-again)  -- loop-again
     (λ c. search elements-done))  -- returns-3
     (λ t. check-fields-lts.spec (check-fields-claims t) (check-fields-at t) check-fields.Post check-fields-Inv-loop check-fields-μ-loop
-    (λ c κs. search needs)  -- row-at-requires
-    (λ c κs. search needs)  -- members-at-requires
+    (λ c κs. search needs)  -- members-requires
     (λ c. search fields-start)  -- loop-holds
-    (λ c. record { fits = search field-row-fits })  -- add-check-member
-    (λ c. record { fits = search field-fits })  -- add-check-member-2
-    (λ c κs. (search field-falls, (search needs, (search field-here, (search field-member, search field-target)))))  -- check-member-requires
+    (λ c. record { fits = search row-fits })  -- add-check-member
+    (λ c. record { fits = search member-fits })  -- add-check-member-2
+    (λ c κs. (search field-falls, (search needs, (search field-here, search field-member))))  -- check-member-requires
     (λ c. search needs)  -- enum-known-next
     (λ c. search needs)  -- enum-told
     (λ c. search fields-bad)  -- returns
@@ -209,37 +260,34 @@ pub +check+check-choice+check-elements+check-fields+check-member+check-tagged+ch
     (λ c. search fields-short)  -- returns-2
     (λ c. search fields-done))  -- returns-3
     (λ t. check-member-lts.spec (check-member-claims t) (check-member-at t) check-member.Post
-    (λ c κs. search needs)  -- row-at-requires
-    (λ c κs. search needs)  -- starts-here-requires
+    (λ c κs. search needs)  -- tagged-requires
+    (λ c κs. (search needs, (search needs, (search needs, search is-plain))))  -- check-plain-member-requires
+    (λ c. search needs)  -- returns
+    (λ c κs. search needs)  -- member-starts-requires
     (λ c κs. search needs)  -- absent-requires
-    (λ c. search member-absent)  -- returns
-    (λ c κs. search needs)  -- type-kind-requires
-    (λ c κs. search needs)  -- is-plain-requires
-    (λ c κs. search needs)  -- check-plain-requires
-    (λ c. search member-plain)  -- returns-2
-    (λ c κs. search needs)  -- stored-default-requires
+    (λ c. search member-absent)  -- returns-2
+    (λ c κs. (search needs, (search needs, (search needs, search is-other))))  -- stored-default-requires
     (λ c. search member-default)  -- returns-3
-    (λ c κs. (search member-falls, (search needs, search needs)))  -- check-tagged-requires
+    (λ c κs. (search falls-tagged, (search needs, (search needs, search needs))))  -- check-tagged-requires
     (λ c. search member-is))  -- returns-4
     (λ t. check-tagged-lts.spec (check-tagged-claims t) (check-tagged-at t) check-tagged.Post
-    (λ c κs. search needs)  -- row-at-requires
-    (λ c κs. search needs)  -- mode-at-requires
-    (λ c κs. search needs)  -- number-at-requires
-    (λ c κs. search needs)  -- type-row-at-requires
-    (λ c κs. (search wrapped-falls, (search needs, search tagged-here)))  -- check-wrapped-requires
+    (λ c κs. search needs)  -- type-row-requires
+    (λ c κs. search needs)  -- first-requires
+    (λ c κs. search needs)  -- tagged-requires
+    (λ c κs. (search falls-wrapped, (search needs, (search target-here, search target-typed))))  -- check-wrapped-requires
     (λ c. search tagged-explicit)  -- returns
-    (λ c κs. (search tagged-falls, (search needs, search tagged-here)))  -- check-requires
+    (λ c κs. (search falls-value, (search needs, search target-here)))  -- check-requires
     (λ c. search tagged-other))  -- returns-2
     (λ t. check-wrapped-lts.spec (check-wrapped-claims t) (check-wrapped-at t) check-wrapped.Post
-    (λ c κs. search needs)  -- wrapper-octet-requires
     (λ c κs. search needs)  -- open-requires
     (λ c. search needs)  -- enum-known-start
     (λ c. search needs)  -- enum-told
-    (λ c. search wrapped-misfit)  -- returns
+    (λ c. search wraps-misfit)  -- returns
     (λ c. record { fits = search inside-fits })  -- add-stop
-    (λ c κs. (search inner-falls, (search needs, search needs)))  -- check-requires
+    (λ c κs. search needs)  -- own-first-requires
+    (λ c κs. (search falls-inner, (search needs, search needs)))  -- check-requires
     (λ c. search needs)  -- enum-known-next
     (λ c. search needs)  -- enum-told-2
-    (λ c. search wrapped-inner)  -- returns-2
-    (λ c. search wrapped-surplus)  -- returns-3
-    (λ c. search wrapped-filled))  -- returns-4
+    (λ c. search wraps-inner)  -- returns-2
+    (λ c. search wraps-surplus)  -- returns-3
+    (λ c. search wraps-filled))  -- returns-4

@@ -2,7 +2,7 @@ use Prim.Native.Nat.{_-_, _≤_}
 use mathlib.Core.Path.{_≡_}
 use native.Mathlib.Omega.{arith}
 use Rattle.value.specs.inner.Work.{first, markedOf}
-use Rattle.value.proofs.LeafSteps.{first-start, first-found, first-again, first-done}
+use Rattle.value.proofs.LeafSteps.{first-start, first-found, first-again, first-done, marked-here}
 use borrow.Author.Needs.{needs}
 use Rattle.value.proofs.find_alternative.Statement.{statement}
 use Rattle.value.proofs.find_alternative.Tie as tie
@@ -22,8 +22,8 @@ find-alternative-spec =
     (λ c. (search needs, first-start _ _))  -- loop-holds
     (λ c κs. search needs)  -- member-place-requires
     (λ c κs. search needs)  -- starts-here-requires
-    (λ c. search first-found)  -- returns
+    (λ c. search (first-found, marked-here))  -- returns
     (λ c. search needs)  -- add-j
     (λ c. search needs)  -- loop-less
-    (λ c. (omega arith, search first-again))  -- loop-again
+    (λ c. (omega arith, search (first-again, marked-here)))  -- loop-again
     (λ c. search first-done))  -- returns-2

@@ -1,20 +1,21 @@
 -- What the functions of the check answer, by the definitions: the place after a value that is as its row says, or none.
 use Prim.Native.Nat.{ℕ, zero, suc, _+_, _-_}
+use mathlib.Core.Path.{_≡_}
 use mathlib.Core.Bool.{Bool, true, false}
 use mathlib.Core.Option.{Option, none, some}
 use mathlib.Core.List.{List, []}
-use lib.Dec.{ltb, leb, eqb}
+use lib.Dec.{ltb, eqb}
 use Rattle.octets.specs.Pick.{pick, both, either, bind, isSome}
 use Rattle.octets.specs.Octets.{octet, part, same}
 use Rattle.der.specs.Kind as kind
-use Rattle.der.specs.Tag.{tagOf, wrapperOctet}
+use Rattle.der.specs.Tag.{class, number, tagOf, wrapperOctet}
 use Rattle.der.specs.Header.{insideAt}
 use Rattle.der.specs.Contents.{legal}
 use Rattle.der.specs.Order.{notAbove}
 use Rattle.der.specs.declared.Inside.{Inside}
 use Rattle.rows.specs.Row.{rowAt, kindAt, typeRowAt, modeAt, numberAt, presenceAt, defaultAt}
 use Rattle.groups.specs.Clauses.{memberPlace}
-use Rattle.table.specs.Types.{Tagging, untagged, explicit, implicit, taggingOf, Member, Ty, Members}
+use Rattle.table.specs.Types.{Tagging, untagged, explicit, implicit, taggingOf, Member, memberOf, Ty, typeFrom, Members}
 use Rattle.table.specs.Begins.{isMandatory}
 use Rattle.table.specs.inner.Work.{bitOf, memberMask}
 use Rattle.value.specs.Value.{Values, endValues, next, encoding}
@@ -43,6 +44,20 @@ marked m t p v stop i = both (ltb i stop) (bitOf (memberMask m t p) (tagOf (octe
 unfoldable pub markedOf : List ℕ → List ℕ → List ℕ → ℕ → List ℕ → ℕ → ℕ → ℕ → Bool
 markedOf m t s row v stop i j = marked m t (memberPlace s row j) v stop i
 
+-- ---- octets that can begin a value
+-- tag octets of one class and number
+unfoldable pub sameTag : ℕ → ℕ → Bool
+sameTag a b = both (eqb (number a) (number b)) (eqb (class a) (class b))
+
+-- by a first tag octet; where that is 0, by a set of tags
+unfoldable pub opensBy : ℕ → ℕ → ℕ → Bool
+opensBy u set o = pick (eqb u 0) (bitOf set (tagOf o)) (sameTag u o)
+
+-- member j of a row can begin at a place
+unfoldable pub startsOf : ℕ → List ℕ → List ℕ → ℕ → List ℕ → ℕ → ℕ → ℕ → Bool
+startsOf chain t s row v stop at j =
+    startsHere (memberOf t (row + 1 + j) (rowAt s (row + 1 + j))) (typeFrom chain t s (typeRowAt t (rowAt s (row + 1 + j)))) v stop at
+
 -- ---- a default that is stored: the contents of a basic value under a tag mode
 abbrev pub within : (ℕ → ℕ → Inside) → Inside → Inside
 within f Inside.Misfit = Inside.Misfit
@@ -62,9 +77,6 @@ unfoldable pub storedDefault : List ℕ → List ℕ → ℕ → List ℕ → �
 storedDefault t s p v at end = both (eqb (presenceAt t p) 2) (holds v (defaultAt t p) (contentsAt (taggingOf (modeAt t p) (numberAt t p)) (kindAt t (rowAt s (typeRowAt t p))) v at end))
 
 -- ---- plain members: of a basic type, under no tag or an implicit one
-unfoldable pub isPlain : ℕ → ℕ → Bool
-isPlain k mode = pick (eqb mode 1) false (leb k kind.generalizedTime)
-
 -- the n octets from start on are the contents of the default of the member row at p
 unfoldable pub isDefaultAt : List ℕ → ℕ → List ℕ → ℕ → ℕ → Bool
 isDefaultAt t p v start n = both (eqb (presenceAt t p) 2) (same (part v start n) (defaultAt t p))
@@ -114,3 +126,12 @@ neighbours k v before i after = either (eqb k kind.sequenceOf) (notAbove (part v
 -- the octets that go with a refusal number: none, unless it is 0
 abbrev pub unlessRefused : ℕ → List ℕ → List ℕ
 unlessRefused n octets = pick (eqb n 0) octets []
+
+-- ---- answers by a tag octet
+-- of a value of a type of kind k, whichever tag mode asks for this tag octet; a CHOICE has none of its own
+pub record Answers (ty : Ty) (k tag : ℕ) (v : List ℕ) (at end : ℕ) (r : Checked) : Type 0 where
+  pub says : (mode n : ℕ) → ((k ≡ kind.choice → ⊥) → tag ≡ tagOctet (taggingOf mode n) k) → r ≡ checked (unwrapped ty (taggingOf mode n) v at end)
+
+-- of a value in a wrapper
+pub record Wraps (ty : Ty) (tag : ℕ) (v : List ℕ) (at end : ℕ) (r : Checked) : Type 0 where
+  pub says : (n : ℕ) → tag ≡ wrapperOctet n → r ≡ checked (decode ty (taggingOf 1 n) v at end)
