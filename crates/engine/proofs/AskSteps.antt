@@ -16,8 +16,8 @@ use Rattle.rows.specs.Row.{rows}
 use Rattle.table.specs.Types.{Ty, typeFrom, typeAt}
 use Rattle.table.specs.inner.Work.{rowCount}
 use Rattle.table.specs.inner.Work.{Sound, Admits}
-use Rattle.words.specs.Rows as words
-use Rattle.words.specs.Rows.{tableRows}
+use Rattle.words.specs.inner.Rows as words
+use Rattle.words.specs.inner.Rows.{tableRows}
 use Rattle.value.specs.Paper.{valueLimits}
 use Rattle.value.specs.Decode.{storedValue}
 use Rattle.value.specs.Check.{valueFits}

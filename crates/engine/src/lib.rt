@@ -29,8 +29,8 @@ ghost use Rattle.engine.specs.Listing.{report, lists, walked, referenceF
 ghost use Rattle.engine.specs.Paper.{limits};
 ghost use Rattle.rows.specs.Paper.{tableLimits};
 ghost use Rattle.table.specs.inner.Rows.{rowType};
-ghost use Rattle.words.specs.Rows.{tableRows};
-ghost use Rattle.words.specs.Words.{Worded};
+ghost use Rattle.words.specs.inner.Rows.{tableRows};
+ghost use Rattle.words.specs.inner.Words.{Worded};
 
 // The answer of the listing: the number of named values, or a refusal.
 pub enum Listed {

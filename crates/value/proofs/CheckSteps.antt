@@ -19,7 +19,7 @@ use Rattle.rows.specs.Row.{rowAt, kindAt, elementAt, typeRowAt, membersAt, isLi
 use Rattle.table.specs.Types.{untagged, implicit, taggingOf, Ty, basic, sequence, choice, listOf, Members, membersFrom, typed, typeFrom}
 use Rattle.groups.specs.Clauses.{typeKind}
 use Rattle.table.specs.inner.Work.{Sound}
-use Rattle.words.specs.Words.{firstOctet, how, Ready}
+use Rattle.words.specs.inner.Words.{firstOctet, how, Ready}
 use Rattle.value.specs.Value.{spotAt, Value, leaf, fields, Fields, Values}
 use Rattle.value.specs.Order.{rising}
 use Rattle.value.specs.Decode.{Decoded, decoded, afterOf, tagOctet, inside, inWrapper, leafOf, fieldsOf, elementsOf, many, unwrapped, fieldsFrom, alternativeFrom, decode}

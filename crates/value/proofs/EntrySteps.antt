@@ -21,8 +21,8 @@ use Rattle.table.specs.inner.Work.{rowCount}
 use Rattle.table.specs.inner.Work.{Sound, Admits}
 use Rattle.table.proofs.Laws.{row-count}
 use Rattle.table.proofs.SoundLaws.{sound}
-use Rattle.words.specs.Rows.{tableRows, placeAt, typeAt}
-use Rattle.words.specs.Words.{firstOctet, Filled, Ready, Worded}
+use Rattle.words.specs.inner.Rows.{tableRows, placeAt, typeAt}
+use Rattle.words.specs.inner.Words.{firstOctet, Filled, Ready, Worded}
 use Rattle.words.proofs.Reading.{ready}
 use Rattle.value.specs.Paper.{valueLimits}
 use Rattle.value.specs.Decode.{Decoded, unwrapped, decode, inWrapper, storedValue}

@@ -18,8 +18,8 @@ use Rattle.rows.specs.Paper.{tableLimits}
 use Rattle.rows.specs.Row.{kindAt, modeAt, numberAt}
 use Rattle.table.specs.Types.{Tagging, untagged, explicit, implicit, taggingOf}
 use Rattle.table.specs.inner.Work.{bitOf}
-use Rattle.words.specs.Rows.{tableRows, placeAt, memberAt, taggingAt, memberTypeAt, memberKindAt}
-use Rattle.words.specs.Words.{firstOctet, how, Worded}
+use Rattle.words.specs.inner.Rows.{tableRows, placeAt, memberAt, taggingAt, memberTypeAt, memberKindAt}
+use Rattle.words.specs.inner.Words.{firstOctet, how, Worded}
 use Rattle.value.specs.Decode.{startsHere}
 use Rattle.value.specs.inner.Work.{sameTag, opensBy, plainOf, plainChecked, absentChecked, memberChecked}
 use Rattle.value.specs.declared.Checked.{Checked}

@@ -20,7 +20,7 @@ use Rattle.groups.specs.Clauses.{typeKind, defaultAllowed, defaultLegal}
 use Rattle.table.specs.Types.{Tagging, untagged, explicit, implicit, mandatory, optional, default, taggingOf, presenceOf, Member, memberOf, Ty, basic, Members, more, membersFrom, typed, typeFrom}
 use Rattle.table.specs.Begins.{isMandatory}
 use Rattle.table.specs.inner.Work.{Sound}
-use Rattle.words.specs.Words.{how, Ready}
+use Rattle.words.specs.inner.Words.{how, Ready}
 use Rattle.table.proofs.TagLaws.{mandatory-as}
 use Rattle.table.proofs.SoundLaws.{member-tags}
 use Rattle.value.specs.Value.{spotAt, spotOf, Fields, endFields, present, absent}

@@ -22,8 +22,8 @@ use Rattle.table.specs.Types.{untagged, explicit, implicit, taggingOf, memberOf
 use Rattle.table.specs.Begins.{begins, memberBegins}
 use Rattle.table.specs.inner.Work.{bitOf}
 use Rattle.table.proofs.TagLaws.{tagged-as}
-use Rattle.words.specs.Rows.{tableRows, placeAt, memberTypeAt, memberKindAt}
-use Rattle.words.specs.Words.{firstOctet, secondOf, Worded}
+use Rattle.words.specs.inner.Rows.{tableRows, placeAt, memberTypeAt, memberKindAt}
+use Rattle.words.specs.inner.Words.{firstOctet, secondOf, Worded}
 use Rattle.value.specs.Decode.{startsHere}
 use Rattle.value.specs.inner.Work.{sameTag, opensBy}
 

@@ -19,9 +19,9 @@ use Rattle.table.specs.inner.Work.{Masked}
 use Rattle.table.proofs.Laws.{row-count, row-0-is-type, member-formed, points-later}
 use Rattle.table.proofs.SoundLaws.{sound}
 use Rattle.words.proofs.Places.{row-place}
-use Rattle.words.specs.Rows.{tableRows, placeAt, taggingAt, memberKindAt}
-use Rattle.words.specs.Fields.{kindOf, firstOf, countOf, targetOf, typeOf, howOf, presenceOf, lengthOf, placeOf}
-use Rattle.words.specs.Words.{firstOctet, how, elementRow, secondOf, Shaped, Ready, Worded}
+use Rattle.words.specs.inner.Rows.{tableRows, placeAt, taggingAt, memberKindAt}
+use Rattle.words.specs.inner.Fields.{kindOf, firstOf, countOf, targetOf, typeOf, howOf, presenceOf, lengthOf, placeOf}
+use Rattle.words.specs.inner.Words.{firstOctet, how, elementRow, secondOf, Shaped, Ready, Worded}
 
 -- ---- an admitted table is ready for its words
 is-type : (t s : List ℕ) (j : ℕ) → isType t s j ≡ true → kindAt t (rowAt s j) ≡ 16 → ⊥

@@ -17,8 +17,8 @@ use Rattle.rows.specs.Row.{rowAt, kindAt, elementAt, typeRowAt, membersAt, isLi
 use Rattle.groups.specs.Clauses.{typeKind}
 use Rattle.table.specs.Types.{Tagging, untagged, explicit, implicit, taggingOf}
 use Rattle.table.proofs.TagLaws.{universal-fits}
-use Rattle.words.specs.Fields.{Packed}
-use Rattle.words.specs.Words.{firstOctet, how, elementRow, TypeWord, MemberWord, secondOf, Shaped, Filled, Ready}
+use Rattle.words.specs.inner.Fields.{Packed}
+use Rattle.words.specs.inner.Words.{firstOctet, how, elementRow, TypeWord, MemberWord, secondOf, Shaped, Filled, Ready}
 
 -- ---- the first tag octet
 module _ (mode n k r : ℕ) where

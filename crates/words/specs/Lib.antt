@@ -1,3 +1,1 @@
-pub mod Rows
-pub mod Fields
-pub mod Words
+pub mod inner

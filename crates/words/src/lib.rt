@@ -8,10 +8,10 @@ ghost use Rattle.rows.specs.Row as row;
 ghost use Rattle.rows.specs.Paper.{tableLimits};
 ghost use Rattle.groups.specs.Clauses.{typeKind};
 ghost use Rattle.table.specs.Types.{untagged, taggingOf};
-ghost use Rattle.words.specs.Rows.{tableRows, placeAt, taggingAt, memberKindAt};
-ghost use Rattle.words.specs.Fields as field;
-ghost use Rattle.words.specs.Words as word;
-ghost use Rattle.words.specs.Words.{Ready, Worded};
+ghost use Rattle.words.specs.inner.Rows.{tableRows, placeAt, taggingAt, memberKindAt};
+ghost use Rattle.words.specs.inner.Fields as field;
+ghost use Rattle.words.specs.inner.Words as word;
+ghost use Rattle.words.specs.inner.Words.{Ready, Worded};
 
 // ---- the fields of a word
 fn pack(

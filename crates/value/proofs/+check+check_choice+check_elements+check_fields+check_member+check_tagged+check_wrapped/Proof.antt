@@ -14,7 +14,7 @@ use borrow.Author.Needs.{needs}
 use lib.ListN.{length}
 use Rattle.rows.specs.Paper.{tableLimits}
 use Rattle.rows.specs.Row.{rowAt, typeRowAt}
-use Rattle.words.specs.Rows.{tableRows}
+use Rattle.words.specs.inner.Rows.{tableRows}
 use borrow.Fn.Kinds.{In}
 use borrow.Fn.PlainCycle.{Measures, is, falls, and}
 use Rattle.value.proofs.check.Reads as check

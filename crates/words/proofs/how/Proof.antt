@@ -1,4 +1,4 @@
-use Rattle.words.specs.Words.{how}
+use Rattle.words.specs.inner.Words.{how}
 use Rattle.octets.proofs.Tests.{tests}
 use Rattle.words.proofs.how.Statement.{statement}
 use Rattle.words.proofs.how.Tie as tie

@@ -14,8 +14,8 @@ use Rattle.rows.specs.Row.{rowAt, kindAt, elementAt, typeRowAt, membersAt, isLi
 use Rattle.groups.specs.Clauses.{typeKind}
 use Rattle.table.specs.Types.{Tagging, untagged, explicit, implicit, taggingOf}
 use Rattle.table.specs.inner.Work.{Sound}
-use Rattle.words.specs.Rows.{tableRows}
-use Rattle.words.specs.Fields.{Packed}
+use Rattle.words.specs.inner.Rows.{tableRows}
+use Rattle.words.specs.inner.Fields.{Packed}
 
 -- the first tag octet of a value of kind k; 0 of an untagged CHOICE, which has none of its own
 unfoldable pub firstOctet : Tagging → ℕ → ℕ
