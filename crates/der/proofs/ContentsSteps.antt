@@ -2,20 +2,22 @@
 use mathlib.Core.Path.{_≡_, refl, sym, ap, _∙_}
 use mathlib.Core.Bool.{Bool, true, false}
 use mathlib.Core.List.{List, [], _∷_}
-use Prim.Native.Nat.{ℕ, _≤_, _<_, _+_, _-_, _*_, _%_, _^_}
+use Prim.Native.Nat.{ℕ, _≤_, _<_, _+_, _-_, _*_, _/_, _%_, _^_}
 use native.Mathlib.Omega.{arith}
 use native.Mathlib.Nat.{one-mul}
 use borrow.Author.Tests.{eq-eqb, ne-eqb, lt-leb, le-leb}
 use lib.Dec.{eqb}
 use lib.ListN.{length, drop}
+use lib.Bits.{bitAnd, and-mask}
 use lib.Pow.{shl-exact, pow-pos}
-use Rattle.octets.specs.Pick.{pick}
+use Rattle.octets.specs.Pick.{pick, no, all}
 use Rattle.octets.specs.Octets.{octet, same, every}
-use Rattle.octets.specs.Text.{within}
+use Rattle.octets.specs.Text.{isDigit, isLower, isUpper, isLetter, isAlnum}
+use Rattle.octets.specs.Computing.{octetsCompute}
 use Rattle.octets.specs.Utf8.{utf8}
-use Rattle.octets.proofs.Laws.{every-fails, every-holds}
+use Rattle.octets.proofs.Laws.{all-at, every-fails, every-holds}
 use Rattle.der.specs.Time.{legalTime}
-use Rattle.der.specs.Contents.{legalBoolean, shortest, legalInteger, legalBits, isSign, isMark, isIa5, legalNull, legalOid, legalPrintable, legalIa5, legalText, legal}
+use Rattle.der.specs.Contents.{legalBoolean, shortest, legalInteger, legalBits, isSign, isMark, isPrintable, isIa5, legalNull, legalOid, legalPrintable, legalIa5, legalText, legal}
 
 -- ---- BOOLEAN
 one-octet : (c : List ℕ) (b : ℕ) → length c ≡ 1 → same c (b ∷ []) ≡ eqb (octet c 0) b
@@ -102,23 +104,57 @@ module _ (c : List ℕ) (h : 1 ≤ length c) where
     bits-last r n e = rw (le-leb 1 (length c) h, le-leb (octet c 0) 7 g, ne-eqb _ _ n) e
 
 -- ---- PrintableString
-pub mark-space : (b : ℕ) → b ≡ 32 → true ≡ isMark b
-unfolding isMark
-mark-space b e = rw (eq-eqb b 32 e)
+abbrev agree : Bool → Bool → Bool
+agree a b = pick a b (no b)
 
-module _ (b : ℕ) (n : b ≡ 32 → ⊥) (r : Bool) (told : r ≡ within 39 41 b) where
-  pub mark-quotes : r ≡ true → true ≡ isMark b
-  unfolding isMark
-  mark-quotes h = rw (ne-eqb b 32 n, sym told ∙ h)
+agreed : (a b : Bool) → agree a b ≡ true → a ≡ b
+agreed true true e = refl
+agreed true false e = sym e
+agreed false true e = e
+agreed false false e = refl
 
-  module _ (h : r ≡ false) (u : Bool) (told' : u ≡ within 43 47 b) where
-    pub mark-stops : u ≡ true → true ≡ isMark b
-    unfolding isMark
-    mark-stops g = rw (ne-eqb b 32 n, sym told ∙ h, sym told' ∙ g)
+-- the test of each character by its bit, below 64 and from 64 on
+abbrev low-bit : ℕ → Bool
+low-bit b = agree (eqb (12105670854864535552 / 2 ^ b % 2) 1) (isPrintable b)
 
-    pub mark-sign : (w : Bool) → u ≡ false → w ≡ isSign b → w ≡ isMark b
-    unfolding isMark
-    mark-sign w g e = rw (ne-eqb b 32 n, sym told ∙ h, sym told' ∙ g) e
+abbrev high-bit : ℕ → Bool
+high-bit a = agree (eqb (576460743847706622 / 2 ^ a % 2) 1) (isPrintable (64 + a))
+
+low-bits : all low-bit 64 ≡ true
+unfolding octetsCompute all isPrintable isMark isSign
+low-bits = refl
+
+high-bits : all high-bit 64 ≡ true
+unfolding octetsCompute all isPrintable isMark isSign
+high-bits = refl
+
+pub printable-low : (b : ℕ) → b < 64 → eqb (bitAnd (12105670854864535552 / 2 ^ b) 1) 1 ≡ isPrintable b
+printable-low b h = ap (λ (x : ℕ). eqb x 1) (and-mask (12105670854864535552 / 2 ^ b) 1) ∙ agreed _ _ (all-at low-bit 64 b low-bits h)
+
+pub printable-high : (b a : ℕ) → 64 ≤ b → b < 128 → a ≡ b - 64 → eqb (bitAnd (576460743847706622 / 2 ^ a) 1) 1 ≡ isPrintable b
+printable-high b a l h e =
+    let q : 64 + a ≡ b = omega arith in
+    ap (λ (x : ℕ). eqb x 1) (and-mask (576460743847706622 / 2 ^ a) 1) ∙ agreed _ _ (all-at high-bit 64 a high-bits (omega arith)) ∙ ap isPrintable q
+
+pub printable-none : (b : ℕ) → 128 ≤ b → false ≡ isPrintable b
+unfolding isPrintable isAlnum isLetter isLower isUpper isDigit isMark isSign
+printable-none b h =
+    rw (
+      lt-leb b 122 (omega arith),
+      lt-leb b 90 (omega arith),
+      lt-leb b 57 (omega arith),
+      lt-leb b 41 (omega arith),
+      lt-leb b 47 (omega arith),
+      le-leb 97 b (omega arith),
+      le-leb 65 b (omega arith),
+      le-leb 48 b (omega arith),
+      le-leb 39 b (omega arith),
+      le-leb 43 b (omega arith),
+      ne-eqb b 32 (λ z. omega arith),
+      ne-eqb b 58 (λ z. omega arith),
+      ne-eqb b 61 (λ z. omega arith),
+      ne-eqb b 63 (λ z. omega arith),
+    )
 
 -- ---- IA5String
 module _ (c : List ℕ) (i : ℕ) (inv : every isIa5 (drop i c) ≡ every isIa5 c) (h : i < length c) where

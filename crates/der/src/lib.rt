@@ -57,6 +57,43 @@ pub struct Time {
     pub fraction: u64,
 }
 
+// The kinds of a type, by document 01's numbers.
+pub struct Kind;
+
+impl Kind {
+    pub const BOOLEAN: u8 = 1;
+
+    pub const INTEGER: u8 = 2;
+
+    pub const ENUMERATED: u8 = 3;
+
+    pub const NULL: u8 = 4;
+
+    pub const OBJECT_IDENTIFIER: u8 = 5;
+
+    pub const OCTET_STRING: u8 = 6;
+
+    pub const BIT_STRING: u8 = 7;
+
+    pub const UTF8_STRING: u8 = 8;
+
+    pub const PRINTABLE_STRING: u8 = 9;
+
+    pub const IA5_STRING: u8 = 10;
+
+    pub const GENERALIZED_TIME: u8 = 11;
+
+    pub const SEQUENCE: u8 = 12;
+
+    pub const CHOICE: u8 = 13;
+
+    pub const SEQUENCE_OF: u8 = 14;
+
+    pub const SET_OF: u8 = 15;
+
+    pub const MEMBER: u8 = 16;
+}
+
 // ---- tags
 // The parts of a tag octet: two top bits class, the next constructed, five the tag number.
 fn split(o: u8) -> Tag
@@ -86,19 +123,19 @@ pub fn tag_of(o: u8) -> u8
 fn universal_text(kind: u8) -> u8
     ensures { λ r. ⌜ r ≡ tag.universalText kind ⌝ }
 {
-    if kind == 8 {
+    if kind == Kind::UTF8_STRING {
         return 12;
     }
-    if kind == 9 {
+    if kind == Kind::PRINTABLE_STRING {
         return 19;
     }
-    if kind == 10 {
+    if kind == Kind::IA5_STRING {
         return 22;
     }
-    if kind == 11 {
+    if kind == Kind::GENERALIZED_TIME {
         return 24;
     }
-    if kind == 15 {
+    if kind == Kind::SET_OF {
         return 17;
     }
     16
@@ -108,25 +145,25 @@ fn universal_text(kind: u8) -> u8
 pub fn universal(kind: u8) -> u8
     ensures { λ r. ⌜ r ≡ tag.universal kind ⌝ }
 {
-    if kind == 1 {
+    if kind == Kind::BOOLEAN {
         return 1;
     }
-    if kind == 2 {
+    if kind == Kind::INTEGER {
         return 2;
     }
-    if kind == 3 {
+    if kind == Kind::ENUMERATED {
         return 10;
     }
-    if kind == 4 {
+    if kind == Kind::NULL {
         return 5;
     }
-    if kind == 5 {
+    if kind == Kind::OBJECT_IDENTIFIER {
         return 6;
     }
-    if kind == 6 {
+    if kind == Kind::OCTET_STRING {
         return 4;
     }
-    if kind == 7 {
+    if kind == Kind::BIT_STRING {
         return 3;
     }
     universal_text(kind)
@@ -136,13 +173,13 @@ pub fn universal(kind: u8) -> u8
 fn form(kind: u8) -> u8
     ensures { λ r. ⌜ r ≡ tag.form kind ⌝ }
 {
-    if kind == 12 {
+    if kind == Kind::SEQUENCE {
         return 32;
     }
-    if kind == 14 {
+    if kind == Kind::SEQUENCE_OF {
         return 32;
     }
-    if kind == 15 {
+    if kind == Kind::SET_OF {
         return 32;
     }
     0
@@ -390,40 +427,22 @@ fn legal_bits(c: &[u8]) -> bool
     unused_clear(c[0], c[last])
 }
 
-fn is_sign(b: u8) -> bool
-    ensures { λ r. ⌜ r ≡ contents.isSign b ⌝ }
-{
-    if b == 58 {
-        return true;
-    }
-    if b == 61 {
-        return true;
-    }
-    b == 63
-}
+// The characters of a PrintableString as sets of bits: those below 64, and those from 64 on.
+const LOW_PRINTABLE: u64 = 12105670854864535552;
 
-fn is_mark(b: u8) -> bool
-    ensures { λ r. ⌜ r ≡ contents.isMark b ⌝ }
-{
-    if b == 32 {
-        return true;
-    }
-    if octets::within(39, 41, b) {
-        return true;
-    }
-    if octets::within(43, 47, b) {
-        return true;
-    }
-    is_sign(b)
-}
+const HIGH_PRINTABLE: u64 = 576460743847706622;
 
 fn is_printable(b: u8) -> bool
     ensures { λ r. ⌜ r ≡ contents.isPrintable b ⌝ }
 {
-    if octets::is_alnum(b) {
-        return true;
+    if b < 64 {
+        return (LOW_PRINTABLE >> b) & 1 == 1;
     }
-    is_mark(b)
+    if b < 128 {
+        let above = b - 64;
+        return (HIGH_PRINTABLE >> above) & 1 == 1;
+    }
+    false
 }
 
 fn legal_printable(c: &[u8]) -> bool
@@ -656,25 +675,25 @@ pub fn earlier(a: Time, b: Time) -> bool
 pub fn legal_contents(kind: u8, c: &[u8]) -> bool
     ensures { λ r. ⌜ r ≡ contents.legal kind (now (c .entry)) ⌝ }
 {
-    if kind == 1 {
+    if kind == Kind::BOOLEAN {
         return legal_boolean(c);
     }
-    if kind == 2 {
+    if kind == Kind::INTEGER {
         return legal_integer(c);
     }
-    if kind == 3 {
+    if kind == Kind::ENUMERATED {
         return legal_integer(c);
     }
-    if kind == 4 {
+    if kind == Kind::NULL {
         return legal_null(c);
     }
-    if kind == 5 {
+    if kind == Kind::OBJECT_IDENTIFIER {
         return legal_oid(c);
     }
-    if kind == 6 {
+    if kind == Kind::OCTET_STRING {
         return true;
     }
-    if kind == 7 {
+    if kind == Kind::BIT_STRING {
         return legal_bits(c);
     }
     legal_text(kind, c)
@@ -683,16 +702,16 @@ pub fn legal_contents(kind: u8, c: &[u8]) -> bool
 fn legal_text(kind: u8, c: &[u8]) -> bool
     ensures { λ r. ⌜ r ≡ contents.legalText kind (now (c .entry)) ⌝ }
 {
-    if kind == 8 {
+    if kind == Kind::UTF8_STRING {
         return octets::utf8(c);
     }
-    if kind == 9 {
+    if kind == Kind::PRINTABLE_STRING {
         return legal_printable(c);
     }
-    if kind == 10 {
+    if kind == Kind::IA5_STRING {
         return legal_ia5(c);
     }
-    if kind == 11 {
+    if kind == Kind::GENERALIZED_TIME {
         return legal_time(c);
     }
     false

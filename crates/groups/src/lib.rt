@@ -1,4 +1,5 @@
 // Clauses of "Admitted": each row's body, the rows that rows name, members and their names, alternatives, defaults, and chains.
+use der::Kind;
 ghost use mathlib.Core.Path.{_≡_};
 ghost use mathlib.Core.Bool.{true};
 ghost use Prim.Native.Nat.{_≤_};
@@ -24,7 +25,7 @@ pub fn is_type(t: &[u8], s: &[usize], i: usize) -> bool
     if s.len() <= i {
         return false;
     }
-    rows::kind_at(t, rows::row_at(s, i)) != 16
+    rows::kind_at(t, rows::row_at(s, i)) != Kind::MEMBER
 }
 
 fn later_type(t: &[u8], s: &[usize], i: usize, j: usize) -> bool
@@ -44,7 +45,7 @@ fn points_later(t: &[u8], s: &[usize], i: usize) -> bool
     if rows::is_list(kind) {
         return later_type(t, s, i, rows::element_at(t, p));
     }
-    if kind == 16 {
+    if kind == Kind::MEMBER {
         return later_type(t, s, i, rows::type_row_at(t, p));
     }
     true
@@ -59,7 +60,7 @@ pub fn members_stand(t: &[u8], s: &[usize]) -> bool
     let mut due = 0;
     while i < s.len() {
         let p = s[i];
-        if rows::kind_at(t, p) == 16 {
+        if rows::kind_at(t, p) == Kind::MEMBER {
             if due == 0 {
                 return false;
             }
@@ -154,7 +155,7 @@ fn alternatives_mandatory(t: &[u8], s: &[usize], i: usize) -> bool
     ensures { λ r. ⌜ r ≡ clause.alternativesMandatory (now (t .entry)) (now (s .entry)) i ⌝ }
 {
     let p = rows::row_at(s, i);
-    if rows::kind_at(t, p) != 13 {
+    if rows::kind_at(t, p) != Kind::CHOICE {
         return true;
     }
     all_mandatory(t, s, i, rows::members_at(t, p))
@@ -172,19 +173,19 @@ fn no_implicit_choice(t: &[u8], s: &[usize], i: usize) -> bool
     ensures { λ r. ⌜ r ≡ clause.noImplicitChoice (now (t .entry)) (now (s .entry)) i ⌝ }
 {
     let p = rows::row_at(s, i);
-    if rows::kind_at(t, p) != 16 {
+    if rows::kind_at(t, p) != Kind::MEMBER {
         return true;
     }
     if rows::mode_at(t, p) != 2 {
         return true;
     }
-    type_kind(t, s, i) != 13
+    type_kind(t, s, i) != Kind::CHOICE
 }
 
 fn default_allowed(k: u8, c: &[u8]) -> bool
     ensures { λ r. ⌜ r ≡ clause.defaultAllowed k (now (c .entry)) ⌝ }
 {
-    if !octets::within(1, 3, k) {
+    if !octets::within(Kind::BOOLEAN, Kind::ENUMERATED, k) {
         return false;
     }
     der::legal_contents(k, c)
@@ -194,7 +195,7 @@ fn default_legal(t: &[u8], s: &[usize], i: usize) -> bool
     ensures { λ r. ⌜ r ≡ clause.defaultLegal (now (t .entry)) (now (s .entry)) i ⌝ }
 {
     let p = rows::row_at(s, i);
-    if rows::kind_at(t, p) != 16 {
+    if rows::kind_at(t, p) != Kind::MEMBER {
         return true;
     }
     let n = rows::default_length_at(t, p);

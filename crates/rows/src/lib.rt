@@ -1,4 +1,5 @@
 // The rows of a type table: where they start, their parts, and what their bodies are like. Reads past the end give 0.
+use der::Kind;
 ghost use mathlib.Core.Path.{_≡_};
 ghost use Prim.Native.Nat.{_≤_, _<_, _+_, _-_};
 ghost use lib.ListN.{length, take, drop};
@@ -151,25 +152,25 @@ pub fn default_at(t: &[u8], p: usize) -> &[u8]
 pub fn is_group(kind: u8) -> bool
     ensures { λ r. ⌜ r ≡ row.isGroup kind ⌝ }
 {
-    if kind == 12 {
+    if kind == Kind::SEQUENCE {
         return true;
     }
-    kind == 13
+    kind == Kind::CHOICE
 }
 
 pub fn is_list(kind: u8) -> bool
     ensures { λ r. ⌜ r ≡ row.isList kind ⌝ }
 {
-    if kind == 14 {
+    if kind == Kind::SEQUENCE_OF {
         return true;
     }
-    kind == 15
+    kind == Kind::SET_OF
 }
 
 fn row_size(kind: u8) -> usize
     ensures { λ r. ⌜ r ≡ row.rowSize kind ⌝ }
 {
-    if octets::within(1, 11, kind) {
+    if octets::within(Kind::BOOLEAN, Kind::GENERALIZED_TIME, kind) {
         return 1;
     }
     if is_group(kind) {
@@ -178,7 +179,7 @@ fn row_size(kind: u8) -> usize
     if is_list(kind) {
         return 3;
     }
-    if kind == 16 {
+    if kind == Kind::MEMBER {
         return 39;
     }
     0
@@ -226,10 +227,10 @@ fn count_formed(t: &[u8], p: usize) -> bool
     ensures { λ r. ⌜ r ≡ body.countFormed (tableLimits .members) (now (t .entry)) p ⌝ }
 {
     let kind = kind_at(t, p);
-    if kind == 12 {
+    if kind == Kind::SEQUENCE {
         return field(t, p, 1) <= Table::MAX_MEMBERS;
     }
-    if kind == 13 {
+    if kind == Kind::CHOICE {
         return octets::within(1, Table::MAX_MEMBERS, field(t, p, 1));
     }
     true
@@ -331,7 +332,7 @@ fn member_formed(t: &[u8], p: usize) -> bool
 pub fn row_formed(t: &[u8], p: usize) -> bool
     ensures { λ r. ⌜ r ≡ body.rowFormed (tableLimits .members) (tableLimits .name) (now (t .entry)) p ⌝ }
 {
-    if kind_at(t, p) == 16 {
+    if kind_at(t, p) == Kind::MEMBER {
         return member_formed(t, p);
     }
     count_formed(t, p)

@@ -1,4 +1,5 @@
 // The type table: the tags that each row can begin with, and admission.
+use der::Kind;
 use rows::Table;
 ghost use mathlib.Core.Path.{_≡_};
 ghost use mathlib.Core.Bool.{true, false};
@@ -94,7 +95,7 @@ fn row_mask(m: &[u64], t: &[u8], s: &[usize], i: usize) -> u64
 {
     let p = rows::row_at(s, i);
     let kind = rows::kind_at(t, p);
-    if kind == 13 {
+    if kind == Kind::CHOICE {
         return group_mask(m, t, s, i, rows::members_at(t, p));
     }
     bit(der::universal(kind))
@@ -113,7 +114,7 @@ fn apart(m: &[u64], t: &[u8], s: &[usize], i: usize, a: usize, b: usize) -> bool
 fn ends_run(t: &[u8], s: &[usize], i: usize, b: usize) -> bool
     ensures { λ r. ⌜ r ≡ work.endsRun (now (t .entry)) (now (s .entry)) i b ⌝ }
 {
-    if rows::kind_at(t, rows::row_at(s, i)) == 12 {
+    if rows::kind_at(t, rows::row_at(s, i)) == Kind::SEQUENCE {
         return groups::is_mandatory(t, s, i, b);
     }
     false

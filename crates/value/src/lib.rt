@@ -1,5 +1,6 @@
 // The check of a stored value: whether the octets are one value of the type of row 0, and the octets of a part of it.
 use der::Inside;
+use der::Kind;
 use rows::Table;
 ghost use mathlib.Core.Path.{_≡_};
 ghost use mathlib.Core.Bool.{true, false};
@@ -12,7 +13,7 @@ ghost use Rattle.der.specs.Contents.{legal};
 ghost use Rattle.rows.specs.Row.{kindAt, elementAt, membersAt, isList, modeAt, presenceAt, defaultAt};
 ghost use Rattle.table.specs.Types.{taggingOf};
 ghost use Rattle.table.specs.Begins.{memberBegins};
-ghost use Rattle.words.specs.inner.Rows.{tableRows, placeAt, typeAt, membersAfter, memberAt, taggingAt, memberTypeAt, memberKindAt};
+ghost use Rattle.words.specs.inner.Rows.{tableRows, MemberRow, TypeRow, placeAt, typeAt, membersAfter, memberAt, taggingAt, memberTypeAt, memberKindAt};
 ghost use Rattle.words.specs.inner.Words.{how, Worded};
 ghost use Rattle.value.specs.Decode.{tagOctet, startsHere, alternativeFrom, decode, storedValue};
 ghost use Rattle.value.specs.Paper.{valueLimits};
@@ -124,7 +125,7 @@ fn opens(first: usize, set: u64, o: u8) -> bool
 fn begins_with(t: &[u8], w: &[u64; 256], row: usize, o: u8) -> bool
     requires worded { ⌜ Worded (now t) (now w) ⌝ }
     requires here { ⌜ row < length (tableRows (now t)) ⌝ }
-    requires member { ⌜ kindAt (now t) (placeAt (now t) row) ≡ 16 ⌝ }
+    requires member { ⌜ MemberRow (now t) row ⌝ }
     ensures { λ r. ⌜ r ≡ memberBegins (memberAt (now (t .entry)) row) (memberTypeAt (now (t .entry)) row) (tagOf o) ⌝ }
 {
     opens(words::first(t, w, row), words::second_word(w, row), o)
@@ -134,7 +135,7 @@ fn begins_with(t: &[u8], w: &[u64; 256], row: usize, o: u8) -> bool
 fn member_starts(t: &[u8], w: &[u64; 256], v: &[u8], row: usize, stop: usize, i: usize) -> bool
     requires worded { ⌜ Worded (now t) (now w) ⌝ }
     requires here { ⌜ row < length (tableRows (now t)) ⌝ }
-    requires member { ⌜ kindAt (now t) (placeAt (now t) row) ≡ 16 ⌝ }
+    requires member { ⌜ MemberRow (now t) row ⌝ }
     ensures { λ r. ⌜ r ≡ startsHere (memberAt (now (t .entry)) row) (memberTypeAt (now (t .entry)) row) (now (v .entry)) stop i ⌝ }
 {
     if stop <= i {
@@ -148,7 +149,7 @@ fn member_starts(t: &[u8], w: &[u64; 256], v: &[u8], row: usize, stop: usize, i:
 fn absent(t: &[u8], w: &[u64; 256], row: usize, i: usize) -> Checked
     requires worded { ⌜ Worded (now t) (now w) ⌝ }
     requires here { ⌜ row < length (tableRows (now t)) ⌝ }
-    requires member { ⌜ kindAt (now t) (placeAt (now t) row) ≡ 16 ⌝ }
+    requires member { ⌜ MemberRow (now t) row ⌝ }
     ensures { λ r. ⌜ r ≡ work.absentChecked (now (t .entry)) (placeAt (now (t .entry)) row) i ⌝ }
 {
     if words::presence(t, w, row) == 0 {
@@ -161,7 +162,7 @@ fn absent(t: &[u8], w: &[u64; 256], row: usize, i: usize) -> Checked
 fn equals_default(t: &[u8], w: &[u64; 256], row: usize, c: &[u8]) -> bool
     requires worded { ⌜ Worded (now t) (now w) ⌝ }
     requires here { ⌜ row < length (tableRows (now t)) ⌝ }
-    requires member { ⌜ kindAt (now t) (placeAt (now t) row) ≡ 16 ⌝ }
+    requires member { ⌜ MemberRow (now t) row ⌝ }
     requires stored { ⌜ presenceAt (now t) (placeAt (now t) row) ≡ 2 ⌝ }
     ensures { λ r. ⌜ r ≡ same (now (c .entry)) (defaultAt (now (t .entry)) (placeAt (now (t .entry)) row)) ⌝ }
 {
@@ -175,7 +176,7 @@ fn equals_default(t: &[u8], w: &[u64; 256], row: usize, c: &[u8]) -> bool
 fn is_default(t: &[u8], w: &[u64; 256], row: usize, v: &[u8], start: usize, n: usize) -> bool
     requires worded { ⌜ Worded (now t) (now w) ⌝ }
     requires here { ⌜ row < length (tableRows (now t)) ⌝ }
-    requires member { ⌜ kindAt (now t) (placeAt (now t) row) ≡ 16 ⌝ }
+    requires member { ⌜ MemberRow (now t) row ⌝ }
     ensures { λ r. ⌜ r ≡ work.isDefaultAt (now (t .entry)) (placeAt (now (t .entry)) row) (now (v .entry)) start n ⌝ }
 {
     if words::presence(t, w, row) == 2 {
@@ -199,7 +200,7 @@ fn check_basic(kind: u8, v: &[u8], start: usize, stop: usize) -> Checked
 fn check_plain(t: &[u8], w: &[u64; 256], v: &[u8], row: usize, at: usize, end: usize) -> Checked
     requires worded { ⌜ Worded (now t) (now w) ⌝ }
     requires here { ⌜ row < length (tableRows (now t)) ⌝ }
-    requires member { ⌜ kindAt (now t) (placeAt (now t) row) ≡ 16 ⌝ }
+    requires member { ⌜ MemberRow (now t) row ⌝ }
     requires plain { ⌜ how (memberKindAt (now t) row) (modeAt (now t) (placeAt (now t) row)) ≡ 0 ⌝ }
     ensures { λ r. ⌜ r
         ≡ work.plainChecked (now (t .entry)) (placeAt (now (t .entry)) row) (memberKindAt (now (t .entry)) row) (taggingAt (now (t .entry)) row)
@@ -225,7 +226,7 @@ fn check_plain_member(
 ) -> Checked
     requires worded { ⌜ Worded (now t) (now w) ⌝ }
     requires here { ⌜ row < length (tableRows (now t)) ⌝ }
-    requires member { ⌜ kindAt (now t) (placeAt (now t) row) ≡ 16 ⌝ }
+    requires member { ⌜ MemberRow (now t) row ⌝ }
     requires plain { ⌜ how (memberKindAt (now t) row) (modeAt (now t) (placeAt (now t) row)) ≡ 0 ⌝ }
     ensures { λ r. ⌜ r ≡ work.memberChecked (memberAt (now (t .entry)) row) (memberTypeAt (now (t .entry)) row) (now (v .entry)) stop i ⌝ }
 {
@@ -248,7 +249,7 @@ fn check_plain_member(
 fn wrapped_contents(t: &[u8], w: &[u64; 256], v: &[u8], row: usize, at: usize, end: usize) -> Inside
     requires worded { ⌜ Worded (now t) (now w) ⌝ }
     requires here { ⌜ row < length (tableRows (now t)) ⌝ }
-    requires member { ⌜ kindAt (now t) (placeAt (now t) row) ≡ 16 ⌝ }
+    requires member { ⌜ MemberRow (now t) row ⌝ }
     requires explicit { ⌜ modeAt (now t) (placeAt (now t) row) ≡ 1 ⌝ }
     ensures { λ r. ⌜ r ≡ work.contentsAt (taggingAt (now (t .entry)) row) (memberKindAt (now (t .entry)) row) (now (v .entry)) at end ⌝ }
 {
@@ -267,7 +268,7 @@ fn wrapped_contents(t: &[u8], w: &[u64; 256], v: &[u8], row: usize, at: usize, e
 fn wrapped_default(t: &[u8], w: &[u64; 256], v: &[u8], row: usize, at: usize, end: usize) -> bool
     requires worded { ⌜ Worded (now t) (now w) ⌝ }
     requires here { ⌜ row < length (tableRows (now t)) ⌝ }
-    requires member { ⌜ kindAt (now t) (placeAt (now t) row) ≡ 16 ⌝ }
+    requires member { ⌜ MemberRow (now t) row ⌝ }
     requires explicit { ⌜ modeAt (now t) (placeAt (now t) row) ≡ 1 ⌝ }
     requires stored { ⌜ presenceAt (now t) (placeAt (now t) row) ≡ 2 ⌝ }
     ensures { λ r. ⌜ r
@@ -284,7 +285,7 @@ fn wrapped_default(t: &[u8], w: &[u64; 256], v: &[u8], row: usize, at: usize, en
 fn stored_default(t: &[u8], w: &[u64; 256], v: &[u8], row: usize, at: usize, end: usize) -> bool
     requires worded { ⌜ Worded (now t) (now w) ⌝ }
     requires here { ⌜ row < length (tableRows (now t)) ⌝ }
-    requires member { ⌜ kindAt (now t) (placeAt (now t) row) ≡ 16 ⌝ }
+    requires member { ⌜ MemberRow (now t) row ⌝ }
     requires other { ⌜ (how (memberKindAt (now t) row) (modeAt (now t) (placeAt (now t) row)) ≡ 0 → ⊥) ⌝ }
     ensures { λ r. ⌜ r ≡ work.storedDefault (now (t .entry)) (tableRows (now (t .entry))) (placeAt (now (t .entry)) row) (now (v .entry)) at end ⌝ }
 {
@@ -300,7 +301,7 @@ fn in_order(kind: u8, v: &[u8], before: usize, i: usize, next: usize) -> bool
     requires { ⌜ i ≤ next ⌝ }
     ensures { λ r. ⌜ r ≡ work.neighbours kind (now (v .entry)) before i next ⌝ }
 {
-    if kind == 14 {
+    if kind == Kind::SEQUENCE_OF {
         return true;
     }
     der::not_above(
@@ -403,7 +404,7 @@ fn check_fields(
 fn check_member(t: &[u8], w: &[u64; 256], v: &[u8], row: usize, i: usize, stop: usize) -> Checked
     requires worded { ⌜ Worded (now t) (now w) ⌝ }
     requires here { ⌜ row < length (tableRows (now t)) ⌝ }
-    requires member { ⌜ kindAt (now t) (placeAt (now t) row) ≡ 16 ⌝ }
+    requires member { ⌜ MemberRow (now t) row ⌝ }
     ensures { λ r. ⌜ r ≡ work.memberChecked (memberAt (now (t .entry)) row) (memberTypeAt (now (t .entry)) row) (now (v .entry)) stop i ⌝ }
 {
     if words::tagged(t, w, row) == 0 {
@@ -422,7 +423,7 @@ fn check_member(t: &[u8], w: &[u64; 256], v: &[u8], row: usize, i: usize, stop: 
 fn check_tagged(t: &[u8], w: &[u64; 256], v: &[u8], row: usize, at: usize, end: usize) -> Checked
     requires worded { ⌜ Worded (now t) (now w) ⌝ }
     requires here { ⌜ row < length (tableRows (now t)) ⌝ }
-    requires member { ⌜ kindAt (now t) (placeAt (now t) row) ≡ 16 ⌝ }
+    requires member { ⌜ MemberRow (now t) row ⌝ }
     ensures { λ r. ⌜ r ≡ work.checked (decode (memberTypeAt (now (t .entry)) row) (taggingAt (now (t .entry)) row) (now (v .entry)) at end) ⌝ }
 {
     let target = words::type_row(t, w, row);
@@ -445,7 +446,7 @@ fn check_wrapped(
 ) -> Checked
     requires worded { ⌜ Worded (now t) (now w) ⌝ }
     requires here { ⌜ row < length (tableRows (now t)) ⌝ }
-    requires typed { ⌜ (kindAt (now t) (placeAt (now t) row) ≡ 16 → ⊥) ⌝ }
+    requires typed { ⌜ TypeRow (now t) row ⌝ }
     ensures { λ r. ⌜ work.Wraps (typeAt (now (t .entry)) row) tag (now (v .entry)) at end r ⌝ }
 {
     let Inside::Of(start, n) = der::open(tag, v, at, end) else {
@@ -491,14 +492,14 @@ fn check(
     ensures { λ r. ⌜ work.Answers (typeAt (now (t .entry)) row) (kindAt (now (t .entry)) (placeAt (now (t .entry)) row)) tag (now (v .entry)) at end r ⌝ }
 {
     let kind = words::kind(t, w, row);
-    if kind == 13 {
+    if kind == Kind::CHOICE {
         return check_choice(t, w, v, row, at, end);
     }
     let Inside::Of(start, n) = der::open(tag, v, at, end) else {
         return Checked::Bad;
     };
     let stop = start + n;
-    if kind == 12 {
+    if kind == Kind::SEQUENCE {
         return check_fields(t, w, v, row, start, stop);
     }
     if rows::is_list(kind) {

@@ -1,14 +1,16 @@
 // Row words: two numbers for each row of an admitted table, written once and read by what they say of the table.
+use der::Kind;
 ghost use mathlib.Core.Path.{_≡_};
 ghost use mathlib.Core.Bool.{true};
 ghost use Prim.Native.Nat.{_≤_, _<_, _+_, _-_, _*_};
 ghost use lib.ListN.{length, getD};
 ghost use Rattle.octets.specs.Octets.{baseFrom};
+ghost use Rattle.der.specs.Kind as kind;
 ghost use Rattle.rows.specs.Row as row;
 ghost use Rattle.rows.specs.Paper.{tableLimits};
 ghost use Rattle.groups.specs.Clauses.{typeKind};
 ghost use Rattle.table.specs.Types.{untagged, taggingOf};
-ghost use Rattle.words.specs.inner.Rows.{tableRows, placeAt, taggingAt, memberKindAt};
+ghost use Rattle.words.specs.inner.Rows.{tableRows, MemberRow, TypeRow, placeAt, taggingAt, memberKindAt};
 ghost use Rattle.words.specs.inner.Fields as field;
 ghost use Rattle.words.specs.inner.Words as word;
 ghost use Rattle.words.specs.inner.Words.{Ready, Worded};
@@ -107,7 +109,7 @@ fn first_octet(mode: u8, number: u8, kind: u8) -> usize
     if mode != 0 {
         return der::implicit_octet(number, kind);
     }
-    if kind == 13 {
+    if kind == Kind::CHOICE {
         return 0;
     }
     der::own_octet(kind)
@@ -119,7 +121,7 @@ fn how(kind: u8, mode: u8) -> u8
     if mode == 1 {
         return 1;
     }
-    if kind <= 11 {
+    if kind <= Kind::GENERALIZED_TIME {
         return 0;
     }
     2
@@ -169,7 +171,7 @@ fn member_pack(t: &[u8], p: usize, kind: u8) -> u64
     let target = rows::type_row_at(t, p);
     let size = rows::default_at(t, p).len();
     pack(
-        16,
+        Kind::MEMBER,
         first,
         0,
         target,
@@ -185,7 +187,7 @@ fn member_pack(t: &[u8], p: usize, kind: u8) -> u64
 fn member_word(t: &[u8], s: &[usize], m: &[u64], i: usize) -> u64
     requires ready { ⌜ Ready (tableLimits .chain) (now t) (now s) (now m) ⌝ }
     requires here { ⌜ i < length (now s) ⌝ }
-    requires member { ⌜ row.kindAt (now t) (row.rowAt (now s) i) ≡ 16 ⌝ }
+    requires member { ⌜ row.kindAt (now t) (row.rowAt (now s) i) ≡ kind.member ⌝ }
     ensures { λ r. ⌜ word.MemberWord (now (t .entry)) (row.rowAt (now (s .entry)) i) (typeKind (now (t .entry)) (now (s .entry)) i) r ⌝ }
 {
     member_pack(t, rows::row_at(s, i), groups::type_kind(t, s, i))
@@ -196,7 +198,7 @@ fn row_word(t: &[u8], s: &[usize], m: &[u64], i: usize) -> u64
     requires here { ⌜ i < length (now s) ⌝ }
     ensures { λ r. ⌜ word.Shaped (now (t .entry)) (now (s .entry)) i r ⌝ }
 {
-    if rows::kind_at(t, rows::row_at(s, i)) == 16 {
+    if rows::kind_at(t, rows::row_at(s, i)) == Kind::MEMBER {
         return member_word(t, s, m, i);
     }
     type_word(t, s, m, i)
@@ -208,7 +210,7 @@ fn second(t: &[u8], s: &[usize], m: &[u64], i: usize) -> u64
     ensures { λ r. ⌜ r ≡ word.secondOf (now (t .entry)) (now (s .entry)) (now (m .entry)) i ⌝ }
 {
     let p = rows::row_at(s, i);
-    if rows::kind_at(t, p) != 16 {
+    if rows::kind_at(t, p) != Kind::MEMBER {
         return table::kept(m, i);
     }
     if rows::presence_at(t, p) == 2 {
@@ -288,7 +290,7 @@ pub fn element(t: &[u8], w: &[u64; 256], i: usize) -> usize
 pub fn own_first(t: &[u8], w: &[u64; 256], i: usize) -> usize
     requires worded { ⌜ Worded (now t) (now w) ⌝ }
     requires here { ⌜ i < length (tableRows (now t)) ⌝ }
-    requires typed { ⌜ (row.kindAt (now t) (placeAt (now t) i) ≡ 16 → ⊥) ⌝ }
+    requires typed { ⌜ TypeRow (now t) i ⌝ }
     ensures { λ r. ⌜ r ≡ word.firstOctet untagged (row.kindAt (now (t .entry)) (placeAt (now (t .entry)) i)) ⌝ }
 {
     first_of(first_word(w, i))
@@ -298,7 +300,7 @@ pub fn own_first(t: &[u8], w: &[u64; 256], i: usize) -> usize
 pub fn first(t: &[u8], w: &[u64; 256], i: usize) -> usize
     requires worded { ⌜ Worded (now t) (now w) ⌝ }
     requires here { ⌜ i < length (tableRows (now t)) ⌝ }
-    requires member { ⌜ row.kindAt (now t) (placeAt (now t) i) ≡ 16 ⌝ }
+    requires member { ⌜ MemberRow (now t) i ⌝ }
     ensures { λ r. ⌜ r ≡ word.firstOctet (taggingAt (now (t .entry)) i) (memberKindAt (now (t .entry)) i) ⌝ }
 {
     first_of(first_word(w, i))
@@ -308,7 +310,7 @@ pub fn first(t: &[u8], w: &[u64; 256], i: usize) -> usize
 pub fn type_row(t: &[u8], w: &[u64; 256], i: usize) -> usize
     requires worded { ⌜ Worded (now t) (now w) ⌝ }
     requires here { ⌜ i < length (tableRows (now t)) ⌝ }
-    requires member { ⌜ row.kindAt (now t) (placeAt (now t) i) ≡ 16 ⌝ }
+    requires member { ⌜ MemberRow (now t) i ⌝ }
     ensures { λ r. ⌜ r ≡ row.typeRowAt (now (t .entry)) (placeAt (now (t .entry)) i) ⌝ }
 {
     target_of(first_word(w, i))
@@ -318,7 +320,7 @@ pub fn type_row(t: &[u8], w: &[u64; 256], i: usize) -> usize
 pub fn kind_of_type(t: &[u8], w: &[u64; 256], i: usize) -> u8
     requires worded { ⌜ Worded (now t) (now w) ⌝ }
     requires here { ⌜ i < length (tableRows (now t)) ⌝ }
-    requires member { ⌜ row.kindAt (now t) (placeAt (now t) i) ≡ 16 ⌝ }
+    requires member { ⌜ MemberRow (now t) i ⌝ }
     ensures { λ r. ⌜ r ≡ memberKindAt (now (t .entry)) i ⌝ }
 {
     type_of(first_word(w, i))
@@ -328,7 +330,7 @@ pub fn kind_of_type(t: &[u8], w: &[u64; 256], i: usize) -> u8
 pub fn tagged(t: &[u8], w: &[u64; 256], i: usize) -> u8
     requires worded { ⌜ Worded (now t) (now w) ⌝ }
     requires here { ⌜ i < length (tableRows (now t)) ⌝ }
-    requires member { ⌜ row.kindAt (now t) (placeAt (now t) i) ≡ 16 ⌝ }
+    requires member { ⌜ MemberRow (now t) i ⌝ }
     ensures { λ r. ⌜ r ≡ word.how (memberKindAt (now (t .entry)) i) (row.modeAt (now (t .entry)) (placeAt (now (t .entry)) i)) ⌝ }
 {
     how_of(first_word(w, i))
@@ -338,7 +340,7 @@ pub fn tagged(t: &[u8], w: &[u64; 256], i: usize) -> u8
 pub fn presence(t: &[u8], w: &[u64; 256], i: usize) -> u8
     requires worded { ⌜ Worded (now t) (now w) ⌝ }
     requires here { ⌜ i < length (tableRows (now t)) ⌝ }
-    requires member { ⌜ row.kindAt (now t) (placeAt (now t) i) ≡ 16 ⌝ }
+    requires member { ⌜ MemberRow (now t) i ⌝ }
     ensures { λ r. ⌜ r ≡ row.presenceAt (now (t .entry)) (placeAt (now (t .entry)) i) ⌝ }
 {
     presence_of(first_word(w, i))
@@ -348,7 +350,7 @@ pub fn presence(t: &[u8], w: &[u64; 256], i: usize) -> u8
 pub fn default_length(t: &[u8], w: &[u64; 256], i: usize) -> usize
     requires worded { ⌜ Worded (now t) (now w) ⌝ }
     requires here { ⌜ i < length (tableRows (now t)) ⌝ }
-    requires member { ⌜ row.kindAt (now t) (placeAt (now t) i) ≡ 16 ⌝ }
+    requires member { ⌜ MemberRow (now t) i ⌝ }
     ensures { λ r. ⌜ r ≡ length (row.defaultAt (now (t .entry)) (placeAt (now (t .entry)) i)) ⌝ }
 {
     length_of(first_word(w, i))
@@ -358,7 +360,7 @@ pub fn default_length(t: &[u8], w: &[u64; 256], i: usize) -> usize
 pub fn default_number(t: &[u8], w: &[u64; 256], i: usize) -> u64
     requires worded { ⌜ Worded (now t) (now w) ⌝ }
     requires here { ⌜ i < length (tableRows (now t)) ⌝ }
-    requires member { ⌜ row.kindAt (now t) (placeAt (now t) i) ≡ 16 ⌝ }
+    requires member { ⌜ MemberRow (now t) i ⌝ }
     requires stored { ⌜ row.presenceAt (now t) (placeAt (now t) i) ≡ 2 ⌝ }
     ensures { λ r. ⌜ r ≡ baseFrom 0 (row.defaultAt (now (t .entry)) (placeAt (now (t .entry)) i)) ⌝ }
 {

@@ -1,8 +1,10 @@
 -- What row i of a table describes, at document 01's limits: names for contracts.
 use Prim.Native.Nat.{ℕ}
+use mathlib.Core.Path.{_≡_}
 use mathlib.Core.List.{List}
+use Rattle.der.specs.Kind as kind
 use Rattle.rows.specs.Paper.{tableLimits}
-use Rattle.rows.specs.Row.{rows, rowAt}
+use Rattle.rows.specs.Row.{rows, rowAt, kindAt}
 use Rattle.groups.specs.Clauses.{typeKind}
 use Rattle.table.specs.Types.{Tagging, Member, Ty, Members}
 use Rattle.table.specs.inner.Rows.{rowType, rowMembers, rowMember, rowTagging, rowMemberType}
@@ -13,6 +15,13 @@ tableRows t = rows (tableLimits .rows) t
 
 abbrev pub placeAt : List ℕ → ℕ → ℕ
 placeAt t i = rowAt (tableRows t) i
+
+-- row i is a member row, is none
+abbrev pub MemberRow : List ℕ → ℕ → Type 0
+MemberRow t i = kindAt t (placeAt t i) ≡ kind.member
+
+abbrev pub TypeRow : List ℕ → ℕ → Type 0
+TypeRow t i = kindAt t (placeAt t i) ≡ kind.member → ⊥
 
 abbrev pub typeAt : List ℕ → ℕ → Ty
 typeAt t i = rowType t (tableRows t) i
