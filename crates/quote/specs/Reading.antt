@@ -1,0 +1,1 @@
+-- What the readers of a filter make of a quoted text.
