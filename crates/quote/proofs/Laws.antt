@@ -4,7 +4,7 @@ use mathlib.Core.Bool.{Bool, true, false}
 use mathlib.Core.List.{List, [], _∷_, _++_}
 use Prim.Native.Nat.{ℕ, _<_, _+_}
 use native.Mathlib.Omega.{arith}
-use borrow.Author.Tests.{eq-eqb, ne-eqb}
+use borrow.Author.Tests.{eq-eqb, ne-eqb, eqb-true, eqb-false}
 use lib.Dec.{eqb}
 use lib.ListN.{length, drop, length-append}
 use Rattle.octets.specs.Pick.{pick}
@@ -25,6 +25,16 @@ doubled-quote b s e = rw (eq-eqb b 34 e, e)
 pub doubled-other : (b : ℕ) (s : List ℕ) → (b ≡ 34 → ⊥) → doubled (b ∷ s) ≡ b ∷ doubled s
 unfolding doubled
 doubled-other b s n = rw (ne-eqb b 34 n)
+
+-- what holds of no text, and of one octet more before a text, a quote or another, holds of every text and its doubled form
+pub by-octets : (P : List ℕ → List ℕ → Type 0) → P [] [] → ((t d : List ℕ) → P t d → P (34 ∷ t) (34 ∷ 34 ∷ d))
+    → ((b : ℕ) (t d : List ℕ) → (b ≡ 34 → ⊥) → P t d → P (b ∷ t) (b ∷ d)) → (t : List ℕ) → P t (doubled t)
+by-octets P none quote other [] = rw doubled-nil none
+by-octets P none quote other (b ∷ t) = go (eqb b 34) refl (by-octets P none quote other t)
+  where
+    go : (u : Bool) → eqb b 34 ≡ u → P t (doubled t) → P (b ∷ t) (doubled (b ∷ t))
+    go true e p = let q = eqb-true b 34 e in rw (doubled-quote b t q, q) (quote t (doubled t) p)
+    go false e p = let n = eqb-false b 34 e in rw (doubled-other b t n) (other b t (doubled t) n p)
 
 -- ---- lengths
 width-doubled : (b : ℕ) (s : List ℕ) → length (doubled (b ∷ s)) ≡ width b + length (doubled s)

@@ -3,6 +3,7 @@ ghost use mathlib.Core.Path.{_≡_};
 ghost use Prim.Native.Nat.{_≤_};
 ghost use lib.ListN.{length};
 ghost use Rattle.quote.specs.Quote as specs;
+ghost use Rattle.quote.specs.Reading.{Reads};
 ghost use Rattle.quote.specs.inner.Work as work;
 
 // The octets written, or why nothing was: an empty text, one that isn't UTF-8, too little room.
@@ -80,6 +81,7 @@ fn quote_into(text: &[u8], room: &mut [u8]) -> Quoted
 // Writes the quoted form of a text into the room that is lent, where it is a text and all of it fits. Any octets for both.
 pub fn quote(text: &[u8], room: &mut [u8]) -> Quoted
     ensures { λ r. ⌜ specs.quoting r (now (room .exit)) ≡ specs.quotedReport (now (text .entry)) (now (room .entry)) ⌝ }
+    ensures reads { λ r. ⌜ Reads r (now (text .entry)) (now (room .exit)) ⌝ }
 {
     if text.len() == 0 {
         return Quoted::Empty;
