@@ -105,7 +105,7 @@ value-quoted t before after spaces =
     let at = length before in
     let l = quoted-length t in
     let e : braceFrom (q ++ closedBy spaces after) at 0 false ≡ some (at + (length q + spaces)) = brace-quoted t (closedBy spaces after) at 0
-        ∙ brace-closed spaces after (at + length q) ∙ ap some (let z : at + length q + spaces ≡ at + (length q + spaces) = omega arith in z) in
+    ∙ brace-closed spaces after (at + length q) ∙ ap some (let z : at + length q + spaces ≡ at + (length q + spaces) = omega arith in z) in
     let z : at + (length q + spaces) - at ≡ length q + spaces = omega arith in
     let p : trimmed (take (length q + spaces) (q ++ closedBy spaces after)) ≡ q = ap trimmed (closed-part q after spaces) ∙ trimmed-quoted t spaces in
     let m : length q ≡ 0 → ⊥ = λ n. omega arith in
@@ -122,17 +122,19 @@ read-none : (t : List ℕ) (x : Quoting) → ((n : ℕ) → x .answer ≡ Quoted
 read-none t x f = record { written = λ n e. absurd (f n e) }
 
 read-written : (t room : List ℕ) → Read t (written t room)
-read-written t room = record { written = λ n e. let z : n ≡ length (quoted t) = cc in
-    subst (ReadsAs t) (sym (ap (λ (k : ℕ). take k (quoted t ++ drop (length (quoted t)) room)) z ∙ take-append-seam (quoted t) (drop (length (quoted t)) room))) (quoted-reads t) }
+read-written t room = record {
+  written = λ n e. let z : n ≡ length (quoted t) = cc in
+      subst (ReadsAs t) (sym (ap (λ (k : ℕ). take k (quoted t ++ drop (length (quoted t)) room)) z ∙ take-append-seam (quoted t) (drop (length (quoted t)) room))) (quoted-reads t);
+}
 
 report-read : (t room : List ℕ) → Read t (quotedReport t room)
 unfolding quotedReport quotedInto
 report-read t room =
     pick-cases (Read t) (eqb (length t) 0) _ _ (λ _. read-none t (quoting Quoted.Empty room) (λ n e. let z : _≡_ {A = ℕ} 0 1 = cc in omega arith))
     (λ _. pick-cases (Read t) (utf8 t) _ _
-        (λ _. pick-cases (Read t) (fits t (length room)) _ _ (λ _. read-written t room)
-            (λ _. read-none t (quoting Quoted.TooLittleRoom room) (λ n e. let z : _≡_ {A = ℕ} 0 1 = cc in omega arith)))
-        (λ _. read-none t (quoting Quoted.NotUtf8 room) (λ n e. let z : _≡_ {A = ℕ} 0 1 = cc in omega arith)))
+    (λ _. pick-cases (Read t) (fits t (length room)) _ _ (λ _. read-written t room)
+    (λ _. read-none t (quoting Quoted.TooLittleRoom room) (λ n e. let z : _≡_ {A = ℕ} 0 1 = cc in omega arith)))
+    (λ _. read-none t (quoting Quoted.NotUtf8 room) (λ n e. let z : _≡_ {A = ℕ} 0 1 = cc in omega arith)))
 
 pub with-reading : (t room m : List ℕ) (r : Quoted) → quoting r m ≡ quotedReport t room → (quoting r m ≡ quotedReport t room) × Reads r t m
 with-reading t room m r e = (e, subst (Read t) (sym e) (report-read t room))

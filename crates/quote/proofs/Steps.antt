@@ -50,11 +50,12 @@ writing-none whole room h = record { long = refl; fit = h; count = omega arith; 
 module _ (whole room : List ℕ) (n : ℕ) (s : List ℕ) where
   pub writing-one : (b : ℕ) (rest : List ℕ) → Writing whole room n (b ∷ rest) s → Writing whole room (n + 1) rest (set s n b)
   writing-one b rest v = record {
-      long = rw length-set (v .long);
-      fit = v .fit;
-      count = omega arith;
-      start = rw (add-one n, take-suc-set s n b inside, append-assoc (take n s) (b ∷ []) rest) (v .start);
-      kept = drop-set-lt (n + 1) s n b (omega arith) ∙ sym (drop-drop 1 n s) ∙ ap (drop 1) (v .kept) ∙ drop-drop 1 n room }
+    long = rw length-set (v .long);
+    fit = v .fit;
+    count = omega arith;
+    start = rw (add-one n, take-suc-set s n b inside, append-assoc (take n s) (b ∷ []) rest) (v .start);
+    kept = drop-set-lt (n + 1) s n b (omega arith) ∙ sym (drop-drop 1 n s) ∙ ap (drop 1) (v .kept) ∙ drop-drop 1 n room;
+  }
     where
       inside : n < length s
       inside = let l = v .long in let c = v .count in let f = v .fit in omega arith
