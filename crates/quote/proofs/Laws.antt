@@ -1,5 +1,5 @@
 -- Laws of the quoted form.
-use mathlib.Core.Path.{_≡_, refl, sym, ap, _∙_}
+use mathlib.Core.Path.{_≡_, refl, ap, _∙_}
 use mathlib.Core.Bool.{Bool, true, false}
 use mathlib.Core.List.{List, [], _∷_, _++_}
 use Prim.Native.Nat.{ℕ, _<_, _+_}
@@ -51,3 +51,7 @@ width-at s i h = ap (λ (l : List ℕ). length (doubled l)) (rest-cons s i h) �
 pub quoted-length : (s : List ℕ) → length (quoted s) ≡ length (doubled s) + 2
 unfolding quoted
 quoted-length s = let e = length-append (doubled s) (34 ∷ []) in omega arith
+
+pub quoted-is : (t : List ℕ) → quoted t ≡ 34 ∷ (doubled t ++ (34 ∷ []))
+unfolding quoted
+quoted-is t = refl

@@ -1,27 +1,28 @@
 -- The readers of a filter on the quoted form of a text.
 use mathlib.Core.Path.{_≡_, refl, sym, ap, subst, _∙_}
-use mathlib.Core.Bool.{Bool, true, false}
-use mathlib.Core.Option.{Option, none, some}
-use mathlib.Core.List.{List, [], _∷_, _++_, append-assoc, append-nil}
+use mathlib.Core.Bool.{true, false}
+use mathlib.Core.Option.{some}
+use mathlib.Core.List.{List, [], _∷_, _++_, append-assoc}
 use Prim.Native.Nat.{ℕ, zero, suc, _≤_, _<_, _+_, _-_}
 use native.Mathlib.Omega.{arith}
-use borrow.Author.Tests.{eq-eqb, ne-eqb, eqb-true, eqb-false}
+use borrow.Author.Tests.{ne-eqb}
 use lib.Dec.{eqb}
 use lib.ListN.{length, take, drop, replicate, length-append, length-replicate}
 use lib.Seq.{take-append-seam, drop-append-seam, take-append-add, take-at}
-use Rattle.octets.specs.Pick.{pick}
-use Rattle.octets.specs.Octets.{octet, part}
+use Rattle.octets.specs.Octets.{part}
 use Rattle.octets.specs.Text.{trimmed}
 use Rattle.octets.specs.Utf8.{utf8}
 use Rattle.octets.specs.Quoted.{closing, closingAt, undoubled, unquoted}
 use Rattle.octets.proofs.Laws.{pick-cases}
 use Rattle.octets.proofs.QuotedLaws.{undoubled-nil, undoubled-two, undoubled-other, unquoted-whole}
 use Rattle.assertion.specs.ValueText.{braceFrom, braceAt, valueTextAt}
+use Rattle.assertion.specs.Assertion.{readTo, assertionAt}
 use Rattle.assertion.proofs.Laws.{trimmed-other}
 use Rattle.quote.specs.Quote.{doubled, quoted, Quoting, quoting, written, fits, quotedInto, quotedReport}
-use Rattle.quote.specs.Reading.{closedBy, ReadsAs, Reads}
+use Rattle.quote.specs.Reading.{closedBy, Opening, openingAt, itemWith, ReadsAs, Reads}
 use Rattle.quote.specs.declared.Quoted.{Quoted}
-use Rattle.quote.proofs.Laws.{by-octets, quoted-length}
+use Rattle.quote.proofs.Laws.{by-octets, quoted-is, quoted-length}
+use Rattle.quote.proofs.Prefix.{assertion-in}
 
 -- ---- the text is read back
 undoubled-doubled : (t : List ℕ) → undoubled (doubled t) ≡ t
@@ -98,7 +99,8 @@ closed-part : (q after : List ℕ) (n : ℕ) → take (length q + n) (q ++ close
 closed-part q after n = take-append-add q (closedBy n after) n ∙ ap (λ (l : List ℕ). q ++ l) (take-at (replicate n 32) _ n (length-replicate n 32))
 
 value-quoted : (t before after : List ℕ) (spaces : ℕ)
-    → valueTextAt (before ++ (quoted t ++ closedBy spaces after)) (length before) ≡ some (record { text = quoted t; brace = length before + (length (quoted t) + spaces) })
+    → valueTextAt (before ++ (quoted t ++ closedBy spaces after)) (length before)
+    ≡ some (record { text = quoted t; brace = length before + (length (quoted t) + spaces) })
 unfolding valueTextAt braceAt
 value-quoted t before after spaces =
     let q = quoted t in
@@ -111,8 +113,20 @@ value-quoted t before after spaces =
     let m : length q ≡ 0 → ⊥ = λ n. omega arith in
     rw (drop-append-seam before (q ++ closedBy spaces after), e, z, p, ne-eqb (length q) 0 m)
 
+-- ---- the assertion
+assertion-quoted : (t before after : List ℕ) (at spaces : ℕ) (o : Opening) → openingAt (before ++ (34 ∷ [])) at ≡ readTo o (length before)
+    → assertionAt (before ++ (quoted t ++ closedBy spaces after)) at ≡ readTo (itemWith o (quoted t)) (length before + (length (quoted t) + spaces) + 1)
+assertion-quoted t before after at spaces o e =
+    let x = (doubled t ++ (34 ∷ [])) ++ closedBy spaces after in
+    let s : (before ++ (34 ∷ [])) ++ x ≡ before ++ (quoted t ++ closedBy spaces after)
+    = append-assoc before (34 ∷ []) x ∙ ap (λ (l : List ℕ). before ++ (l ++ closedBy spaces after)) (sym (quoted-is t)) in
+    let f : length before < length (before ++ (34 ∷ [])) = omega (arith, length-append before (34 ∷ [])) in
+    rw s at (assertion-in (before ++ (34 ∷ [])) x at (record { is = o; after = length before })
+    (record { text = quoted t; brace = length before + (length (quoted t) + spaces) }) f e
+    (rw (← s) at (value-quoted t before after spaces)))
+
 pub quoted-reads : (t : List ℕ) → ReadsAs t (quoted t)
-quoted-reads t = record { back = unquoted-quoted t; passed = brace-quoted t; value = value-quoted t }
+quoted-reads t = record { back = unquoted-quoted t; passed = brace-quoted t; value = value-quoted t; assertion = assertion-quoted t }
 
 -- ---- what was written is read so
 abbrev Read : List ℕ → Quoting → Type 0
@@ -122,10 +136,10 @@ read-none : (t : List ℕ) (x : Quoting) → ((n : ℕ) → x .answer ≡ Quoted
 read-none t x f = record { written = λ n e. absurd (f n e) }
 
 read-written : (t room : List ℕ) → Read t (written t room)
-read-written t room = record {
-  written = λ n e. let z : n ≡ length (quoted t) = cc in
-      subst (ReadsAs t) (sym (ap (λ (k : ℕ). take k (quoted t ++ drop (length (quoted t)) room)) z ∙ take-append-seam (quoted t) (drop (length (quoted t)) room))) (quoted-reads t);
-}
+read-written t room = record { written = λ n e. let z : n ≡ length (quoted t) = cc in subst (ReadsAs t) (sym (octets n z)) (quoted-reads t) }
+  where
+    octets : (n : ℕ) → n ≡ length (quoted t) → take n (quoted t ++ drop (length (quoted t)) room) ≡ quoted t
+    octets n z = take-at (quoted t) (drop (length (quoted t)) room) n (sym z)
 
 report-read : (t room : List ℕ) → Read t (quotedReport t room)
 unfolding quotedReport quotedInto

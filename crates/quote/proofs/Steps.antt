@@ -2,11 +2,10 @@
 use mathlib.Core.Path.{_≡_, refl, sym, ap, _∙_}
 use mathlib.Core.Bool.{Bool, true, false, not}
 use mathlib.Core.List.{List, [], _∷_, _++_, append-assoc, append-nil}
-use Prim.Native.Nat.{ℕ, suc, _≤_, _<_, _+_, _-_}
+use Prim.Native.Nat.{ℕ, _≤_, _<_, _+_, _-_}
 use native.Mathlib.Omega.{arith}
 use native.Mathlib.Numerals.{add-one}
 use borrow.Author.Tests.{eq-eqb, ne-eqb, le-leb, lt-leb, leb-true, not-true, not-false}
-use lib.Dec.{eqb}
 use lib.ListN.{length, take, drop, set, length-set, length-append, take-append-drop}
 use lib.Seq.{take-suc-set, drop-set-lt, drop-drop}
 use Rattle.octets.specs.Octets.{octet}
@@ -97,11 +96,14 @@ module _ (t room : List ℕ) (n i : ℕ) (s : List ℕ) (v : Quotes t room n i s
       omega arith
 
   module _ (h : i < length t) where
+    here : toCome t i ≡ doubled (octet t i ∷ drop (i + 1) t) ++ (34 ∷ [])
+    here = ap (λ (l : List ℕ). doubled l ++ (34 ∷ [])) (rest-cons t i h)
+
     quotes-quote : octet t i ≡ 34 → toCome t i ≡ octet t i ∷ 34 ∷ toCome t (i + 1)
-    quotes-quote e = ap (λ (l : List ℕ). doubled l ++ (34 ∷ [])) (rest-cons t i h) ∙ ap (λ (l : List ℕ). l ++ (34 ∷ [])) (doubled-quote (octet t i) (drop (i + 1) t) e)
+    quotes-quote e = here ∙ ap (λ (l : List ℕ). l ++ (34 ∷ [])) (doubled-quote (octet t i) (drop (i + 1) t) e)
 
     quotes-other : (octet t i ≡ 34 → ⊥) → toCome t i ≡ octet t i ∷ toCome t (i + 1)
-    quotes-other e = ap (λ (l : List ℕ). doubled l ++ (34 ∷ [])) (rest-cons t i h) ∙ ap (λ (l : List ℕ). l ++ (34 ∷ [])) (doubled-other (octet t i) (drop (i + 1) t) e)
+    quotes-other e = here ∙ ap (λ (l : List ℕ). l ++ (34 ∷ [])) (doubled-other (octet t i) (drop (i + 1) t) e)
 
     first : octet t i ≡ 34 → Writing (quoted t) room (n + 1) (34 ∷ toCome t (i + 1)) (set s n (octet t i))
     first e = writing-one (quoted t) room n s (octet t i) (34 ∷ toCome t (i + 1)) (rw (quotes-quote e) at v)

@@ -2,7 +2,8 @@
 use Prim.Native.Nat.{ℕ}
 use Rattle.assertion.specs.Computing.{assertionComputes}
 use Rattle.quote.specs.Quote.{doubled, quoted, quotedInto, quotedReport}
+use Rattle.quote.specs.Reading.{openingAt}
 
 unfoldable pub quoteComputes : ℕ
-unfolding assertionComputes doubled quoted quotedInto quotedReport
+unfolding assertionComputes doubled quoted quotedInto quotedReport openingAt
 quoteComputes = 0

@@ -53,10 +53,10 @@ fn write(text: &[u8], room: &mut [u8]) -> usize
     let mut n = 1;
     let mut i = 0;
     while i < text.len() {
-        let b = text[i];
-        room[n] = b;
+        let octet = text[i];
+        room[n] = octet;
         n += 1;
-        if b == b'"' {
+        if octet == b'"' {
             room[n] = b'"';
             n += 1;
             i += 1;
