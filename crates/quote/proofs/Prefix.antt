@@ -24,7 +24,7 @@ use Rattle.assertion.proofs.Progress.{mark-further, label-onward, component-onw
 use Rattle.quote.specs.Reading.{Opening, openingAt, itemWith}
 
 -- ---- words, spaces, places
-starts-in : (w l x : List ℕ) → starts w l ≡ true → starts w (l ++ x) ≡ true
+pub starts-in : (w l x : List ℕ) → starts w l ≡ true → starts w (l ++ x) ≡ true
 unfolding starts
 starts-in [] l x e = refl
 starts-in (a ∷ w) [] x e = absurd (false≢true e)

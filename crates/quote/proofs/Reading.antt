@@ -8,21 +8,23 @@ use native.Mathlib.Omega.{arith}
 use borrow.Author.Tests.{ne-eqb}
 use lib.Dec.{eqb}
 use lib.ListN.{length, take, drop, replicate, length-append, length-replicate}
-use lib.Seq.{take-append-seam, drop-append-seam, take-append-add, take-at}
-use Rattle.octets.specs.Octets.{part}
-use Rattle.octets.specs.Text.{trimmed}
+use lib.Seq.{drop-append-le, take-append-seam, drop-append-seam, take-append-add, take-at}
+use Rattle.octets.specs.Octets.{part, bytes}
+use Rattle.octets.specs.Text.{trimmed, starts}
 use Rattle.octets.specs.Utf8.{utf8}
 use Rattle.octets.specs.Quoted.{closing, closingAt, undoubled, unquoted}
 use Rattle.octets.proofs.Laws.{pick-cases}
 use Rattle.octets.proofs.QuotedLaws.{undoubled-nil, undoubled-two, undoubled-other, unquoted-whole}
 use Rattle.assertion.specs.ValueText.{braceFrom, braceAt, valueTextAt}
 use Rattle.assertion.specs.Assertion.{readTo, assertionAt}
-use Rattle.assertion.proofs.Laws.{trimmed-other}
+use Rattle.filter.specs.Filter.{item}
+use Rattle.filter.specs.Parse.{headAt, filterFrom}
+use Rattle.assertion.proofs.Laws.{trimmed-other, starts-fits}
 use Rattle.quote.specs.Quote.{doubled, quoted, Quoting, quoting, written, fits, quotedInto, quotedReport}
 use Rattle.quote.specs.Reading.{closedBy, Opening, openingAt, itemWith, ReadsAs, Reads}
 use Rattle.quote.specs.declared.Quoted.{Quoted}
 use Rattle.quote.proofs.Laws.{by-octets, quoted-is, quoted-length}
-use Rattle.quote.proofs.Prefix.{assertion-in}
+use Rattle.quote.proofs.Prefix.{starts-in, assertion-in}
 
 -- ---- the text is read back
 undoubled-doubled : (t : List ℕ) → undoubled (doubled t) ≡ t
@@ -125,8 +127,21 @@ assertion-quoted t before after at spaces o e =
     (record { text = quoted t; brace = length before + (length (quoted t) + spaces) }) f e
     (rw (← s) at (value-quoted t before after spaces)))
 
+item-starts : (before x : List ℕ) (at : ℕ) → starts (bytes "item:") (drop at before) ≡ true → starts (bytes "item:") (drop at (before ++ x)) ≡ true
+item-starts before x at e =
+    let h = starts-fits (bytes "item:") before at e in
+    ap (starts (bytes "item:")) (drop-append-le at before x (omega arith)) ∙ starts-in (bytes "item:") (drop at before) x e
+
+filter-quoted : (t : List ℕ) (n : ℕ) (before after : List ℕ) (at spaces : ℕ) (o : Opening) → starts (bytes "item:") (drop at before) ≡ true
+    → openingAt (before ++ (34 ∷ [])) (at + 5) ≡ readTo o (length before)
+    → filterFrom (suc n) (before ++ (quoted t ++ closedBy spaces after)) at
+    ≡ readTo (item (itemWith o (quoted t))) (length before + (length (quoted t) + spaces) + 1)
+unfolding filterFrom headAt
+filter-quoted t n before after at spaces o e f =
+    rw (item-starts before (quoted t ++ closedBy spaces after) at e, assertion-quoted t before after (at + 5) spaces o f)
+
 pub quoted-reads : (t : List ℕ) → ReadsAs t (quoted t)
-quoted-reads t = record { back = unquoted-quoted t; passed = brace-quoted t; value = value-quoted t; assertion = assertion-quoted t }
+quoted-reads t = record { back = unquoted-quoted t; passed = brace-quoted t; value = value-quoted t; assertion = assertion-quoted t; filter = filter-quoted t }
 
 -- ---- what was written is read so
 abbrev Read : List ℕ → Quoting → Type 0

@@ -1,17 +1,20 @@
 -- What the readers of a filter make of octets q that are the quoted form of a text.
-use Prim.Native.Nat.{ℕ, _+_}
+use Prim.Native.Nat.{ℕ, suc, _+_}
 use mathlib.Core.Path.{_≡_}
-use mathlib.Core.Bool.{Bool, false}
+use mathlib.Core.Bool.{Bool, true, false}
 use mathlib.Core.Option.{Option, some}
 use mathlib.Core.List.{List, [], _∷_, _++_}
-use lib.ListN.{length, take, replicate}
+use lib.ListN.{length, take, drop, replicate}
 use Rattle.octets.specs.Pick.{_>>=_}
 use Rattle.octets.specs.Octets.{bytes}
+use Rattle.octets.specs.Text.{starts}
 use Rattle.octets.specs.Quoted.{unquoted}
 use Rattle.assertion.specs.Item.{Item}
 use Rattle.assertion.specs.Spaces.{labelAt, markAt, openBrace, closeBrace}
 use Rattle.assertion.specs.ValueText.{braceFrom, valueTextAt}
 use Rattle.assertion.specs.Assertion.{Read, readTo, componentAt, defaultsAt, ruleAt, assertionAt}
+use Rattle.filter.specs.Filter.{item}
+use Rattle.filter.specs.Parse.{filterFrom}
 use Rattle.quote.specs.declared.Quoted.{Quoted}
 
 -- so many spaces, a closing brace, and any octets
@@ -50,6 +53,10 @@ pub record ReadsAs (text q : List ℕ) : Type 0 where
   -- brace behind q
   pub assertion : (before after : List ℕ) (at spaces : ℕ) (o : Opening) → openingAt (before ++ (34 ∷ [])) at ≡ readTo o (length before)
       → assertionAt (before ++ (q ++ closedBy spaces after)) at ≡ readTo (itemWith o q) (length before + (length q + spaces) + 1)
+  -- and where `item:` stands before that assertion, the filter that is read there is this item, in lists and under `not` too (n bounds the calls)
+  pub filter : (n : ℕ) (before after : List ℕ) (at spaces : ℕ) (o : Opening) → starts (bytes "item:") (drop at before) ≡ true
+      → openingAt (before ++ (34 ∷ [])) (at + 5) ≡ readTo o (length before)
+      → filterFrom (suc n) (before ++ (q ++ closedBy spaces after)) at ≡ readTo (item (itemWith o q)) (length before + (length q + spaces) + 1)
 
 -- the octets that were written
 pub record Reads (answer : Quoted) (text memory : List ℕ) : Type 0 where
