@@ -126,9 +126,11 @@ def _load():
     """The shared object's functions, declared as the header has them."""
     number = [ctypes.c_uint64]
     octets, room = [ctypes.c_char_p] + number, [ctypes.POINTER(ctypes.c_uint64)] + number
+    octet_room = [ctypes.POINTER(ctypes.c_uint8)] + number
     library = ctypes.CDLL(_file())
     for name, arguments in (("check_table", octets), ("check_value", octets * 2), ("part", octets + number * 2),
-                            ("list", octets * 2 + number + octets + number + room), ("ask", octets * 3 + number)):
+                            ("list", octets * 2 + number + octets + number + room), ("ask", octets * 3 + number),
+                            ("quote", octets + octet_room)):
         function = getattr(library, "tezqulom_" + name)
         function.argtypes, function.restype = arguments, _Answer
     return library

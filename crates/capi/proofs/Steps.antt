@@ -15,11 +15,13 @@ use Rattle.value.specs.Check as values
 use Rattle.value.specs.Check.{valueFits}
 use Rattle.value.specs.Part.{PartReport, refusedPart, partReport}
 use Rattle.value.specs.declared.ValueCheck.{ValueCheck}
+use Rattle.quote.specs.declared.Quoted.{Quoted}
+use Rattle.quote.specs.Quote.{Quoting, quoting}
 use Rattle.engine.specs.Answer as answer
 use Rattle.engine.specs.Listing as listing
 use Rattle.engine.specs.declared.Answer.{Answer}
 use Rattle.engine.specs.declared.Listed.{Listed}
-use Rattle.capi.specs.Numbers.{numbers, ofTable, ofValue, CPart, ofPart, partSeen, ofListed, ofListing, listSeen, ofReport}
+use Rattle.capi.specs.Numbers.{numbers, ofTable, ofValue, CPart, ofPart, partSeen, ofListed, ofListing, writtenSeen, ofQuoted, ofQuoting, ofReport}
 use Rattle.capi.specs.declared.CAnswer.{CAnswer}
 
 -- ---- each kind of answer as two numbers
@@ -40,6 +42,9 @@ module _ (r : CAnswer) where
     pub listed-refused : (a : Listed) → a ≡ Listed.Refused n → r ≡ numbers n 0 → r ≡ ofListed (listing.report a)
     listed-refused a e q = rw e q
 
+    pub quoted-written : (a : Quoted) → a ≡ Quoted.Written n → r ≡ numbers 0 n → r ≡ ofQuoted a
+    quoted-written a e q = rw e q
+
     pub answer-false : (a : Answer) → a ≡ Answer.False n → r ≡ numbers 16 n → r ≡ ofReport (answer.report a)
     answer-false a e q = rw e q
 
@@ -55,9 +60,21 @@ module _ (r : CAnswer) where
   pub value-good : (a : ValueCheck) → a ≡ ValueCheck.Good → r ≡ numbers 0 0 → r ≡ ofValue (values.report a)
   value-good a e q = rw e q
 
+  pub quoted-empty : (a : Quoted) → a ≡ Quoted.Empty → r ≡ numbers 32 0 → r ≡ ofQuoted a
+  quoted-empty a e q = rw e q
+
+  pub quoted-other : (a : Quoted) → a ≡ Quoted.NotUtf8 → r ≡ numbers 33 0 → r ≡ ofQuoted a
+  quoted-other a e q = rw e q
+
+  pub quoted-little : (a : Quoted) → a ≡ Quoted.TooLittleRoom → r ≡ numbers 34 0 → r ≡ ofQuoted a
+  quoted-little a e q = rw e q
+
   -- ---- what is said of an entry's report is said of the two numbers
-  pub list-numbers : (a : Listed) (memory : List ℕ) (l : listing.Listing) → r ≡ ofListed (listing.report a) → listing.listing a memory ≡ l → listSeen r memory ≡ ofListing l
-  list-numbers a memory l e q = ap (λ (x : CAnswer). listSeen x memory) e ∙ ap ofListing q
+  pub list-numbers : (a : Listed) (memory : List ℕ) (l : listing.Listing) → r ≡ ofListed (listing.report a) → listing.listing a memory ≡ l → writtenSeen r memory ≡ ofListing l
+  list-numbers a memory l e q = ap (λ (x : CAnswer). writtenSeen x memory) e ∙ ap ofListing q
+
+  pub quote-numbers : (a : Quoted) (memory : List ℕ) (l : Quoting) → r ≡ ofQuoted a → quoting a memory ≡ l → writtenSeen r memory ≡ ofQuoting l
+  quote-numbers a memory l e q = ap (λ (x : CAnswer). writtenSeen x memory) e ∙ ap ofQuoting q
 
 pub as-numbers : {A : Type 0} (of : A → CAnswer) (r : CAnswer) (x y : A) → r ≡ of x → x ≡ y → r ≡ of y
 as-numbers of r x y e q = e ∙ ap of q

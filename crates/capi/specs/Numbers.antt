@@ -1,5 +1,5 @@
--- An answer as two numbers: what it is, and a count, which is 0 with a refusal. The first is 0 for done, a refusal's number, or a truth's: 16 FALSE,
--- 17 TRUE, 18 Undefined.
+-- An answer as two numbers: what it is, and a count, which is 0 with a refusal. The first is 0 for done, a refusal's number, a truth's: 16 FALSE,
+-- 17 TRUE, 18 Undefined, or why nothing was quoted: 32 an empty text, 33 not UTF-8, 34 too little room.
 use Prim.Native.Nat.{ℕ}
 use mathlib.Core.Bool.{Bool, not}
 use mathlib.Core.Option.{Option, none, some}
@@ -10,6 +10,8 @@ use Rattle.octets.specs.Octets.{part}
 use Rattle.table.specs.Check.{TableReport}
 use Rattle.value.specs.Check.{ValueReport}
 use Rattle.value.specs.Part.{PartReport}
+use Rattle.quote.specs.declared.Quoted.{Quoted}
+use Rattle.quote.specs.Quote.{Quoting}
 use Rattle.judge.specs.Truth.{Truth, TRUE, FALSE, UNDEFINED}
 use Rattle.engine.specs.Answer.{Report}
 use Rattle.engine.specs.Listing.{ListReport, Listing}
@@ -42,20 +44,31 @@ ofPart r = record { answer = numbers (r .refusal) (length (r .octets)); octets =
 abbrev pub partSeen : List ℕ → ℕ → CAnswer → CPart
 partSeen value place a = record { answer = a; octets = part value place (a .count) }
 
--- ---- the listing: the count is the number of named values; with the lent memory afterwards
-pub record CListing : Type 0 where
+-- ---- an answer with the lent memory afterwards
+pub record CWritten : Type 0 where
   pub answer : CAnswer
   pub memory : List ℕ
 
+-- what a caller has of it
+abbrev pub writtenSeen : CAnswer → List ℕ → CWritten
+writtenSeen a memory = record { answer = a; memory = memory }
+
+-- the listing: the count is the number of named values
 abbrev pub ofListed : ListReport → CAnswer
 ofListed r = numbers (r .refusal) (r .count)
 
-abbrev pub ofListing : Listing → CListing
-ofListing l = record { answer = ofListed (l .report); memory = l .memory }
+abbrev pub ofListing : Listing → CWritten
+ofListing l = writtenSeen (ofListed (l .report)) (l .memory)
 
--- what a caller has of it
-abbrev pub listSeen : CAnswer → List ℕ → CListing
-listSeen a memory = record { answer = a; memory = memory }
+-- the quoted form of a text: the count is the octets written
+abbrev pub ofQuoted : Quoted → CAnswer
+ofQuoted (Quoted.Written n) = numbers 0 n
+ofQuoted Quoted.Empty = numbers 32 0
+ofQuoted Quoted.NotUtf8 = numbers 33 0
+ofQuoted Quoted.TooLittleRoom = numbers 34 0
+
+abbrev pub ofQuoting : Quoting → CWritten
+ofQuoting q = writtenSeen (ofQuoted (q .answer)) (q .memory)
 
 -- ---- the answer to a filter: the count is the tests made
 abbrev pub truthNumber : ℕ → Option Truth → ℕ

@@ -1,18 +1,21 @@
-// The five entries for programs in other languages, as include/tezqulom.h declares them. A slice is a pointer and a length.
+// The five entries and `quote` for programs in other languages, as include/tezqulom.h declares them. A slice is a pointer and a length.
 use engine::Answer;
 use engine::Listed;
+use quote::Quoted;
 use table::TableCheck;
 use value::ValueCheck;
 ghost use mathlib.Core.Path.{_≡_};
 ghost use Rattle.table.specs.Check as tables;
 ghost use Rattle.value.specs.Check as values;
 ghost use Rattle.value.specs.Part.{partReport};
+ghost use Rattle.quote.specs.Quote.{quotedReport};
 ghost use Rattle.engine.specs.Answer as answer;
 ghost use Rattle.engine.specs.Listing as listing;
 ghost use Rattle.engine.specs.Paper.{limits};
-ghost use Rattle.capi.specs.Numbers.{isSet, numbers, ofTable, ofValue, ofPart, partSeen, ofListed, ofListing, listSeen, ofReport};
+ghost use Rattle.capi.specs.Numbers.{isSet, numbers, ofTable, ofValue, ofPart, partSeen, ofListed, ofListing, writtenSeen, ofQuoted, ofQuoting, ofReport};
 
-// An answer as two numbers: what it is (0 done, a refusal by its number, 16 FALSE, 17 TRUE, 18 Undefined), and a count, which is 0 with a refusal.
+// An answer as two numbers: what it is (0 done, a refusal by its number, 16 FALSE, 17 TRUE, 18 Undefined, 32 to 34 nothing quoted), and a count, which
+// is 0 with a refusal and where nothing is quoted.
 #[repr(C)]
 pub struct CAnswer {
     pub number: u64,
@@ -52,6 +55,17 @@ fn of_listed(a: Listed) -> CAnswer
     match a {
         Listed::Values(n) => CAnswer::of(0, n as u64),
         Listed::Refused(n) => CAnswer::of(n as u64, 0),
+    }
+}
+
+fn of_quoted(a: Quoted) -> CAnswer
+    ensures { λ r. ⌜ r ≡ ofQuoted a ⌝ }
+{
+    match a {
+        Quoted::Written(n) => CAnswer::of(0, n as u64),
+        Quoted::Empty => CAnswer::of(32, 0),
+        Quoted::NotUtf8 => CAnswer::of(33, 0),
+        Quoted::TooLittleRoom => CAnswer::of(34, 0),
     }
 }
 
@@ -99,7 +113,7 @@ pub extern "C" fn tezqulom_list(
     defaults: u64,
     room: &mut [u64],
 ) -> CAnswer
-    ensures { λ r. ⌜ listSeen r (now (room .exit))
+    ensures { λ r. ⌜ writtenSeen r (now (room .exit))
         ≡ ofListing (listing.listReport limits (now (table .entry)) (now (value .entry)) (isSet given) (now (reference .entry)) (isSet defaults)
         (now (room .entry))) ⌝ }
 {
@@ -111,4 +125,12 @@ pub extern "C" fn tezqulom_ask(table: &[u8], value: &[u8], filter: &[u8], budget
     ensures { λ r. ⌜ r ≡ ofReport (answer.askReport limits (now (table .entry)) (now (value .entry)) (now (filter .entry)) budget) ⌝ }
 {
     of_answer(engine::ask(table, value, filter, budget))
+}
+
+// ---- what filters are made with
+#[no_mangle]
+pub extern "C" fn tezqulom_quote(text: &[u8], room: &mut [u8]) -> CAnswer
+    ensures { λ r. ⌜ writtenSeen r (now (room .exit)) ≡ ofQuoting (quotedReport (now (text .entry)) (now (room .entry))) ⌝ }
+{
+    of_quoted(quote::quote(text, room))
 }
