@@ -7,7 +7,7 @@
  * Every function takes any octets and any numbers, and answers for all of them: nothing has to be checked first. As for every C function, a pointer
  * and the length after it are memory that may be read (for `room`: written) for the whole call; where the length is 0 nothing is read, and the
  * pointer may be any. `room` shares no memory with the other arguments. Nothing is allocated, nothing is kept between calls, and only
- * tezqulom_list writes, into `room` alone. So calls may run on several threads at once.
+ * tezqulom_list and tezqulom_quote write, into `room` alone. So calls may run on several threads at once.
  */
 #ifndef TEZQULOM_H
 #define TEZQULOM_H
@@ -58,9 +58,9 @@ extern "C" {
 #endif
 #endif
 
-/* What an answer's `number` is: done, a refusal by its number, or, from tezqulom_ask alone, a truth. */
+/* What an answer's `number` is: done, a refusal by its number, from tezqulom_ask alone a truth, or from tezqulom_quote alone why nothing is quoted. */
 enum {
-    TEZQULOM_DONE = 0,          /* admitted, good, listed, a part */
+    TEZQULOM_DONE = 0,          /* admitted, good, listed, a part, quoted */
     TEZQULOM_REFUSED_SIZE = 1,  /* a size or the budget is not within its limits */
     TEZQULOM_REFUSED_TABLE = 2, /* the table is not admitted */
     TEZQULOM_REFUSED_FORM = 3,  /* the filter is not of the form, or over depth or items; a listing's reference is malformed or not allowed */
@@ -70,15 +70,13 @@ enum {
     TEZQULOM_REFUSED_WALK = 7,  /* a header on the way along a reference doesn't fit */
     TEZQULOM_FALSE = 16,
     TEZQULOM_TRUE = 17,
-    TEZQULOM_UNDEFINED = 18
+    TEZQULOM_UNDEFINED = 18,
+    TEZQULOM_QUOTE_EMPTY = 32,  /* the text is empty */
+    TEZQULOM_QUOTE_UTF8 = 33,   /* the text is not valid UTF-8 */
+    TEZQULOM_QUOTE_ROOM = 34    /* the room is under the octets of the quoted text */
 };
 
-/* Numbers for a text that can't be quoted. */
-#define TEZQULOM_QUOTE_EMPTY 32 /* the text is empty */
-#define TEZQULOM_QUOTE_UTF8 33  /* the text is not UTF-8 */
-#define TEZQULOM_QUOTE_ROOM 34  /* the room is too small for the quoted text */
-
-/* An answer: a number from above, and a count, which is 0 with a refusal. */
+/* An answer: a number from above, and a count, which is 0 with a refusal and where nothing is quoted. */
 typedef struct tezqulom_answer {
     uint64_t number;
     uint64_t count;
@@ -107,6 +105,10 @@ TEZQULOM_WARN_UNUSED tezqulom_answer tezqulom_list(const uint8_t *table, uint64_
  * or 7. */
 TEZQULOM_WARN_UNUSED tezqulom_answer tezqulom_ask(const uint8_t *table, uint64_t table_length, const uint8_t *value, uint64_t value_length,
                                                   const uint8_t *filter, uint64_t filter_length, uint64_t budget);
+
+/* A text as a filter's value text has it: between quotes, each quote of it twice. TEZQULOM_DONE with the number of octets, written from room[0] on; or
+ * TEZQULOM_QUOTE_EMPTY, _UTF8 or _ROOM with the room as it was. No text so quoted can end its item. Room of twice the text and 2 octets is enough. */
+TEZQULOM_WARN_UNUSED tezqulom_answer tezqulom_quote(const uint8_t *text, uint64_t text_length, uint8_t *room, uint64_t room_length);
 
 /* A sentence about an answer's number, in lower case and without a full stop, so that it can stand after a name and a colon; one for any other number
  * too. It is kept by the library, and is not to be written to. */

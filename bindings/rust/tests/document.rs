@@ -171,7 +171,7 @@ fn quotes() {
         assert_eq!(room, [7; 10]);
         let case = format!("case TEZQULOM_QUOTE_{why:?}:").to_uppercase().replacen("CASE", "case", 1);
         assert!(SENTENCES.contains(&format!("{case}\n        return \"{why}\";\n")), "{why}");
-        let define = format!("#define TEZQULOM_QUOTE_{why:?} {} ", why.number()).to_uppercase();
-        assert!(HEADER.to_uppercase().contains(&define), "{define}");
+        let named = format!("TEZQULOM_QUOTE_{why:?} = {}", why.number()).to_uppercase();
+        assert!(HEADER.contains(&named), "{named}");
     }
 }
