@@ -1,7 +1,8 @@
 /*
  * Tezqulom: component filters (RFC 3687) over DER records whose types are given by a table.
  *
- * Link with the archive libcapi.a, which `rt staticlib capi` writes (docs/BINDINGS.md).
+ * Link with -ltezqulom, which `bindings/install` installs, or with the archive libcapi.a, which `rt staticlib capi` writes, and bindings/c/text.c
+ * (docs/BINDINGS.md).
  *
  * Every function takes any octets and any numbers, and answers for all of them: nothing has to be checked first. As for every C function, a pointer
  * and the length after it are memory that may be read (for `room`: written) for the whole call; where the length is 0 nothing is read, and the
@@ -15,6 +16,46 @@
 
 #ifdef __cplusplus
 extern "C" {
+#endif
+
+/* This header's version. The text is that of the three numbers: "0.1.0". */
+#define TEZQULOM_VERSION_MAJOR 0
+#define TEZQULOM_VERSION_MINOR 1
+#define TEZQULOM_VERSION_PATCH 0
+#define TEZQULOM_VERSION                                                                                                                              \
+    TEZQULOM_DIGITS(TEZQULOM_VERSION_MAJOR) "." TEZQULOM_DIGITS(TEZQULOM_VERSION_MINOR) "." TEZQULOM_DIGITS(TEZQULOM_VERSION_PATCH)
+#define TEZQULOM_DIGITS(number) TEZQULOM_DIGITS_OF(number)
+#define TEZQULOM_DIGITS_OF(number) #number
+
+/* Limits. Beyond those of sizes and of the budget an input is refused 1. */
+#define TEZQULOM_MIN_TABLE 1        /* octets */
+#define TEZQULOM_MAX_TABLE 4992     /* octets */
+#define TEZQULOM_MIN_VALUE 2        /* octets */
+#define TEZQULOM_MAX_VALUE 4096     /* octets */
+#define TEZQULOM_MIN_FILTER 1       /* octets */
+#define TEZQULOM_MAX_FILTER 2048    /* octets */
+#define TEZQULOM_MAX_REFERENCE 2048 /* octets, of a listing's reference */
+#define TEZQULOM_MAX_BUDGET 65535   /* tests */
+
+/* Limits of what stands in a table, refused 2, and in a filter, refused 3. */
+#define TEZQULOM_MAX_ROWS 128   /* rows of a table */
+#define TEZQULOM_MAX_CHAIN 16   /* type rows, each naming the next as its element or as its member's type */
+#define TEZQULOM_MAX_MEMBERS 16 /* members of a SEQUENCE, alternatives of a CHOICE */
+#define TEZQULOM_MAX_NAME 24    /* octets of a member's name */
+#define TEZQULOM_MAX_DEPTH 16   /* of a filter */
+#define TEZQULOM_MAX_ITEMS 64   /* of a filter */
+
+/* Numbers of room that are enough for every listing of a value of so many octets, and of any value. */
+#define TEZQULOM_ROOM_FOR(octets) (((octets) < TEZQULOM_MAX_VALUE ? (octets) : TEZQULOM_MAX_VALUE) / 2 * 3)
+#define TEZQULOM_MAX_ROOM TEZQULOM_ROOM_FOR(TEZQULOM_MAX_VALUE)
+
+/* The compiler, where it can, warns of a call whose answer is not looked at. */
+#ifndef TEZQULOM_WARN_UNUSED
+#if defined(__GNUC__) || defined(__clang__)
+#define TEZQULOM_WARN_UNUSED __attribute__((__warn_unused_result__))
+#else
+#define TEZQULOM_WARN_UNUSED
+#endif
 #endif
 
 /* What an answer's `number` is: done, a refusal by its number, from tezqulom_ask alone a truth, or from tezqulom_quote alone why nothing is quoted. */
@@ -42,30 +83,36 @@ typedef struct tezqulom_answer {
 } tezqulom_answer;
 
 /* Whether a table is admitted: TEZQULOM_DONE with the number of its rows, or refusal 1 or 2. */
-tezqulom_answer tezqulom_check_table(const uint8_t *table, uint64_t table_length);
+TEZQULOM_WARN_UNUSED tezqulom_answer tezqulom_check_table(const uint8_t *table, uint64_t table_length);
 
 /* Whether a value is one of the type of the table's row 0: TEZQULOM_DONE with count 0, or refusal 1, 2 or 4. */
-tezqulom_answer tezqulom_check_value(const uint8_t *table, uint64_t table_length, const uint8_t *value, uint64_t value_length);
+TEZQULOM_WARN_UNUSED tezqulom_answer tezqulom_check_value(const uint8_t *table, uint64_t table_length, const uint8_t *value,
+                                                          uint64_t value_length);
 
 /* The octets of a stored value from a place on: TEZQULOM_DONE with their number, and they are value[place] to value[place + count - 1]; or refusal 1
  * or 4. */
-tezqulom_answer tezqulom_part(const uint8_t *value, uint64_t value_length, uint64_t place, uint64_t length);
+TEZQULOM_WARN_UNUSED tezqulom_answer tezqulom_part(const uint8_t *value, uint64_t value_length, uint64_t place, uint64_t length);
 
 /* What a component reference names: TEZQULOM_DONE with the number of named values, and three numbers for each from room[0] on (source, place,
  * number), by rising place; or refusal 1, 2, 3, 4, 6 or 7 with the room as it was. `given` 0: no reference, the whole value is named and `reference`
  * is not looked at; any other: the reference is the text without quotes. `defaults` 0: an absent member with a default names nothing; any other: it
  * names its default. `room_length` is in numbers. */
-tezqulom_answer tezqulom_list(const uint8_t *table, uint64_t table_length, const uint8_t *value, uint64_t value_length, uint64_t given,
-                              const uint8_t *reference, uint64_t reference_length, uint64_t defaults, uint64_t *room, uint64_t room_length);
+TEZQULOM_WARN_UNUSED tezqulom_answer tezqulom_list(const uint8_t *table, uint64_t table_length, const uint8_t *value, uint64_t value_length,
+                                                   uint64_t given, const uint8_t *reference, uint64_t reference_length, uint64_t defaults,
+                                                   uint64_t *room, uint64_t room_length);
 
 /* The truth of a filter over a value: TEZQULOM_TRUE, TEZQULOM_FALSE or TEZQULOM_UNDEFINED with the number of tests made, or refusal 1, 2, 3, 4, 5
  * or 7. */
-tezqulom_answer tezqulom_ask(const uint8_t *table, uint64_t table_length, const uint8_t *value, uint64_t value_length, const uint8_t *filter,
-                             uint64_t filter_length, uint64_t budget);
+TEZQULOM_WARN_UNUSED tezqulom_answer tezqulom_ask(const uint8_t *table, uint64_t table_length, const uint8_t *value, uint64_t value_length,
+                                                  const uint8_t *filter, uint64_t filter_length, uint64_t budget);
 
 /* A text as a filter's value text has it: between quotes, each quote of it twice. TEZQULOM_DONE with the number of octets, written from room[0] on; or
  * TEZQULOM_QUOTE_EMPTY, _UTF8 or _ROOM with the room as it was. No text so quoted can end its item. Room of twice the text and 2 octets is enough. */
-tezqulom_answer tezqulom_quote(const uint8_t *text, uint64_t text_length, uint8_t *room, uint64_t room_length);
+TEZQULOM_WARN_UNUSED tezqulom_answer tezqulom_quote(const uint8_t *text, uint64_t text_length, uint8_t *room, uint64_t room_length);
+
+/* A sentence about an answer's number, in lower case and without a full stop, so that it can stand after a name and a colon; one for any other number
+ * too. It is kept by the library, and is not to be written to. */
+TEZQULOM_WARN_UNUSED const char *tezqulom_text(uint64_t number);
 
 #ifdef __cplusplus
 }

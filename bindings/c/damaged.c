@@ -302,6 +302,7 @@ int main(int argc, char **argv)
         ask_all(files[0], below(4) ? files[1] : record, files[2], files[3]);
     }
     print_seen();
+    end_output();
     free(record.at);
     for (i = 0; i < 4; i++)
         free(files[i].at);

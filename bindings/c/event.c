@@ -3,10 +3,11 @@
  *
  *     event TABLE FILTER REFERENCE RECORD...
  *
- * TABLE and FILTER are files, and so is each RECORD, a stored value; REFERENCE is a text. For each record the program prints the
- * truth of the filter with the tests made, and what the reference names in it, with the octets of stored values. The last line says
- * what follows: a record that carries the event is there; none is, so a new one can be stored; or a person has to look, since an
- * answer is Undefined or a refusal.
+ * TABLE and FILTER are files, and so is each RECORD, a stored value; one of these may be - for standard input. REFERENCE is a text.
+ * For each record the program prints the truth of the filter with the tests made, and what the reference names in it, with the octets
+ * of stored values; for a refusal also, on standard error, the record's file and a sentence. The last line says what follows: a record
+ * that carries the event is there; none is, so a new one can be stored; or a person has to look, since an answer is Undefined or a
+ * refusal.
  */
 #include "file.h"
 #include "tezqulom.h"
@@ -15,15 +16,11 @@
 #include <stdlib.h>
 #include <string.h>
 
-enum { MOST_TESTS = 65535 };
-
 static const char *const sources[] = {"stored", "default", "count"};
 
-/* Three numbers for each named value: no two are at one place, and at each place are two octets at least. */
-static uint64_t room_for(uint64_t value_length)
+static void print_refusal(const char *name, const char *what, uint64_t number)
 {
-    uint64_t longest = 4096;
-    return (value_length < longest ? value_length : longest) / 2 * 3;
+    fprintf(stderr, "%s: %s refused %u: %s\n", name, what, (unsigned)number, tezqulom_text(number));
 }
 
 static void print_octets(struct octets value, uint64_t place, uint64_t length)
@@ -37,14 +34,16 @@ static void print_octets(struct octets value, uint64_t place, uint64_t length)
         printf("%02X", value.at[place + i]);
 }
 
-static void print_listing(struct octets table, struct octets value, const char *reference)
+static void print_listing(struct octets table, struct octets value, const char *reference, const char *name)
 {
-    uint64_t room_length = room_for(value.length), i;
+    uint64_t room_length = TEZQULOM_ROOM_FOR(value.length), i;
     uint64_t *room = block(room_length * sizeof *room);
     tezqulom_answer listed = tezqulom_list(table.at, table.length, value.at, value.length, 1, (const uint8_t *)reference,
                                            strlen(reference), 1, room, room_length);
-    if (listed.number != TEZQULOM_DONE)
+    if (listed.number != TEZQULOM_DONE) {
         printf("  refused %u\n", (unsigned)listed.number);
+        print_refusal(name, "listing", listed.number);
+    }
     for (i = 0; i < listed.count; i++) {
         const uint64_t *named = room + 3 * i;
         printf("  %s %u %u", sources[named[0]], (unsigned)named[1], (unsigned)named[2]);
@@ -55,7 +54,7 @@ static void print_listing(struct octets table, struct octets value, const char *
     free(room);
 }
 
-static void print_answer(tezqulom_answer answer)
+static void print_answer(tezqulom_answer answer, const char *name)
 {
     switch (answer.number) {
     case TEZQULOM_TRUE:
@@ -69,6 +68,7 @@ static void print_answer(tezqulom_answer answer)
         break;
     default:
         printf("REFUSED %u\n", (unsigned)answer.number);
+        print_refusal(name, "filter", answer.number);
     }
 }
 
@@ -85,9 +85,9 @@ int main(int argc, char **argv)
     for (i = 4; i < argc; i++) {
         struct octets value = read_file(argv[i]);
         tezqulom_answer answer =
-            tezqulom_ask(table.at, table.length, value.at, value.length, filter.at, filter.length, MOST_TESTS);
-        print_answer(answer);
-        print_listing(table, value, argv[3]);
+            tezqulom_ask(table.at, table.length, value.at, value.length, filter.at, filter.length, TEZQULOM_MAX_BUDGET);
+        print_answer(answer, argv[i]);
+        print_listing(table, value, argv[3], argv[i]);
         carried += answer.number == TEZQULOM_TRUE;
         open += answer.number != TEZQULOM_TRUE && answer.number != TEZQULOM_FALSE;
         free(value.at);
@@ -95,5 +95,6 @@ int main(int argc, char **argv)
     printf("%s\n", carried ? "carried" : open ? "for a person" : "new");
     free(table.at);
     free(filter.at);
+    end_output();
     return 0;
 }

@@ -1,7 +1,11 @@
 #include "file.h"
 
+#include <errno.h>
 #include <stdio.h>
 #include <stdlib.h>
+#include <string.h>
+
+enum { MOST = 65536 };
 
 static void end(const char *what, const char *why)
 {
@@ -17,19 +21,40 @@ void *block(uint64_t size)
     return at;
 }
 
+static FILE *open_file(const char *name)
+{
+    static int taken = 0;
+    FILE *file;
+    if (strcmp(name, "-") == 0) {
+        if (taken)
+            end(name, "standard input can be read only once");
+        taken = 1;
+        return stdin;
+    }
+    file = fopen(name, "rb");
+    if (file == NULL)
+        end(name, strerror(errno));
+    return file;
+}
+
 struct octets read_file(const char *name)
 {
-    struct octets read = {NULL, 0};
-    FILE *file = fopen(name, "rb");
-    long size;
-    if (file == NULL)
-        end(name, "cannot be opened");
-    if (fseek(file, 0, SEEK_END) != 0 || (size = ftell(file)) < 0 || fseek(file, 0, SEEK_SET) != 0)
-        end(name, "has no size");
-    read.length = (uint64_t)size;
+    static uint8_t all[MOST];
+    struct octets read;
+    FILE *file = open_file(name);
+    read.length = fread(all, 1, MOST, file);
+    if (ferror(file))
+        end(name, strerror(errno));
+    if (file != stdin)
+        fclose(file);
     read.at = block(read.length);
-    if (fread(read.at, 1, (size_t)size, file) != (size_t)size)
-        end(name, "cannot be read");
-    fclose(file);
+    if (read.length > 0)
+        memcpy(read.at, all, (size_t)read.length);
     return read;
+}
+
+void end_output(void)
+{
+    if (fflush(stdout) != 0 || ferror(stdout))
+        end("standard output", strerror(errno));
 }

@@ -170,7 +170,7 @@ class Header(unittest.TestCase):
              "uint64_t *": ctypes.POINTER(ctypes.c_uint64), "uint8_t *": ctypes.POINTER(ctypes.c_uint8)}
 
     def test_numbers(self):
-        numbers = {name: int(number) for name, number in re.findall(r"TEZQULOM_(\w+) = (\d+)", self.TEXT)}
+        numbers = {name: int(number) for name, number in re.findall(r"TEZQULOM_(\w+) = (\d+)", self.TEXT) if not name.startswith("QUOTE_")}
         ours = {"DONE": 0, **{truth.name: truth.value for truth in Truth}}
         ours.update(("REFUSED_" + refusal.name, refusal.value) for refusal in Refusal)
         ours.update(QUOTE_EMPTY=32, QUOTE_UTF8=33, QUOTE_ROOM=34)

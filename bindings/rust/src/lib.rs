@@ -26,18 +26,34 @@
 //!
 //! Only [`ask`] tells FALSE from Undefined: whoever stores a record where the answer is FALSE has to keep them
 //! apart.
+//!
+//! The crate needs no standard library. The feature `alloc` has [`listing`], which allocates; the feature `std`, a default
+//! one, has that too, and `std::error::Error` for [`Refusal`]. Where the archive that is linked has a function that
+//! quotes texts for filters, the crate has `quoted` and `quote_into`.
 
-#![deny(unsafe_op_in_unsafe_fn)]
+#![no_std]
+#![deny(missing_docs, unsafe_op_in_unsafe_fn)]
 
 #[cfg(not(target_pointer_width = "64"))]
 compile_error!("the interface's numbers are 64 bits wide, and so must usize be");
 
+#[cfg(feature = "alloc")]
+extern crate alloc;
+#[cfg(feature = "std")]
+extern crate std;
+
 mod answer;
 mod component;
+#[cfg(tezqulom_quote)]
+mod quote;
 mod raw;
 
 pub use answer::{Answer, Refusal, Truth};
 pub use component::{Component, Components};
+#[cfg(all(tezqulom_quote, feature = "alloc"))]
+pub use quote::quoted;
+#[cfg(tezqulom_quote)]
+pub use quote::{quote_into, NotQuoted};
 
 /// The largest budget.
 pub const MOST_TESTS: u64 = 65_535;
@@ -183,13 +199,14 @@ pub fn list_into<'r>(
 /// assert_eq!(listing(&[0x02], &value, None, true), Ok(vec![Component::Stored { place: 0, length: 3 }]));
 /// assert_eq!(listing(&[0x02], &value, Some(b"1"), true), Err(Refusal::Form)); // a position on an INTEGER
 /// ```
+#[cfg(feature = "alloc")]
 pub fn listing(
     table: &[u8],
     value: &[u8],
     reference: Option<&[u8]>,
     defaults: bool,
-) -> Result<Vec<Component>, Refusal> {
-    let mut room = vec![0; room_for(value.len())];
+) -> Result<alloc::vec::Vec<Component>, Refusal> {
+    let mut room = alloc::vec![0; room_for(value.len())];
     list_into(table, value, reference, defaults, &mut room).map(Iterator::collect)
 }
 

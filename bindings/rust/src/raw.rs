@@ -9,8 +9,8 @@ pub const UNDEFINED: u64 = 18;
 
 #[repr(C)]
 pub struct Answer {
-    number: u64,
-    count: u64,
+    pub number: u64,
+    pub count: u64,
 }
 
 impl Answer {
@@ -70,4 +70,7 @@ extern "C" {
         filter_length: u64,
         budget: u64,
     ) -> Answer;
+
+    #[cfg(tezqulom_quote)]
+    pub fn tezqulom_quote(text: *const u8, text_length: u64, room: *mut u8, room_length: u64) -> Answer;
 }

@@ -1,12 +1,14 @@
 //! Document 01's examples, and the numbers of the C header.
 
 use tezqulom::{
-    ask, check_table, check_value, list_into, listing, part, Answer, Component, Refusal, Truth, MOST_TESTS,
+    ask, check_table, check_value, list_into, listing, part, room_for, Answer, Component, Refusal, Truth,
+    MOST_TESTS,
 };
 
 const TABLE: &[u8] = include_bytes!("../../../crates/askvalue/data/table");
 const VALUE: &[u8] = include_bytes!("../../../crates/askvalue/data/value");
 const FILTER: &[u8] = include_bytes!("../../../crates/askvalue/data/filter");
+const SENTENCES: &str = include_str!("../../c/text.c");
 const HEADER: &str = include_str!("../../../include/tezqulom.h");
 const COPIES: Option<&[u8]> = Some(b"parts.*.copies");
 const UNWRITTEN: u64 = 9999;
@@ -105,17 +107,71 @@ fn large_numbers() {
     assert_eq!(ask(TABLE, VALUE, FILTER, u64::MAX), Err(Refusal::Size));
 }
 
-/// Each refusal of the header is one here under its number, and there is no other.
+/// The crate's version and the limits are the header's.
+#[test]
+fn version_and_limits() {
+    let defined = |name: &str| {
+        let define = format!("#define TEZQULOM_{name} ");
+        let line = HEADER.lines().find_map(|line| line.strip_prefix(&define)).expect(name);
+        line.split_whitespace().next().expect(name).to_string()
+    };
+    let version = ["MAJOR", "MINOR", "PATCH"].map(|part| defined(&format!("VERSION_{part}"))).join(".");
+    assert_eq!(version, env!("CARGO_PKG_VERSION"));
+    assert_eq!(defined("MAX_BUDGET"), MOST_TESTS.to_string());
+    assert_eq!(defined("MAX_VALUE"), "4096");
+    assert_eq!((room_for(4096), room_for(4097), room_for(9)), (6144, 6144, 12));
+}
+
+/// Refusals are errors of the standard library.
+#[cfg(feature = "std")]
+#[test]
+fn errors() {
+    let refused: Box<dyn std::error::Error> = check_table(&[]).unwrap_err().into();
+    assert_eq!(refused.to_string(), "refused 1: a size or the budget is not within its limits");
+}
+
+/// Each refusal of the header is one here under its number, and there is no other; the sentence is the C interface's.
 #[test]
 fn header() {
     let refusals: Vec<&str> = HEADER.lines().filter(|line| line.contains("TEZQULOM_REFUSED_")).collect();
     assert_eq!(refusals.len(), Refusal::ALL.len());
-    for (line, refusal) in refusals.iter().zip(Refusal::ALL) {
+    for (line, &refusal) in refusals.iter().zip(Refusal::ALL) {
         let named = format!("TEZQULOM_REFUSED_{refusal:?} = {},", refusal.number()).to_uppercase();
         assert!(line.contains(&named), "{named} in {line}");
         assert_eq!(Refusal::from_number(u64::from(refusal.number())), Some(refusal));
-        assert!(refusal.to_string().starts_with(&format!("refused {}: ", refusal.number())));
+        let sentence =
+            refusal.to_string().replacen(&format!("refused {}: ", refusal.number()), "return \"", 1);
+        let case = format!("case TEZQULOM_REFUSED_{refusal:?}:").to_uppercase().replacen("CASE", "case", 1);
+        assert!(SENTENCES.contains(&format!("{case}\n        {sentence}\";\n")), "{sentence}");
     }
     assert_eq!(Refusal::from_number(0), None);
     assert_eq!(Refusal::from_number(8), None);
+}
+
+/// Texts are quoted with each quote doubled, and with too little room nothing is written.
+#[cfg(tezqulom_quote)]
+#[test]
+fn quotes() {
+    use tezqulom::{quote_into, quoted, NotQuoted};
+    for text in ["e1", "\"", "\"\"", "a\"}", "é\u{1F600}", "\0", " ", &"\"".repeat(300)] {
+        let wanted = format!("\"{}\"", text.replace('"', "\"\""));
+        assert_eq!(quoted(text.as_bytes()).as_deref(), Ok(&wanted[..]));
+        let mut room = vec![7; wanted.len() + 3];
+        assert_eq!(quote_into(text.as_bytes(), &mut room), Ok(&wanted[..]));
+        assert_eq!(room[wanted.len()..], [7; 3]);
+        let mut room = vec![7; wanted.len() - 1];
+        assert_eq!(quote_into(text.as_bytes(), &mut room), Err(NotQuoted::Room));
+        assert!(room.iter().all(|&octet| octet == 7));
+    }
+    for (text, why) in [(&b""[..], NotQuoted::Empty), (b"a\xFF", NotQuoted::Utf8), (b"\xC3", NotQuoted::Utf8)]
+    {
+        let mut room = [7; 10];
+        assert_eq!(quote_into(text, &mut room), Err(why));
+        assert_eq!(quote_into(text, &mut []), Err(why));
+        assert_eq!(room, [7; 10]);
+        let case = format!("case TEZQULOM_QUOTE_{why:?}:").to_uppercase().replacen("CASE", "case", 1);
+        assert!(SENTENCES.contains(&format!("{case}\n        return \"{why}\";\n")), "{why}");
+        let named = format!("TEZQULOM_QUOTE_{why:?} = {}", why.number()).to_uppercase();
+        assert!(HEADER.contains(&named), "{named}");
+    }
 }

@@ -1,0 +1,170 @@
+/*
+ * What the header says beside its functions: the version, the limits and the sentences. The program checks that the engine has the limits
+ * where the header has them, prints the version and a sentence for each number, and ends with status 0, or 1 at the first check that
+ * fails.
+ */
+#include "file.h"
+#include "tezqulom.h"
+
+#include <stdio.h>
+#include <stdlib.h>
+#include <string.h>
+
+static const uint8_t integer[] = {0x02};          /* row 0: INTEGER */
+static const uint8_t five[] = {0x02, 0x01, 0x05}; /* 5 */
+static const char item[] = "item:{rule integerMatch,value 5}";
+
+static void check(int holds, const char *what)
+{
+    if (!holds) {
+        fprintf(stderr, "not so: %s\n", what);
+        exit(1);
+    }
+}
+
+/* The refusal of the entry `which` for an input of so many octets, or another answer's number. */
+static uint64_t sized(char which, uint64_t length)
+{
+    uint8_t *octets = block(length);
+    uint64_t number, room[3];
+    memset(octets, ' ', (size_t)length);
+    switch (which) {
+    case 't':
+        number = tezqulom_check_table(octets, length).number;
+        break;
+    case 'v':
+        number = tezqulom_check_value(integer, sizeof integer, octets, length).number;
+        break;
+    case 'f':
+        number = tezqulom_ask(integer, sizeof integer, five, sizeof five, octets, length, 0).number;
+        break;
+    default:
+        number = tezqulom_list(integer, sizeof integer, five, sizeof five, 1, octets, length, 0, room, 3).number;
+    }
+    free(octets);
+    return number;
+}
+
+static void check_sizes(char which, uint64_t least, uint64_t most, const char *what)
+{
+    if (least > 0)
+        check(sized(which, least - 1) == TEZQULOM_REFUSED_SIZE, what);
+    check(sized(which, least) != TEZQULOM_REFUSED_SIZE, what);
+    check(sized(which, most) != TEZQULOM_REFUSED_SIZE, what);
+    check(sized(which, most + 1) == TEZQULOM_REFUSED_SIZE, what);
+}
+
+static uint64_t asked(const char *filter, uint64_t budget)
+{
+    return tezqulom_ask(integer, sizeof integer, five, sizeof five, (const uint8_t *)filter, strlen(filter), budget).number;
+}
+
+/* A filter `before`, `count` times `one` with `between`, and `after`. */
+static uint64_t repeated(const char *before, const char *one, const char *between, int count, const char *after)
+{
+    char filter[TEZQULOM_MAX_FILTER + 1];
+    int i;
+    strcpy(filter, before);
+    for (i = 0; i < count; i++) {
+        check(strlen(filter) + strlen(one) + strlen(between) + strlen(after) <= TEZQULOM_MAX_FILTER, "a filter fits");
+        strcat(filter, i > 0 ? between : "");
+        strcat(filter, one);
+    }
+    strcat(filter, after);
+    return asked(filter, TEZQULOM_MAX_BUDGET);
+}
+
+static void check_filters(void)
+{
+    static const char shortest[] = "item:{rule 0.0,value 5}";
+    check(asked(item, TEZQULOM_MAX_BUDGET) == TEZQULOM_TRUE, "the largest budget");
+    check(asked(item, TEZQULOM_MAX_BUDGET + 1) == TEZQULOM_REFUSED_SIZE, "a larger budget");
+    check(repeated("and:{", shortest, ",", TEZQULOM_MAX_ITEMS, "}") == TEZQULOM_UNDEFINED, "the most items");
+    check(repeated("and:{", shortest, ",", TEZQULOM_MAX_ITEMS + 1, "}") == TEZQULOM_REFUSED_FORM, "more items");
+    check(repeated("", "not:", "", TEZQULOM_MAX_DEPTH - 1, item) == TEZQULOM_FALSE, "the deepest filter");
+    check(repeated("", "not:", "", TEZQULOM_MAX_DEPTH, item) == TEZQULOM_REFUSED_FORM, "a deeper filter");
+}
+
+/* A table of SEQUENCE OFs of the next row, the last row of INTEGER. */
+static uint64_t chained(int rows)
+{
+    uint8_t table[3 * 32];
+    int i;
+    for (i = 0; i < rows - 1; i++) {
+        table[3 * i] = 0x0E;
+        table[3 * i + 1] = 0;
+        table[3 * i + 2] = (uint8_t)(i + 1);
+    }
+    table[3 * i] = 0x02;
+    return tezqulom_check_table(table, (uint64_t)(3 * i + 1)).number;
+}
+
+/* A table of a SEQUENCE of so many INTEGERs with explicit tags. */
+static uint64_t with_members(int members)
+{
+    enum { MEMBER = 39 };
+    uint8_t table[2 + (TEZQULOM_MAX_MEMBERS + 1) * MEMBER + 1];
+    int i;
+    memset(table, 0, sizeof table);
+    table[0] = 0x0C;
+    table[1] = (uint8_t)members;
+    for (i = 0; i < members; i++) {
+        uint8_t *row = table + 2 + i * MEMBER, *after = row + 1 + TEZQULOM_MAX_NAME;
+        row[0] = 0x10;
+        row[1] = (uint8_t)('a' + i);
+        after[1] = (uint8_t)(members + 1);
+        after[2] = 1;
+        after[3] = (uint8_t)i;
+    }
+    table[2 + members * MEMBER] = 0x02;
+    return tezqulom_check_table(table, (uint64_t)(2 + members * MEMBER + 1)).number;
+}
+
+static void check_tables(void)
+{
+    uint8_t rows[TEZQULOM_MAX_ROWS + 1];
+    memset(rows, 0x02, sizeof rows);
+    check(tezqulom_check_table(rows, TEZQULOM_MAX_ROWS).count == TEZQULOM_MAX_ROWS, "the most rows");
+    check(tezqulom_check_table(rows, TEZQULOM_MAX_ROWS + 1).number == TEZQULOM_REFUSED_TABLE, "more rows");
+    check(chained(TEZQULOM_MAX_CHAIN) == TEZQULOM_DONE, "the longest chain");
+    check(chained(TEZQULOM_MAX_CHAIN + 1) == TEZQULOM_REFUSED_TABLE, "a longer chain");
+    check(with_members(TEZQULOM_MAX_MEMBERS) == TEZQULOM_DONE, "the most members");
+    check(with_members(TEZQULOM_MAX_MEMBERS + 1) == TEZQULOM_REFUSED_TABLE, "more members");
+}
+
+/* The longest value that names most: a list of NULLs. */
+static void check_room(void)
+{
+    static const uint8_t nulls[] = {0x0E, 0x00, 0x01, 0x04};
+    static const uint8_t head[] = {0x30, 0x82, 0x0F, 0xFC};
+    uint8_t value[TEZQULOM_MAX_VALUE];
+    uint64_t room[TEZQULOM_MAX_ROOM];
+    tezqulom_answer listed;
+    int i;
+    memcpy(value, head, sizeof head);
+    for (i = sizeof head; i < TEZQULOM_MAX_VALUE; i += 2) {
+        value[i] = 0x05;
+        value[i + 1] = 0x00;
+    }
+    listed = tezqulom_list(nulls, sizeof nulls, value, sizeof value, 1, (const uint8_t *)"*", 1, 0, room, TEZQULOM_MAX_ROOM);
+    check(listed.number == TEZQULOM_DONE && listed.count == (TEZQULOM_MAX_VALUE - sizeof head) / 2, "room for every element");
+}
+
+int main(void)
+{
+    uint64_t number;
+    check_sizes('t', TEZQULOM_MIN_TABLE, TEZQULOM_MAX_TABLE, "a table's sizes");
+    check_sizes('v', TEZQULOM_MIN_VALUE, TEZQULOM_MAX_VALUE, "a value's sizes");
+    check_sizes('f', TEZQULOM_MIN_FILTER, TEZQULOM_MAX_FILTER, "a filter's sizes");
+    check_sizes('r', 0, TEZQULOM_MAX_REFERENCE, "a reference's sizes");
+    check_filters();
+    check_tables();
+    check_room();
+    printf("version %s\n", TEZQULOM_VERSION);
+    for (number = 0; number < 64; number++)
+        if (strcmp(tezqulom_text(number), tezqulom_text(UINT64_MAX)) != 0)
+            printf("%u: %s\n", (unsigned)number, tezqulom_text(number));
+    printf("other: %s\n", tezqulom_text(UINT64_MAX));
+    end_output();
+    return 0;
+}
