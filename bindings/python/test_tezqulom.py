@@ -176,6 +176,7 @@ class Document(unittest.TestCase):
                 ("refused 3: the filter is not of the form, or too deep, or has too many items", tezqulom.ask, [LICENCE, RECORD, "x"]),
                 ("refused 3: the reference is malformed, or the table's type doesn't allow it", tezqulom.listing, [LICENCE, RECORD, "x"]),
                 ("refused 4: the value is not one of the table's type", tezqulom.check_value, [LICENCE, b"\x30\0"]),
+                ("refused 4: the value is not one of the table's type", tezqulom.listing, [LICENCE, b"\x30\0"]),
                 ("refused 4: the part passes the value's end", tezqulom.part, [RECORD, 22, 2]),
                 ("refused 5: the tests needed exceed the budget", tezqulom.ask, [LICENCE, RECORD, P1, 1])]:
             with self.assertRaises(Refused) as caught:
@@ -213,7 +214,7 @@ class Quoting(unittest.TestCase):
                "e1", " ", "é", "\0", "a" * 300, '"' * 300, "\U0001f600"]
 
     def test_texts(self):
-        print("\n  quoted is %s" % ("the library's" if tezqulom.quoted_by_library else "Python's: the library has no tezqulom_quote"))
+        print("\n  quoted is %s" % ("the library's" if tezqulom.quoted_by_library() else "Python's: the library has no tezqulom_quote"))
         for text in self.HOSTILE:
             self.assertEqual(quoted(text), '"%s"' % text.replace('"', '""'))
             self.assertEqual(tezqulom.engine._quoted_here(text.encode()).decode(), quoted(text))
@@ -268,7 +269,7 @@ class Library(unittest.TestCase):
                               cwd=pathlib.Path(__file__).parent, env=environment, text=True)
 
     def test_named(self):
-        self.assertEqual(self.load(library._name).stdout, "1\n")
+        self.assertEqual(self.load(library.file).stdout, "1\n")
 
     def test_missing(self):
         missing = self.load("/nowhere/lib.so")
@@ -294,7 +295,7 @@ class Header(unittest.TestCase):
         for entry in ("check_table", "check_value", "part", "list", "ask"):
             self.assertIn("tezqulom_" + entry, functions)
         for name, arguments in functions.items():
-            if name == "tezqulom_quote" and not tezqulom.quoted_by_library:
+            if name == "tezqulom_quote" and not tezqulom.quoted_by_library():
                 continue
             types = [self.TYPES[re.fullmatch(r"\s*(.*?)\w+", one).group(1)] for one in arguments.split(",")]
             self.assertEqual(getattr(library, name).argtypes, types, name)

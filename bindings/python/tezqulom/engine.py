@@ -2,7 +2,7 @@
 
 import ctypes
 import enum
-from typing import Any, Callable, List, NamedTuple, NoReturn, Optional, Sequence, Tuple, Union
+from typing import Any, Callable, List, Mapping, NamedTuple, NoReturn, Optional, Sequence, Tuple, Union
 
 from .library import CAnswer, library
 
@@ -61,8 +61,8 @@ _SENTENCES = {
     Refusal.ROOM: "the room is under three numbers for each named value",
     Refusal.WALK: "a header on the way along a reference doesn't fit",
 }
-_REFERENCE = "the reference is malformed, or the table's type doesn't allow it"
-_PART = "the part passes the value's end"
+_REFERENCE = {Refusal.FORM: "the reference is malformed, or the table's type doesn't allow it"}
+_PART = {Refusal.VALUE: "the part passes the value's end"}
 
 
 class Refused(Exception):
@@ -163,18 +163,17 @@ def _sizes(table: Optional[int] = None, value: Optional[int] = None, text: Optio
     return "the budget is %d, above %d" % (budget, MOST_TESTS) if budget > MOST_TESTS else None
 
 
-def _accepted(answer: CAnswer, sizes: Callable[[], Optional[str]], sentence: Optional[str] = None) -> CAnswer:
-    """The answer, where it is no refusal; the sentence is that of a refusal other than 1 which needs its own."""
+def _accepted(answer: CAnswer, sizes: Callable[[], Optional[str]], own: Mapping[Refusal, str] = _SENTENCES) -> CAnswer:
+    """The answer, where it is no refusal; `own` are sentences of the entry's own."""
     if Refusal.SIZE <= answer.number <= Refusal.WALK:
         refusal = Refusal(answer.number)
-        own = sentence if refusal in (Refusal.FORM, Refusal.VALUE) else None
-        raise Refused(refusal, sizes() if refusal is Refusal.SIZE else own)
+        raise Refused(refusal, sizes() if refusal is Refusal.SIZE else own.get(refusal))
     return answer
 
 
-def _done(answer: CAnswer, sizes: Callable[[], Optional[str]], sentence: Optional[str] = None) -> int:
+def _done(answer: CAnswer, sizes: Callable[[], Optional[str]], own: Mapping[Refusal, str] = _SENTENCES) -> int:
     """The count of an answer that is done or refused."""
-    if _accepted(answer, sizes, sentence).number != _DONE:
+    if _accepted(answer, sizes, own).number != _DONE:
         raise RuntimeError("the engine answered %d" % answer.number)
     return answer.count
 
@@ -311,8 +310,11 @@ class NotQuoted(ValueError):
 
 
 _QUOTE_SENTENCES = {32: "an empty text has no quoted form", 33: "the text is not UTF-8"}
-quoted_by_library = hasattr(library, "tezqulom_quote")
-"""Whether `quoted` asks the library. A library without tezqulom_quote has a function here in its place."""
+
+
+def quoted_by_library() -> bool:
+    """Whether `quoted` asks the library. A library without tezqulom_quote has a function here in its place."""
+    return hasattr(library, "tezqulom_quote")
 
 
 def quoted(text: Text) -> str:
@@ -322,7 +324,7 @@ def quoted(text: Text) -> str:
     '"say ""e1\"""'
     """
     octets, size = _text(text, "text")
-    written = _quoted_by_library(octets, size) if quoted_by_library else _quoted_here(octets)
+    written = _quoted_by_library(octets, size) if quoted_by_library() else _quoted_here(octets)
     return written.decode("utf-8")
 
 

@@ -3,10 +3,11 @@
 import ctypes
 import os
 import pathlib
-from typing import Iterator
+from typing import Any, Iterator
 
 VARIABLE = "TEZQULOM_LIBRARY"
 NAME = "libtezqulom.so"
+FUNCTIONS = tuple("tezqulom_" + name for name in ("check_table", "check_value", "part", "list", "ask", "quote"))
 
 
 class CAnswer(ctypes.Structure):
@@ -42,16 +43,33 @@ def load() -> ctypes.CDLL:
     """The library with its functions declared. `tezqulom_quote` is declared where the library has it."""
     number = [ctypes.c_uint64]
     octets, room = [ctypes.c_char_p] + number, [ctypes.POINTER(ctypes.c_uint64)] + number
-    loaded = ctypes.CDLL(file())
-    for name, arguments in (("check_table", octets), ("check_value", octets * 2), ("part", octets + number * 2),
-                            ("list", octets * 2 + number + octets + number + room), ("ask", octets * 3 + number),
-                            ("quote", octets + [ctypes.POINTER(ctypes.c_uint8)] + number)):
-        function = getattr(loaded, "tezqulom_" + name, None)
-        if function is None and name != "quote":
-            raise ImportError("%s has no tezqulom_%s" % (loaded._name, name))
+    try:
+        loaded = ctypes.CDLL(file())
+    except OSError as error:
+        raise ImportError("the library can't be loaded: %s" % error) from None
+    declared = (octets, octets * 2, octets + number * 2, octets * 2 + number + octets + number + room, octets * 3 + number,
+                octets + [ctypes.POINTER(ctypes.c_uint8)] + number)
+    for name, arguments in zip(FUNCTIONS, declared):
+        function = getattr(loaded, name, None)
+        if function is None and name != "tezqulom_quote":
+            raise ImportError("%s has no %s" % (loaded._name, name))
         if function is not None:
             function.argtypes, function.restype = arguments, CAnswer
     return loaded
 
 
-library = load()
+class Library:
+    """The library, loaded when a function is first asked for. An ImportError where there is none."""
+
+    def __getattr__(self, name: str) -> Any:
+        loaded = load()
+        for function in FUNCTIONS:
+            if hasattr(loaded, function):
+                self.__dict__[function] = getattr(loaded, function)
+        self.__dict__["file"] = loaded._name
+        if name not in self.__dict__:
+            raise AttributeError("%s has no %s" % (loaded._name, name))
+        return self.__dict__[name]
+
+
+library = Library()
