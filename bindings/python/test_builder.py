@@ -192,7 +192,7 @@ class Causes(unittest.TestCase):
             self.assertEqual(named, expected[node.source], node)
             for part in records.parts(table, value, node.reference or None):
                 tezqulom.check_value(part.table, part.octets)
-                self.assertEqual((part.kind, part.value if node.kind.basic else None), (node.kind, node.value))
+                self.assertEqual((part.kind, part.value if node.kind.basic else None, part.reference), (node.kind, node.value, node.reference))
             if node.elements is not None:
                 self.assertEqual(tezqulom.listing(table, value, (node.reference + ".0").lstrip(".")), [Count(node.place, node.elements)])
 
@@ -234,6 +234,16 @@ class Causes(unittest.TestCase):
             line, = filters.explain(LICENCE, RECORD, text)
             self.assertIs(line.truth, Truth.UNDEFINED)
             self.assertTrue(line.cause.startswith(cause), line.cause)
+
+    def test_exact(self):
+        for reference, exact in [("parts.*.copies", ["parts.1.copies", "parts.2.copies"]), ("parts.-1.name", ["parts.2.name"]), ("parts.0", ["parts.0"]),
+                                 ("parts.-2", ["parts.1"]), ("seats", ["seats"]), (None, [""]), ("parts.9", [])]:
+            self.assertEqual([part.reference for part in records.parts(LICENCE, RECORD, reference)], exact)
+        choice = build.build(build.SequenceOf(build.Choice(a=build.Choice(b=build.Sequence(n=build.Default(build.Integer(), 1))))))
+        value = bytes.fromhex("3007" "3000" "3003020105")
+        for reference, exact in [("*", ["1", "2"]), ("*.a", ["1.a", "2.a"]), ("*.a.b", ["1.a.b", "2.a.b"]), ("*.a.b.n", ["1.a.b.n", "2.a.b.n"])]:
+            self.assertEqual([part.reference for part in records.parts(choice, value, reference)], exact)
+            self.assertEqual([node.reference for node in records.tree(choice, value, reference) if node.depth == 0], exact)
 
     def test_each(self):
         more = 'not:item:{component "copies",rule integerOrderingMatch,value 3}'

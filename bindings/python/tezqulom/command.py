@@ -12,7 +12,7 @@ from . import billrun, builder, clauses, filters, records
 from .engine import MOST_TESTS, NotQuoted, Refusal, Refused, Truth, ask, asker, check_table, check_value, quoted
 from .inputs import NO_INPUT, USAGE, WRITE_ERROR, Input, Inputs, Stop
 from .rows import Table
-from .values import Kind, Plain, Time, gser, printable
+from .values import Plain, Time, gser, printable
 from .version import VERSION
 
 DONE, REFUSED = 0, 3
@@ -183,13 +183,14 @@ def list_(options: argparse.Namespace, inputs: Inputs) -> int:
 def part_json(part: records.Part) -> Dict[str, Any]:
     """A listed component for JSON."""
     named = part.component
-    return {"source": type(named).__name__.lower(), **named._asdict(), "kind": part.kind.asn1, "value": plain_json(part.value)}
+    return {"source": type(named).__name__.lower(), **named._asdict(), "reference": part.reference, "kind": part.kind.asn1, "value": plain_json(part.value)}
 
 
 def part_line(part: records.Part) -> str:
-    """A listed component in one line: source, place, number, kind, value."""
+    """A listed component in one line: source, place, number, reference, kind, value."""
     named = part.component
-    return "%s %d %d %s %s" % (type(named).__name__.lower(), *named, part.kind.asn1, gser(part.kind, part.value))
+    reference = part.reference + " " if part.reference else ""
+    return "%s %d %d %s%s %s" % (type(named).__name__.lower(), *named, reference, part.kind.asn1, gser(part.kind, part.value))
 
 
 def check(options: argparse.Namespace, inputs: Inputs) -> int:

@@ -92,33 +92,56 @@ class _Tree:
         return node._replace(source="default", value=self.table.default(member)) if member.body.presence == DEFAULT else node
 
 
+class _Named:
+    """What a reference names in a record, each with the reference of it alone."""
+
+    def __init__(self, table: Octets, value: Octets, reference: Optional[str], defaults: bool = True) -> None:
+        self.components = listing(table, value, reference, defaults)
+        self.table, self.octets, self.reference = Table(table), bytes(value), reference
+        self.found, self.row = _Tree(self.table, self.octets), self.table.reached(reference)
+        self.nodes = list(self.found.nodes(0, 0, 0, "", ""))
+        self.depth = 0 if reference is None else reference.count(".") + 1
+
+    def exact(self, one: Component) -> str:
+        """The reference that names this component alone: `*` and positions from the end are positions in it."""
+        if isinstance(one, Count):
+            return _joined(self.at("stored", one.place, self.depth - 1), "0")
+        if isinstance(one, Default):
+            return self.at("default", one.place, self.depth, self.table.rows[one.row].identifier)
+        return self.at("stored", one.place, self.depth)
+
+    def at(self, source: str, place: int, depth: int, name: Optional[str] = None) -> str:
+        """The reference of the node at a place and depth."""
+        return next(node.reference for node in self.nodes if (node.source, node.place, node.depth) == (source, place, depth) and name in (None, node.name))
+
+
 def tree(table: Octets, value: Octets, reference: Optional[str] = None) -> List[Node]:
     """The components of a record, or of what a reference names in it. Refused as a listing is."""
-    named = listing(table, value, reference)
-    rows = Table(table)
-    found, row = _Tree(rows, bytes(value)), rows.reached(reference)
-    shown: List[Node] = []
-    for one in named:
-        shown.extend(_named_nodes(found, one, row, reference or ""))
-    return shown
+    named = _Named(table, value, reference)
+    if reference is None:
+        return named.nodes
+    return [node for one in named.components for node in _named_nodes(named, one)]
 
 
-def _named_nodes(found: _Tree, one: Component, row: Optional[int], reference: str) -> Iterator[Node]:
+def _named_nodes(named: _Named, one: Component) -> Iterator[Node]:
     """The nodes of one listed component."""
+    exact = named.exact(one)
     if isinstance(one, Count):
-        yield Node(0, reference, reference, Kind.INTEGER, "count", one.place, 0, one.elements)
+        yield Node(0, exact, exact, Kind.INTEGER, "count", one.place, 0, one.elements)
     elif isinstance(one, Default):
-        node = found.absent(Member(one.row, found.table.rows[one.row]), one.place, 0, "")
-        yield node._replace(name=reference, reference=reference)
+        node = named.found.absent(Member(one.row, named.table.rows[one.row]), one.place, 0, "")
+        yield node._replace(name=exact, reference=exact)
     else:
-        assert row is not None
-        yield from found.nodes(row, one.place, 0, reference, reference)
+        assert named.row is not None
+        yield from named.found.nodes(named.row, one.place, 0, exact, exact)
 
 
 class Part(NamedTuple):
     """A listed component as a value of its own: the table of its type, and its octets with the type's own tag."""
 
     component: Component
+    reference: str
+    """The reference that names it alone; empty for the whole value."""
     kind: Kind
     table: bytes
     octets: bytes
@@ -131,21 +154,20 @@ class Part(NamedTuple):
 
 def parts(table: Octets, value: Octets, reference: Optional[str] = None, defaults: bool = True) -> List[Part]:
     """What a reference names, each as a value of its own. Refused as a listing is."""
-    named = listing(table, value, reference, defaults)
-    rows = Table(table)
-    row = rows.reached(reference)
-    return [_part(rows, bytes(value), one, row) for one in named]
+    named = _Named(table, value, reference, defaults)
+    return [_part(named, one) for one in named.components]
 
 
-def _part(rows: Table, value: bytes, one: Component, row: Optional[int]) -> Part:
+def _part(named: _Named, one: Component) -> Part:
+    exact, rows, row = named.exact(one), named.table, named.row
     if isinstance(one, Count):
-        return Part(one, Kind.INTEGER, bytes([Kind.INTEGER]), encoded(Kind.INTEGER.tag or 0, integer_contents(one.elements)))
+        return Part(one, exact, Kind.INTEGER, bytes([Kind.INTEGER]), encoded(Kind.INTEGER.tag or 0, integer_contents(one.elements)))
     if isinstance(one, Default):
         row = rows.to(one.row)
-        return Part(one, rows.kind(row), rows.after(row), rows.default_octets(Member(one.row, rows.rows[one.row])))
+        return Part(one, exact, rows.kind(row), rows.after(row), rows.default_octets(Member(one.row, rows.rows[one.row])))
     assert row is not None
-    octets, tag = part(value, one.place, one.length), rows.kind(row).tag
-    return Part(one, rows.kind(row), rows.after(row), octets if tag is None else bytes([tag]) + octets[1:])
+    octets, tag = part(named.octets, one.place, one.length), rows.kind(row).tag
+    return Part(one, exact, rows.kind(row), rows.after(row), octets if tag is None else bytes([tag]) + octets[1:])
 
 
 def each(table: Octets, value: Octets, reference: Optional[str], filter_text: Text) -> List[Tuple[Part, Answer]]:
