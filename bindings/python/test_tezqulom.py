@@ -4,8 +4,10 @@ import array
 import concurrent.futures
 import ctypes
 import doctest
+import multiprocessing
 import os
 import pathlib
+import pickle
 import re
 import subprocess
 import sys
@@ -13,7 +15,10 @@ import unittest
 from collections import Counter
 
 import tezqulom
-from tezqulom import Answer, Count, Default, Refusal, Refused, Stored, Truth
+import tezqulom.engine
+import tezqulom.values
+from tezqulom import Answer, Count, Default, Kind, Refusal, Refused, Stored, Time, Truth, quoted, value_of
+from tezqulom.library import library
 
 ROOT = pathlib.Path(__file__).resolve().parents[2]
 sys.path.insert(0, str(ROOT / "second"))
@@ -37,7 +42,8 @@ ANSWERS = {"table": ["admitted", "refused 1", "refused 2"],
 
 def load_tests(_loader, tests, _pattern):
     """The examples in the module's docstrings are tests too."""
-    tests.addTests(doctest.DocTestSuite(tezqulom))
+    for module in (tezqulom, tezqulom.engine, tezqulom.values):
+        tests.addTests(doctest.DocTestSuite(module))
     return tests
 
 
@@ -138,9 +144,118 @@ class Document(unittest.TestCase):
         self.refused(Refusal.FORM, tezqulom.listing, LICENCE, RECORD, "")
         self.refused(Refusal.ROOM, tezqulom.list_into, LICENCE, RECORD, None, True, array.array("Q"))
 
-    def test_truth_is_no_bool(self):
+    def test_no_bool(self):
         for truth in Truth:
             self.assertRaises(TypeError, bool, truth)
+            self.assertRaises(TypeError, bool, Answer(truth, 1))
+        with self.assertRaisesRegex(TypeError, "compare"):
+            if tezqulom.ask(LICENCE, RECORD, P1):
+                self.fail("an answer has a truth of its own")
+
+    def test_wrong_types(self):
+        for name, entry, inputs in [
+                ("table", tezqulom.check_table, [5]), ("table", tezqulom.check_table, ["text"]),
+                ("value", tezqulom.check_value, [LICENCE, None]), ("value", tezqulom.ask, [LICENCE, "30", P1]),
+                ("filter_text", tezqulom.ask, [LICENCE, RECORD, 7]), ("budget", tezqulom.ask, [LICENCE, RECORD, P1, "1"]),
+                ("budget", tezqulom.ask, [LICENCE, RECORD, P1, 1.0]), ("place", tezqulom.part, [RECORD, "0", 1]),
+                ("length", tezqulom.part, [RECORD, 0, None]), ("reference", tezqulom.listing, [LICENCE, RECORD, 1]),
+                ("room", tezqulom.list_into, [LICENCE, RECORD, None, True, 5]), ("text", quoted, [5])]:
+            with self.assertRaisesRegex(TypeError, "^%s: " % name):
+                entry(*inputs)
+        with self.assertRaisesRegex(ValueError, "^filter_text: "):
+            tezqulom.ask(LICENCE, RECORD, "\ud800")
+
+    def test_sentences(self):
+        for sentence, entry, inputs in [
+                ("refused 1: the table has 0 octets, not 1 to 4992", tezqulom.check_table, [b""]),
+                ("refused 1: the value has 1 octets, not 2 to 4096", tezqulom.check_value, [LICENCE, b"0"]),
+                ("refused 1: the filter has 0 octets, not 1 to 2048", tezqulom.ask, [LICENCE, RECORD, ""]),
+                ("refused 1: the budget is 65536, above 65535", tezqulom.ask, [LICENCE, RECORD, P1, 65536]),
+                ("refused 1: the reference has 2049 octets, not 0 to 2048", tezqulom.listing, [LICENCE, RECORD, "a" * 2049]),
+                ("refused 2: the table is not admitted", tezqulom.check_table, [b"\0"]),
+                ("refused 3: the filter is not of the form, or too deep, or has too many items", tezqulom.ask, [LICENCE, RECORD, "x"]),
+                ("refused 3: the reference is malformed, or the table's type doesn't allow it", tezqulom.listing, [LICENCE, RECORD, "x"]),
+                ("refused 4: the value is not one of the table's type", tezqulom.check_value, [LICENCE, b"\x30\0"]),
+                ("refused 4: the value is not one of the table's type", tezqulom.listing, [LICENCE, b"\x30\0"]),
+                ("refused 4: the part passes the value's end", tezqulom.part, [RECORD, 22, 2]),
+                ("refused 5: the tests needed exceed the budget", tezqulom.ask, [LICENCE, RECORD, P1, 1])]:
+            with self.assertRaises(Refused) as caught:
+                entry(*inputs)
+            self.assertEqual(str(caught.exception), sentence)
+
+
+def carried(record):
+    """Whether a record has a part with three copies: a worker's question."""
+    return tezqulom.ask(LICENCE, record, P1)
+
+
+class Processes(unittest.TestCase):
+    """Answers and refusals between processes."""
+
+    def test_pickling(self):
+        for kept in (Answer(Truth.TRUE, 2), Stored(1, 2), Default(1, 2), Count(1, 2), Truth.FALSE, Refusal.ROOM, Time(2024, 2, 29, 12, 0, 0)):
+            self.assertEqual(pickle.loads(pickle.dumps(kept)), kept)
+        for refusal in Refusal:
+            refused = pickle.loads(pickle.dumps(Refused(refusal, "a sentence")))
+            self.assertEqual((refused.refusal, str(refused)), (refusal, "refused %d: a sentence" % refusal))
+
+    def test_pool(self):
+        with multiprocessing.get_context("spawn").Pool(2) as pool:
+            self.assertEqual(pool.map(carried, [RECORD] * 3), [Answer(Truth.TRUE, 2)] * 3)
+            with self.assertRaises(Refused) as caught:
+                pool.map_async(carried, [RECORD, b"\x30\0", RECORD]).get(60)
+        self.assertIs(caught.exception.refusal, Refusal.VALUE)
+
+
+class Quoting(unittest.TestCase):
+    """Texts that are put into filters."""
+
+    HOSTILE = ['x"},item:{rule presentMatch,value NULL},item:{rule presentMatch,value "', '"', '""', "}", "{", '"}', "\\", "'",
+               "e1", " ", "é", "\0", "a" * 300, '"' * 300, "\U0001f600"]
+
+    def test_texts(self):
+        print("\n  quoted is %s" % ("the library's" if tezqulom.quoted_by_library() else "Python's: the library has no tezqulom_quote"))
+        for text in self.HOSTILE:
+            self.assertEqual(quoted(text), '"%s"' % text.replace('"', '""'))
+            self.assertEqual(tezqulom.engine._quoted_here(text.encode()).decode(), quoted(text))
+
+    def test_nothing_ends_its_item(self):
+        for text in self.HOSTILE:
+            record = bytes([12, 130, 1, 44]) + text.encode() if len(text) == 300 else bytes([12, len(text.encode())]) + text.encode()
+            found = "or:{%s,or:{}}" % tezqulom.item(None, "caseExactMatch", quoted(text))
+            self.assertEqual(tezqulom.ask(b"\x08", record, found), Answer(Truth.TRUE, 1), text)
+            self.assertEqual(tezqulom.ask(b"\x08", b"\x0c\2zz", found), Answer(Truth.FALSE, 1), text)
+            self.assertIn(tezqulom.ask(LICENCE, RECORD, tezqulom.item(text, "presentMatch", "NULL")).truth, (Truth.UNDEFINED, Truth.TRUE))
+
+    def test_no_quoted_form(self):
+        for text in ("", b"\xff", b"\xed\xa0\x80"):
+            self.assertRaises(tezqulom.NotQuoted, quoted, text)
+        self.assertRaises(ValueError, quoted, "\ud800")
+
+
+class Values(unittest.TestCase):
+    """What stored octets mean."""
+
+    def test_kinds(self):
+        for kind, octets, value in [
+                (Kind.BOOLEAN, "0101FF", True), (Kind.BOOLEAN, "010100", False), (Kind.INTEGER, "020105", 5), (Kind.INTEGER, "0201FF", -1),
+                (Kind.INTEGER, "02087FFFFFFFFFFFFFFF", 2 ** 63 - 1), (Kind.ENUMERATED, "0A0102", 2), (Kind.NULL, "0500", None),
+                (Kind.OBJECT_IDENTIFIER, "0603550403", "2.5.4.3"), (Kind.OBJECT_IDENTIFIER, "06058837030405", "2.999.3.4.5"),
+                (Kind.OBJECT_IDENTIFIER, "060100", "0.0"), (Kind.OBJECT_IDENTIFIER, "06012A", "1.2"),
+                (Kind.OCTET_STRING, "04020AFF", b"\x0a\xff"), (Kind.BIT_STRING, "030204A0", "1010"), (Kind.BIT_STRING, "030100", ""),
+                (Kind.BIT_STRING, "03020001", "00000001"),
+                (Kind.UTF8_STRING, "0C02C3A9", "é"), (Kind.PRINTABLE_STRING, "130141", "A"), (Kind.IA5_STRING, "160140", "@"),
+                (Kind.GENERALIZED_TIME, "180F" + b"20240229120060Z".hex(), Time(2024, 2, 29, 12, 0, 60)),
+                (Kind.GENERALIZED_TIME, "1811" + b"20240229120000.5Z".hex(), Time(2024, 2, 29, 12, 0, 0, 500000000)),
+                (Kind.SEQUENCE, "3000", b"\x30\0")]:
+            self.assertEqual(value_of(kind, bytes.fromhex(octets)), value)
+            self.assertEqual(value_of(kind, bytes.fromhex(octets)).__class__, value.__class__)
+        self.assertEqual(value_of(Kind.UTF8_STRING, b"\x0c\x81\x80" + b"a" * 128), "a" * 128)
+        self.assertEqual(value_of(Kind.OCTET_STRING, b"\x80\x82\1\0" + b"a" * 256), b"a" * 256)
+        for octets in ("", "02", "0200", "02020001", "0201", "02010505"):
+            self.assertRaises(ValueError, value_of, Kind.INTEGER, bytes.fromhex(octets))
+        self.assertEqual(Time(2024, 2, 29, 12, 0, 0, 500000000).datetime().isoformat(), "2024-02-29T12:00:00.500000+00:00")
+        self.assertRaises(ValueError, Time(2024, 2, 29, 12, 0, 60).datetime)
 
 
 class Library(unittest.TestCase):
@@ -154,7 +269,7 @@ class Library(unittest.TestCase):
                               cwd=pathlib.Path(__file__).parent, env=environment, text=True)
 
     def test_named(self):
-        self.assertEqual(self.load(tezqulom._library._name).stdout, "1\n")
+        self.assertEqual(self.load(library.file).stdout, "1\n")
 
     def test_missing(self):
         missing = self.load("/nowhere/lib.so")
@@ -177,11 +292,14 @@ class Header(unittest.TestCase):
         self.assertEqual(numbers, ours)
 
     def test_functions(self):
-        functions = re.findall(r"tezqulom_answer (tezqulom_\w+)\(([^)]*)\);", self.TEXT)
-        self.assertEqual(len(functions), 6)
-        for name, arguments in functions:
+        functions = dict(re.findall(r"tezqulom_answer (tezqulom_\w+)\(([^)]*)\)", self.TEXT))
+        for entry in ("check_table", "check_value", "part", "list", "ask"):
+            self.assertIn("tezqulom_" + entry, functions)
+        for name, arguments in functions.items():
+            if name == "tezqulom_quote" and not tezqulom.quoted_by_library():
+                continue
             types = [self.TYPES[re.fullmatch(r"\s*(.*?)\w+", one).group(1)] for one in arguments.split(",")]
-            self.assertEqual(getattr(tezqulom._library, name).argtypes, types, name)
+            self.assertEqual(getattr(library, name).argtypes, types, name)
 
 
 class Quote(unittest.TestCase):

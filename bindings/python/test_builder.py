@@ -1,0 +1,342 @@
+"""Tests of the table builder, of the causes of refusals and of the tree of a record, on cases that the second program draws."""
+
+import doctest
+import pathlib
+import subprocess
+import sys
+import tempfile
+import unittest
+
+import tezqulom
+import tezqulom.builder as build
+import tezqulom.inputs
+import tezqulom.rows
+from tezqulom import Count, Default, Kind, Refused, Stored, Truth, clauses, filters, records
+from tezqulom.rows import Table
+
+ROOT = pathlib.Path(__file__).resolve().parents[2]
+sys.path.insert(0, str(ROOT / "second"))
+
+import draw  # noqa: E402
+from samples import CLASSES, EXAMPLE, LICENCE, RECORD  # noqa: E402
+
+try:
+    from pyasn1.codec.der import encoder
+    from pyasn1.type import char, namedtype, tag, univ, useful
+except ImportError:
+    encoder = None
+
+DRAWN = 1500
+NOT_FOUND = "not found"
+
+
+def load_tests(_loader, tests, _pattern):
+    """The examples in the modules' docstrings are tests too."""
+    for module in (build, tezqulom.inputs, tezqulom.rows):
+        tests.addTests(doctest.DocTestSuite(module))
+    return tests
+
+
+def licence():
+    part = build.Sequence(name=build.PrintableString(), copies=build.Default(build.Implicit(0, build.Integer()), 1))
+    return build.Sequence(event=build.UTF8String(), seats=build.Default(build.Integer(), 1), parts=build.SequenceOf(part))
+
+
+class Descriptions(unittest.TestCase):
+    """Tables from descriptions."""
+
+    def test_tables(self):
+        self.assertEqual(build.build(licence()), LICENCE)
+        example = build.Sequence(
+            part1=build.Explicit(0, build.Integer()),
+            part2=build.Explicit(1, build.Sequence(option=build.PrintableString(), setting=build.Boolean())),
+            part3=build.Explicit(2, build.SetOf(build.ObjectIdentifier())),
+            part4=build.Explicit(3, build.Choice(eeny_meeny=build.BitString(), miney_mo=build.OctetString())))
+        self.assertEqual(Table(build.build(example)).text(), Table(EXAMPLE).text())
+        self.assertEqual(tezqulom.check_table(build.build(build.Sequence())), 1)
+
+    def test_defaults(self):
+        for kind, default, contents in [(build.Boolean(), True, b"\xff"), (build.Boolean(), False, b"\0"), (build.Integer(), -129, b"\xff\x7f"),
+                                        (build.Integer(), 2 ** 63 - 1, b"\x7f" + b"\xff" * 7), (build.Enumerated(), 128, b"\0\x80")]:
+            self.assertEqual(Table(build.build(build.Sequence(a=build.Default(kind, default)))).rows[1].default, contents)
+
+    def test_shared(self):
+        """A description of more than 128 rows is laid out with equal types once."""
+        one = build.Sequence({"n%d" % at: build.Sequence(x=build.Integer()) for at in range(3)})
+        table = build.build(build.Sequence({"m%d" % at: one for at in range(16)}))
+        self.assertEqual(tezqulom.check_table(table), 24)
+        self.assertIn("m1 SEQUENCE, as in line 2", Table(table).text())
+
+    def test_errors(self):
+        deep = build.Integer()
+        for _ in range(16):
+            deep = build.SequenceOf(deep)
+        many = {"m%d" % at: build.Integer() for at in range(17)}
+        for sentence, given in [
+                ("5 is no description", 5), ("a: 5 is no description", build.Sequence(a=5)), ("a.b: None is no description", build.Sequence(a=build.Sequence(b=None))),
+                ("a: the default of INTEGER is not 'x'", build.Sequence(a=build.Default(build.Integer(), "x"))),
+                ("a: the default of INTEGER is not True", build.Sequence(a=build.Default(build.Integer(), True))),
+                ("a: the default 9223372036854775808 has", build.Sequence(a=build.Default(build.Integer(), 2 ** 63))),
+                ("a: a default on UTF8String", build.Sequence(a=build.Default(build.UTF8String(), 1))),
+                ("A: its name is not", build.Sequence(A=build.Integer())), ("a-: its name is not", build.Sequence(a_=build.Integer())),
+                ("b: members a and b start with the same tag", build.Sequence(a=build.Optional(build.Integer()), b=build.Integer())),
+                ("CHOICE of 0 members", build.Choice()), ("SEQUENCE of 17 members", build.Sequence(many)),
+                ("q.c: an implicit tag on a CHOICE", build.Sequence(q=build.Sequence(c=build.Implicit(0, build.Choice(a=build.Null()))))),
+                ("tags and presence stand on members only", build.Optional(build.Integer())),
+                (r"\*: tags and presence stand on members only", build.SequenceOf(build.Explicit(1, build.Integer()))),
+                ("a: tag number 31, not 0 to 30", build.Sequence(a=build.Implicit(31, build.Integer()))),
+                ("a{25}: a name has at most 24 characters", build.Sequence({"a" * 25: build.Integer()})),
+                ("more than 16 types in one another", deep),
+                ("290 rows, more than 128", build.Sequence(
+                    {"m%d" % at: build.Sequence({"n%d-%d" % (at, of): build.Integer() for of in range(16)}) for at in range(16)}))]:
+            with self.assertRaisesRegex(build.TableError, sentence):
+                build.build(given)
+        self.assertRaises(build.TableError, build.Optional, build.Optional(build.Integer()))
+
+    def test_text(self):
+        self.assertEqual(Table(LICENCE).text().splitlines()[1:4], ["  event UTF8String", "  seats INTEGER DEFAULT 1", "  parts SEQUENCE OF"])
+        self.assertIn("mandatories [3] EXPLICIT SET OF OPTIONAL", Table(CLASSES).text())
+
+
+@unittest.skipIf(encoder is None, "pyasn1 is not installed")
+class Pyasn1(unittest.TestCase):
+    """Tables from pyasn1's classes, and records that pyasn1 encodes."""
+
+    @staticmethod
+    def sequence(*members):
+        return type("S", (univ.Sequence,), {"componentType": namedtype.NamedTypes(*members)})
+
+    def licence(self):
+        copies = univ.Integer(1).subtype(implicitTag=tag.Tag(tag.tagClassContext, tag.tagFormatSimple, 0))
+        part = self.sequence(namedtype.NamedType("name", char.PrintableString()), namedtype.DefaultedNamedType("copies", copies))
+        parts = type("P", (univ.SequenceOf,), {"componentType": part()})
+        return self.sequence(namedtype.NamedType("event", char.UTF8String()), namedtype.DefaultedNamedType("seats", univ.Integer(1)),
+                             namedtype.NamedType("parts", parts()))
+
+    def test_licence(self):
+        described = self.licence()
+        self.assertEqual(build.build(described), LICENCE)
+        self.assertEqual(build.build(described()), LICENCE)
+        record = described()
+        record["event"] = "e1"
+        for at, (name, copies) in enumerate((("Vl", None), ("Va", 3))):
+            record["parts"][at]["name"] = name
+            if copies is not None:
+                record["parts"][at]["copies"] = copies
+        self.assertEqual(encoder.encode(record), RECORD)
+
+    def test_marks(self):
+        def context(number):
+            return tag.Tag(tag.tagClassContext, tag.tagFormatConstructed, number)
+        choice = type("C", (univ.Choice,), {"componentType": namedtype.NamedTypes(
+            namedtype.NamedType("a", univ.Integer()), namedtype.NamedType("b", univ.Null().subtype(explicitTag=context(2))))})
+        described = self.sequence(namedtype.NamedType("c", choice()), namedtype.OptionalNamedType("d", choice().subtype(explicitTag=context(1))),
+                                  namedtype.DefaultedNamedType("e", univ.Boolean(True)), namedtype.OptionalNamedType("f", useful.GeneralizedTime()),
+                                  namedtype.OptionalNamedType("g", univ.Sequence().subtype(implicitTag=context(4))))
+        self.assertEqual(Table(build.build(described)).text().splitlines(), [
+            "SEQUENCE", "  c CHOICE", "    a INTEGER", "    b [2] EXPLICIT NULL", "  d [1] EXPLICIT CHOICE OPTIONAL", "    a INTEGER",
+            "    b [2] EXPLICIT NULL", "  e BOOLEAN DEFAULT TRUE", "  f GeneralizedTime OPTIONAL", "  g [4] IMPLICIT SEQUENCE OPTIONAL"])
+
+    def test_no_row(self):
+        application = tag.Tag(tag.tagClassApplication, tag.tagFormatSimple, 1)
+        for sentence, given in [("when: no row for UTCTime", useful.UTCTime()), ("when: no row for Any", univ.Any()), ("when: no row for Set", univ.Set()),
+                                ("when: no row for Real", univ.Real()), ("when: no row for NumericString", char.NumericString()),
+                                ("when: no row for the tags of Integer", univ.Integer().subtype(implicitTag=application))]:
+            with self.assertRaisesRegex(build.TableError, sentence):
+                build.build(self.sequence(namedtype.NamedType("when", given)))
+        with self.assertRaisesRegex(build.TableError, "stand on members only"):
+            build.build(univ.Integer().subtype(implicitTag=tag.Tag(tag.tagClassContext, tag.tagFormatSimple, 1)))
+        with self.assertRaisesRegex(build.TableError, "x: a default on UTF8String"):
+            build.build(self.sequence(namedtype.DefaultedNamedType("x", char.UTF8String("a"))))
+
+
+class Causes(unittest.TestCase):
+    """Why tables, values and filters are refused: a cause exactly where the engine refuses, and it is found."""
+
+    def drawn(self, entry, seed):
+        drawer = draw.CaseDrawer(seed, draw.SMALL)
+        cases = [drawer.of(entry) for _ in range(DRAWN)]
+        large = draw.CaseDrawer(seed + 1, draw.LARGE)
+        return cases + [large.of(entry) for _ in range(DRAWN // 20)]
+
+    def test_tables(self):
+        for case in self.drawn("table", 81):
+            cause = clauses.why_table(case.inputs[0])
+            self.assertEqual(cause is None, case.answer[0] == "admitted", case)
+            if cause is not None:
+                self.assertNotIn(NOT_FOUND, cause.sentence, case)
+                continue
+            table = Table(case.inputs[0])
+            for row in range(len(table.rows)):
+                if table.kind(row) is not Kind.MEMBER:
+                    self.assertEqual(tezqulom.check_table(table.after(row)), len(table.rows) - row)
+                    self.assertEqual(list(clauses._clauses(table.rows, row)), [])
+
+    def test_values(self):
+        for case in self.drawn("value", 83):
+            if case.answer[-1] in (1, 2):
+                self.assertRaises(Refused, records.why_value, *case.inputs)
+                continue
+            fault = records.why_value(*case.inputs)
+            self.assertEqual(fault is None, case.answer[0] == "good", case)
+            if fault is not None:
+                self.assertNotIn(NOT_FOUND, fault.sentence, case)
+            else:
+                self.compare_tree(*case.inputs)
+
+    def compare_tree(self, table, value):
+        """The tree's places are those of the engine's listing, and each part is a good value of its own."""
+        for node in records.tree(table, value):
+            named = tezqulom.listing(table, value, node.reference or None)
+            expected = {"stored": [Stored(node.place, node.length)], "default": [Default(node.place, named[0][1] if named else 0)], "absent": []}
+            self.assertEqual(named, expected[node.source], node)
+            for part in records.parts(table, value, node.reference or None):
+                tezqulom.check_value(part.table, part.octets)
+                self.assertEqual((part.kind, part.value if node.kind.basic else None, part.reference), (node.kind, node.value, node.reference))
+            if node.elements is not None:
+                self.assertEqual(tezqulom.listing(table, value, (node.reference + ".0").lstrip(".")), [Count(node.place, node.elements)])
+
+    def test_filters(self):
+        causes = set()
+        for case in self.drawn("ask", 85):
+            table, value, text, _ = case.inputs
+            if case.answer[:2] in (("refused", 1), ("refused", 2)):
+                continue
+            cause = filters.why_filter(table, text)
+            self.assertEqual(cause is not None, case.answer[:2] == ("refused", 3), case)
+            self.assertNotIn(NOT_FOUND, cause or "")
+            if case.answer[0] != "refused":
+                lines = filters.explain(table, value, text)
+                self.assertEqual(lines[0].truth.name, case.answer[1])
+                causes.update(line.cause.split('"')[0].split(" ")[1] + line.cause[-8:] for line in lines if line.cause)
+        self.assertGreaterEqual(len(causes), 4)
+
+    def test_sentences(self):
+        bad = bytes.fromhex("0202FF80")
+        table = build.build(build.Sequence(lines=build.SequenceOf(build.Sequence(cents=build.Integer()))))
+        lines = bytes.fromhex("3003020105") * 4 + b"\x30\x04" + bad
+        record = b"\x30" + bytes([len(lines) + 2]) + b"\x30" + bytes([len(lines)]) + lines
+        self.assertEqual(str(records.why_value(table, record)), "at octet 26, lines.5.cents: INTEGER with contents FF80")
+        stored = bytes.fromhex("3018") + RECORD[2:6] + b"\2\1\1" + RECORD[6:]
+        self.assertEqual(str(records.why_value(LICENCE, stored)), "at octet 6, seats: 1, the default, is stored; a default never is")
+        self.assertEqual(str(records.why_value(LICENCE, b"\x30\0")), "at octet 2, event: a mandatory member is missing: the SEQUENCE ends here")
+        self.assertEqual(str(clauses.why_table(LICENCE.replace(b"seats", b"Seats"))).split(",")[0], "row 2: member Seats: its name is not a lowercase letter")
+        self.assertIsNone(clauses.why_table(LICENCE))
+        self.assertIsNone(records.why_value(LICENCE, RECORD))
+
+    def test_undefined(self):
+        for cause, text in [('the reference "seat" is malformed', 'item:{component "seat",rule presentMatch,value NULL}'),
+                            ("the rule foo is unknown", "item:{rule foo,value NULL}"),
+                            ("the rule 1.2.3 is unknown", "item:{rule 1.2.3,value NULL}"),
+                            ("the rule integerMatch is not for the type there", 'item:{component "event",rule integerMatch,value 3}'),
+                            ("the value x doesn't conform", 'item:{component "seats",rule integerMatch,value x}'),
+                            ("the value null doesn't conform", "item:{rule presentMatch,value null}")]:
+            line, = filters.explain(LICENCE, RECORD, text)
+            self.assertIs(line.truth, Truth.UNDEFINED)
+            self.assertTrue(line.cause.startswith(cause), line.cause)
+
+    def test_exact(self):
+        for reference, exact in [("parts.*.copies", ["parts.1.copies", "parts.2.copies"]), ("parts.-1.name", ["parts.2.name"]), ("parts.0", ["parts.0"]),
+                                 ("parts.-2", ["parts.1"]), ("seats", ["seats"]), (None, [""]), ("parts.9", [])]:
+            self.assertEqual([part.reference for part in records.parts(LICENCE, RECORD, reference)], exact)
+        choice = build.build(build.SequenceOf(build.Choice(a=build.Choice(b=build.Sequence(n=build.Default(build.Integer(), 1))))))
+        value = bytes.fromhex("3007" "3000" "3003020105")
+        for reference, exact in [("*", ["1", "2"]), ("*.a", ["1.a", "2.a"]), ("*.a.b", ["1.a.b", "2.a.b"]), ("*.a.b.n", ["1.a.b.n", "2.a.b.n"])]:
+            self.assertEqual([part.reference for part in records.parts(choice, value, reference)], exact)
+            self.assertEqual([node.reference for node in records.tree(choice, value, reference) if node.depth == 0], exact)
+
+    def test_each(self):
+        more = 'not:item:{component "copies",rule integerOrderingMatch,value 3}'
+        self.assertEqual([answer.truth.name for _, answer in records.each(LICENCE, RECORD, "parts.*", more)], ["FALSE", "TRUE"])
+        three = "item:{rule integerMatch,value 3}"
+        self.assertEqual([answer.truth.name for _, answer in records.each(LICENCE, RECORD, "parts.*.copies", three)], ["FALSE", "TRUE"])
+        two = "item:{rule integerMatch,value 2}"
+        self.assertEqual([answer.truth.name for _, answer in records.each(LICENCE, RECORD, "parts.0", two)], ["TRUE"])
+
+
+class Openssl(unittest.TestCase):
+    """Records that openssl encodes, compared place by place with what it says of them."""
+
+    CONFIGURATION = """asn1=SEQUENCE:record
+[record]
+a=BOOL:TRUE
+b=INTEGER:-129
+c=ENUM:2
+d=NULL
+e=OID:2.5.4.3
+f=FORMAT:HEX,OCT:0AFF
+g=FORMAT:BITLIST,BITSTR:0,2,5
+h=UTF8:caf%s
+i=PRINTABLESTRING:%s
+j=IA5STRING:%s
+k=GENTIME:20240229120000Z
+l=EXPLICIT:1,INTEGER:7
+m=IMPLICIT:2,INTEGER:300
+n=SEQUENCE:list
+o=SET:set
+[list]
+1=SEQUENCE:one
+2=SEQUENCE:two
+[one]
+name=PRINTABLESTRING:Vl
+[two]
+name=PRINTABLESTRING:Va
+copies=IMPLICIT:0,INTEGER:3
+[set]
+1=INTEGER:1
+2=INTEGER:2
+""" % ("é", "P" * 130, "I" * 300)
+
+    @staticmethod
+    def table():
+        part = build.Sequence(name=build.PrintableString(), copies=build.Default(build.Implicit(0, build.Integer()), 1))
+        basic = [build.Boolean, build.Integer, build.Enumerated, build.Null, build.ObjectIdentifier, build.OctetString, build.BitString,
+                 build.UTF8String, build.PrintableString, build.IA5String, build.GeneralizedTime]
+        members = {name: one() for name, one in zip("abcdefghijk", basic)}
+        return build.build(build.Sequence(members, l=build.Explicit(1, build.Integer()), m=build.Implicit(2, build.Integer()),
+                                          n=build.SequenceOf(part), o=build.SetOf(build.Integer())))
+
+    def setUp(self):
+        try:
+            subprocess.run(["openssl", "version"], check=True, capture_output=True)
+        except OSError:
+            self.skipTest("openssl is not installed")
+
+    def test_places(self):
+        with tempfile.TemporaryDirectory() as folder:
+            configuration, der = pathlib.Path(folder, "conf"), pathlib.Path(folder, "der")
+            configuration.write_text(self.CONFIGURATION, encoding="utf-8")
+            subprocess.run(["openssl", "asn1parse", "-genconf", configuration, "-noout", "-out", der], check=True, capture_output=True)
+            record = der.read_bytes()
+        self.compare(self.table(), record)
+
+    @unittest.skipIf(encoder is None, "pyasn1 is not installed")
+    def test_places_of_pyasn1(self):
+        record = Pyasn1().licence()()
+        record["event"], record["seats"] = "é" * 100, 70000
+        for at in range(40):
+            record["parts"][at]["name"] = "part %d" % at
+            record["parts"][at]["copies"] = at % 3
+        self.compare(LICENCE, encoder.encode(record))
+
+    def compare(self, table, record):
+        """Each stored component is where openssl has it; openssl has explicit wrappers besides."""
+        tezqulom.check_value(table, record)
+        said = subprocess.run(["openssl", "asn1parse", "-inform", "DER"], input=record, check=True, capture_output=True).stdout.decode("utf-8", "replace")
+        found = {}
+        for line in said.splitlines():
+            place, _, rest = line.partition(":d=")
+            fields = rest.replace("hl=", " ").replace("l=", " ").split()
+            found[int(place)] = (int(fields[1]) + int(fields[2]), "cont [" in rest and "cons" in rest, rest)
+        stored = {node.place: node for node in records.tree(table, record) if node.source == "stored"}
+        for place, node in stored.items():
+            self.assertEqual(found[place][0], node.length, node)
+            if node.kind is Kind.INTEGER and ":-" not in found[place][2] and "cont" not in found[place][2]:
+                self.assertEqual(int(found[place][2].rsplit(":", 1)[1], 16), node.value)
+            if node.kind in (Kind.PRINTABLE_STRING, Kind.IA5_STRING):
+                self.assertTrue(found[place][2].endswith(":" + node.value), node)
+        self.assertTrue(all(found[place][1] for place in set(found) - set(stored)))
+
+
+if __name__ == "__main__":
+    unittest.main()

@@ -1,0 +1,308 @@
+"""Tests of the command: each exit status, broken inputs, closed outputs, the bill run."""
+
+import base64
+import json
+import os
+import pathlib
+import resource
+import shutil
+import sqlite3
+import subprocess
+import sys
+import tempfile
+import unittest
+
+import tezqulom
+from tezqulom import command, inputs
+from tezqulom.library import library
+from tezqulom.values import encoded
+
+ROOT = pathlib.Path(__file__).resolve().parents[2]
+sys.path.insert(0, str(ROOT / "second"))
+
+from samples import LICENCE, RECORD  # noqa: E402
+
+TRUE = 'item:{component "parts.*.copies",rule integerMatch,value 3}'
+FALSE = 'item:{component "parts.*.copies",rule integerMatch,value 7}'
+UNDEFINED = 'item:{component "event",rule integerMatch,value 3}'
+MANY, SECONDS = 40000, 2.5
+
+
+def licence(event, copies):
+    """A licence record, with a part for each number of copies."""
+    parts = b"".join(encoded(0x30, encoded(0x13, b"Vl") + (b"" if one == 1 else encoded(0x80, bytes([one])))) for one in copies)
+    return encoded(0x30, encoded(0x0C, event.encode()) + encoded(0x30, parts))
+
+
+class Command(unittest.TestCase):
+    """A folder with a table and a record, in which the command runs."""
+
+    def setUp(self):
+        self.folder = pathlib.Path(tempfile.mkdtemp())
+        self.addCleanup(shutil.rmtree, self.folder)
+        for name, octets in (("table", LICENCE), ("record", RECORD), ("filter", TRUE.encode() + b"\n"), ("bad", RECORD[:-1]), ("badtable", b"\0")):
+            (self.folder / name).write_bytes(octets)
+
+    def run_(self, *arguments, stdin=b"", **more):
+        environment = {**os.environ, "TEZQULOM_LIBRARY": library.file, **more.pop("env", {})}
+        return subprocess.run([sys.executable, "-B", ROOT / "bindings" / "tezqulom", *arguments], check=False, cwd=self.folder, env=environment,
+                              input=stdin, stdout=more.pop("stdout", subprocess.PIPE), stderr=subprocess.PIPE, timeout=60, **more)
+
+    def gives(self, status, out, *arguments, error="", **more):
+        """The status, the output and the start of the message."""
+        done = self.run_(*arguments, **more)
+        said, message = done.stdout.decode(), done.stderr.decode()
+        self.assertEqual((done.returncode, said if isinstance(out, str) else None), (status, out), (arguments, message))
+        self.assertTrue(message.startswith("tezqulom: " + error) if error else not message, message)
+        self.assertNotIn("Traceback", message)
+        return said
+
+
+class Statuses(Command):
+    """Each exit status, and what is said with it."""
+
+    def test_truths(self):
+        self.gives(0, "TRUE 2\n", "ask", "table", "record", TRUE)
+        self.gives(1, "FALSE 2\n", "ask", "table", "record", FALSE)
+        self.gives(2, "UNDEFINED 0\n", "ask", "table", "record", UNDEFINED)
+        self.gives(0, "TRUE 2\n", "ask", "table", "record", "filter")
+        for text, status in ((TRUE, 0), (FALSE, 1), (UNDEFINED, 2)):
+            self.gives(status, None, "explain", "table", "record", text)
+
+    def test_done(self):
+        self.gives(0, "table: admitted, 12 rows\nrecord: good\n", "check", "table", "record")
+        self.gives(0, "table: admitted, 12 rows\n", "check", "table")
+        self.gives(0, "default 8 9 parts.1.copies INTEGER 1\nstored 20 3 parts.2.copies INTEGER 3\n", "list", "table", "record", "parts.*.copies")
+        self.gives(0, "stored 20 3 parts.2.copies INTEGER 3\n", "list", "table", "record", "parts.*.copies", "--no-defaults")
+        self.gives(0, "count 6 2 parts.0 INTEGER 2\n", "list", "table", "record", "parts.0")
+        self.gives(0, "       seats INTEGER 1 (default)\n", "show", "table", "record", "seats")
+        self.gives(0, "", "show", "table", "record", "parts.3")
+        self.gives(0, "FALSE 1  default 8 9 parts.1.copies INTEGER 1\nTRUE 1  stored 20 3 parts.2.copies INTEGER 3\n", "each", "table", "record", "parts.*.copies",
+                   "item:{rule integerMatch,value 3}")
+        self.gives(0, "nothing is refused\n", "why", "table", "record", TRUE)
+        self.gives(0, '"a""b"\n', "quote", 'a"b')
+        self.gives(0, "tezqulom %s\n" % tezqulom.__version__, "--version")
+        self.assertIn("Exit status", self.gives(0, None, "--help"))
+        for name in ("show", "ask", "list", "check", "why", "explain", "each", "run", "table", "quote"):
+            self.assertIn("usage: tezqulom " + name, self.gives(0, None, name, "--help"))
+
+    def test_show(self):
+        self.assertEqual(self.gives(0, None, "show", "table", "record").splitlines(), [
+            "    0  SEQUENCE", '    2    event UTF8String "e1"', "         seats INTEGER 1 (default)", "    6    parts SEQUENCE OF, 2 elements",
+            "    8      1 SEQUENCE", '   10        name PrintableString "Vl"', "             copies INTEGER 1 (default)", "   14      2 SEQUENCE",
+            '   16        name PrintableString "Va"', "   20        copies INTEGER 3"])
+
+    def test_refused(self):
+        four = "bad: refused 4: the value is not one of the table's type: at octet 0: length 21 passes the enclosing end by 1 octets\n"
+        for arguments in (["ask", "table", "bad", TRUE], ["show", "table", "bad"], ["list", "table", "bad"], ["check", "table", "bad"],
+                          ["explain", "table", "bad", TRUE], ["each", "table", "bad", "parts.*", TRUE]):
+            self.gives(3, "REFUSED 4\n", *arguments, error=four)
+        self.gives(3, four, "why", "table", "bad")
+        two = "badtable: refused 2: the table is not admitted: row 0: at octet 0: there is no kind 0\n"
+        self.gives(3, "REFUSED 2\n", "ask", "badtable", "record", TRUE, error=two)
+        self.gives(3, "REFUSED 2\n", "run", "badtable", TRUE, "record", error=two)
+        self.gives(3, "REFUSED 2\n", "table", "--show", "badtable", error=two)
+        self.gives(3, two, "why", "badtable")
+        three = "refused 3: the filter is not of the form, or too deep, or has too many items: at character 6: an opening brace is needed\n"
+        self.gives(3, "REFUSED 3\n", "ask", "table", "record", "item:x", error="the filter: " + three)
+        self.gives(3, "REFUSED 3\n", "run", "table", "item:x", "record", error="the filter: " + three)
+        self.gives(3, "REFUSED 3\n", "each", "table", "record", "parts.*", "item:x", error="the filter: " + three)
+        self.gives(3, "REFUSED 3\n", "list", "table", "record", "seat", error="the reference: refused 3: the reference is malformed")
+        self.gives(3, "REFUSED 3\n", "list", "table", "record", "", error="the reference: refused 3: the reference is malformed")
+        self.gives(3, "REFUSED 5\n", "ask", "table", "record", TRUE, "--budget", "1", error="the filter: refused 5: the tests needed exceed the budget")
+        self.gives(3, "REFUSED 1\n", "ask", "table", "record", TRUE, "--budget", "65536", error="the filter: refused 1: the budget is 65536")
+
+    def test_sizes(self):
+        (self.folder / "empty").write_bytes(b"")
+        self.gives(3, "REFUSED 1\n", "check", "empty", error="empty: refused 1: the table has 0 octets, not 1 to 4992")
+        self.gives(3, "REFUSED 1\n", "check", "table", "empty", error="empty: refused 1: the value has 0 octets, not 2 to 4096")
+        self.gives(3, "REFUSED 1\n", "ask", "table", "record", "empty", error="empty: refused 1: the filter has 0 octets, not 1 to 2048")
+        self.gives(3, "REFUSED 1\n", "run", "table", "empty", "record", error="empty: refused 1")
+
+    def test_usage(self):
+        for arguments in ([], ["foo"], ["ask"], ["ask", "table", "record"], ["ask", "table", "record", TRUE, "x"], ["--foo"],
+                          ["ask", "table", "record", TRUE, "--budget", "x"], ["ask", "table", "record", TRUE, "--budget", "-1"],
+                          ["check", "-", "-"], ["run", "table", TRUE], ["run", "table", TRUE, "record", "--sqlite", "db", "select 1"], ["table"],
+                          ["table", "a.py", "--show", "table"], ["run", "table", TRUE, "record", "--undefined", "x", "--refused", "x"], ["quote", ""]):
+            done = self.run_(*arguments, stdin=LICENCE)
+            self.assertEqual((done.returncode, done.stdout), (64, b""), arguments)
+            self.assertTrue(done.stderr.startswith(b"tezqulom: "))
+
+    def test_no_file(self):
+        (self.folder / "shut").write_bytes(b"")
+        for arguments, message in [(["check", "nope"], "nope: no such file or directory"), (["check", "."], ".: is a directory"),
+                                   (["check", "table", "nope"], "nope: no such file"), (["check", "table/x"], "table/x: not a directory"),
+                                   (["ask", "table", "record", "itm:{}"], "itm:{}: no such file or directory (a filter's text starts with item:"),
+                                   (["run", "table", TRUE, "--sqlite", "nope", "select 1, 2"], "nope: no such file"),
+                                   (["run", "table", TRUE, "--sqlite", "record", "select id, record from bill"], "record: file is not a database"),
+                                   (["table", "nope.py"], "nope.py: no such file"), (["check", "/dev/zero"], "/dev/zero: more than 1048576 octets")]:
+            self.gives(66, "", *arguments, error=message)
+        self.gives(66, "", "check", "table", error="there is no /nowhere", env={"TEZQULOM_LIBRARY": "/nowhere"})
+        self.gives(66, "", "check", "table", error="the library can't be loaded", env={"TEZQULOM_LIBRARY": str(self.folder / "table")})
+
+    def test_write_error(self):
+        for arguments in (["show", "table", "record"], ["--help"], ["run", "table", TRUE, "record"], ["ask", "table", "record", FALSE], ["table", "t.py"]):
+            (self.folder / "t.py").write_text("table = b'\\2'\n")
+            with open("/dev/full", "wb") as full:
+                self.assertEqual(self.run_(*arguments, stdout=full).returncode, 74, arguments)
+            reading, writing = os.pipe()
+            os.close(reading)
+            done = self.run_(*arguments, stdout=writing, env={"PYTHONUNBUFFERED": ""})
+            os.close(writing)
+            self.assertEqual(done.returncode, 74, arguments)
+            self.assertNotIn(b"Traceback", done.stderr)
+            self.assertNotIn(b"Exception ignored", done.stderr)
+        self.gives(74, "", "table", "t.py", "-o", "nope/x", error="nope/x: no such file")
+        self.gives(74, "", "run", "table", TRUE, "record", "--refused", "nope/x", error="nope/x: no such file")
+        self.gives(74, None, "run", "table", TRUE, "bad", "--refused", "/dev/full", error="output: no space left")
+
+    def test_mistake(self):
+        """A mistake in the command has a status of its own, never that of FALSE."""
+        (self.folder / "sitecustomize.py").write_text("import tezqulom.records\ntezqulom.records.tree = None\n")
+        path = os.pathsep.join((str(self.folder), str(ROOT / "bindings" / "python")))
+        self.assertEqual(self.run_("show", "table", "record", env={"PYTHONPATH": path}).returncode, 70)
+
+    def test_json(self):
+        def said(status, *arguments):
+            return json.loads(self.run_(*arguments, "--json").stdout.decode().splitlines()[0])
+        self.assertEqual(said(0, "ask", "table", "record", TRUE), {"answer": "TRUE", "tests": 2})
+        self.assertEqual(said(3, "ask", "table", "bad", TRUE)["refusal"], 4)
+        self.assertEqual(said(3, "why", "table", "bad")["refusal"], 4)
+        self.assertEqual(said(0, "why", "table", "record"), {"answer": "GOOD"})
+        self.assertEqual(said(0, "check", "table"), {"answer": "GOOD", "rows": 12})
+        self.assertEqual(said(0, "list", "table", "record", "seats"), [{"source": "default", "place": 0, "row": 2, "reference": "seats", "kind": "INTEGER", "value": 1}])
+        self.assertEqual([node["reference"] for node in said(0, "show", "table", "record")][:4], ["", "event", "seats", "parts"])
+        self.assertEqual(said(0, "each", "table", "record", "parts.*.copies", "item:{rule integerMatch,value 3}")[1]["answer"], "TRUE")
+        self.assertEqual(said(0, "explain", "table", "record", TRUE)[0]["truth"], "TRUE")
+        self.assertEqual(said(0, "quote", "a"), {"quoted": '"a"'})
+        self.assertEqual(said(0, "table", "--show", "table")["text"].splitlines()[0], "SEQUENCE")
+
+
+class Forms(Command):
+    """DER, hexadecimal digits and PEM; standard input; names and values that don't print."""
+
+    def test_recognised(self):
+        wrapped = b"-----BEGIN LICENCE-----\n" + base64.encodebytes(RECORD) + b"-----END LICENCE-----\n"
+        for form in (RECORD, RECORD.hex().encode(), RECORD.hex(" ").upper().encode() + b"\n", b"text before is not passed over"[:0] + wrapped,
+                     wrapped.replace(b"\n", b"\r\n")):
+            self.gives(0, "TRUE 2\n", "ask", "table", "-", TRUE, stdin=form)
+        self.gives(0, "TRUE 2\n", "ask", "-", "record", TRUE, stdin=LICENCE.hex().encode())
+        self.gives(0, "TRUE 2\n", "ask", "table", "record", "-", stdin=TRUE.encode())
+        self.gives(0, "TRUE 2\n", "ask", "table", "record", "-", stdin=TRUE.encode() + b"\r\n")
+        for form, message in [(b"301", "an odd number of hexadecimal digits"), (wrapped[:40], "PEM with 0 whole blocks"), (wrapped * 2, "PEM with 2"),
+                              (b"-----BEGIN X-----\n?\n-----END X-----\n", "PEM whose base64 is damaged")]:
+            self.gives(66, "", "check", "table", "-", stdin=form, error="standard input: " + message)
+
+    def test_never_mistaken(self):
+        """Octets of a good value or an admitted table are never taken for digits."""
+        for octets in (b"\x09", b"\x0a", b"\x0d\x0a", b"\x09\x0a"):
+            self.assertEqual(inputs.recognised(octets), octets)
+
+    def test_escapes(self):
+        (self.folder / "strange").write_bytes(licence("\x1b[31m\u202e\n", [1]))
+        said = self.gives(0, None, "show", "table", "strange")
+        self.assertIn(r'"\x1b[31m\u202e\n"', said)
+        self.gives(0, None, "show", "table", "strange", env={"LC_ALL": "C", "PYTHONIOENCODING": "ascii"})
+
+    def test_module(self):
+        done = subprocess.run([sys.executable, "-B", "-m", "tezqulom", "ask", "table", "record", TRUE], check=False, capture_output=True, cwd=self.folder,
+                              env={**os.environ, "PYTHONPATH": str(ROOT / "bindings" / "python"), "TEZQULOM_LIBRARY": library.file})
+        self.assertEqual((done.returncode, done.stdout), (0, b"TRUE 2\n"))
+
+    def test_main(self):
+        self.assertEqual(command.main(["quote", ""]), 64)
+
+    def test_table(self):
+        source = "from tezqulom.builder import *\ntable = Sequence(event=UTF8String(), seats=Default(Integer(), 1), parts=SequenceOf(Sequence(\n" \
+                 "    name=PrintableString(), copies=Default(Implicit(0, Integer()), 1))))\n"
+        (self.folder / "licence.py").write_text(source)
+        self.gives(0, "", "table", "licence.py", "-o", "made")
+        self.assertEqual((self.folder / "made").read_bytes(), LICENCE)
+        self.assertEqual(self.run_("table", "licence.py").stdout, LICENCE)
+        self.assertIn("  seats INTEGER DEFAULT 1\n", self.gives(0, None, "table", "--show", "made"))
+        for status, text, message in [(3, "table = Sequence(a=Optional(Integer()), b=Integer())", "t.py: b: members a and b start with the same tag"),
+                                      (3, "x = 1", "t.py: it doesn't set `table`"), (3, "table = b''", "t.py: refused 1"), (66, "table = y", "t.py: NameError"),
+                                      (66, "table = (", "t.py: SyntaxError"), (66, "import sys; sys.exit(0)", "t.py: SystemExit")]:
+            (self.folder / "t.py").write_text("from tezqulom.builder import *\n" + text + "\n")
+            self.gives(status, "", "table", "t.py", error=message)
+
+
+class BillRun(Command):
+    """One filter about many records."""
+
+    def database(self, records):
+        database = sqlite3.connect(self.folder / "bills.db")
+        database.execute("create table bill(id, record)")
+        database.executemany("insert into bill values (?, ?)", records)
+        database.commit()
+        database.close()
+
+    def test_answers(self):
+        self.database([("a", RECORD), ("b", RECORD[:-1]), (3, licence("x", [2])), (None, None), (b"\xff", RECORD), ("hex", RECORD.hex()),
+                       ("odd", "301"), ("n\n", RECORD), ("i", 7)])
+        done = self.run_("run", "table", TRUE, "--sqlite", "bills.db", "select id, record from bill")
+        self.assertEqual(done.stdout.decode(), "a\n\\\\xff\nhex\nn\\n\n")
+        self.assertEqual(done.returncode, 3)
+        self.assertIn(b"9 records: 4 TRUE, 1 FALSE, 0 UNDEFINED, 4 refused; Undefined ids are in tezqulom.undefined", done.stderr)
+        self.assertEqual((self.folder / "tezqulom.refused").read_text(), "b\trefused 4: the value is not one of the table's type\nNone\tno octets: NULL\n"
+                         "odd\tan odd number of hexadecimal digits\ni\tno octets: int\n")
+        self.assertEqual((self.folder / "tezqulom.undefined").read_text(), "")
+
+    def test_statuses(self):
+        self.gives(0, "record\n", "run", "table", TRUE, "record", error="1 records: 1 TRUE")
+        self.gives(0, "", "run", "table", FALSE, "record", error="1 records: 0 TRUE, 1 FALSE")
+        self.gives(2, "", "run", "table", UNDEFINED, "record", "--undefined", "u", error="1 records: 0 TRUE, 0 FALSE, 1 UNDEFINED")
+        self.assertEqual((self.folder / "u").read_text(), "record\n")
+        self.gives(3, "record\n", "run", "table", TRUE, "bad", "record", error="2 records: 1 TRUE, 0 FALSE, 0 UNDEFINED, 1 refused")
+        self.gives(66, "record\n", "run", "table", TRUE, "nope", "record", error="2 records: 1 TRUE, 0 FALSE, 0 UNDEFINED, 0 refused, 1 not read")
+        self.assertEqual((self.folder / "tezqulom.refused").read_text(), "nope\tnope: no such file or directory\n")
+
+    def test_queries(self):
+        self.database([("a", RECORD)])
+        for query in ("select id from bill", "select * from nothing", "delete from bill", "selec", "", "select 1, 2; select 3, 4"):
+            self.assertEqual(self.run_("run", "table", TRUE, "--sqlite", "bills.db", query).returncode, 64, query)
+        self.gives(0, "a\n", "run", "table", TRUE, "--sqlite", "bills.db", "select id, record from bill", error="1 records")
+
+    def test_json(self):
+        done = self.run_("run", "table", TRUE, "record", "bad", "--json")
+        lines = [json.loads(line) for line in done.stdout.decode().splitlines()]
+        self.assertEqual(lines, [{"id": "record", "answer": "TRUE", "tests": 2}, {"true": 1, "false": 0, "undefined": 0, "refused": 1, "unread": 0}])
+        self.assertEqual(json.loads((self.folder / "tezqulom.refused").read_text())["answer"], "REFUSED")
+
+    def test_many(self):
+        """40,000 records in about a second of CPU; the answers are those of single questions."""
+        records = [("L%d" % at, licence("e%d" % at, [at % 5 + 1, at % 3 + 1])[:-1 if at % 1000 == 7 else None]) for at in range(MANY)]
+        self.database(records)
+        before = resource.getrusage(resource.RUSAGE_CHILDREN)
+        done = self.run_("run", "table", TRUE, "--sqlite", "bills.db", "select id, record from bill", env={"PYTHONUNBUFFERED": ""})
+        after = resource.getrusage(resource.RUSAGE_CHILDREN)
+        used = after.ru_utime + after.ru_stime - before.ru_utime - before.ru_stime
+        print("\n  %d records: %.2f seconds of CPU" % (MANY, used))
+        self.assertLess(used, SECONDS)
+        self.assertEqual(done.returncode, 3)
+        expected = [name for at, (name, _) in enumerate(records) if (at % 5 == 2 or at % 3 == 2) and at % 1000 != 7]
+        self.assertEqual(done.stdout.decode().split(), expected)
+        self.assertIn(b"%d records: %d TRUE, %d FALSE, 0 UNDEFINED, 40 refused" % (MANY, len(expected), MANY - 40 - len(expected)), done.stderr)
+
+
+class ManPage(unittest.TestCase):
+    """The man page has each command, and no warnings."""
+
+    PAGE = ROOT / "bindings" / "tezqulom.1"
+
+    def test_page(self):
+        text = self.PAGE.read_text()
+        for name in ("show", "ask", "list", "check", "why", "explain", "each", "run", "table", "quote"):
+            self.assertIn("\n.B %s\n" % name, text.replace("\n.BR %s" % name, "\n.B %s\n" % name).replace("\n.BI \"%s " % name, "\n.B %s\n" % name))
+        self.assertIn(tezqulom.__version__, text)
+
+    def test_warnings(self):
+        if shutil.which("man") is None:
+            self.skipTest("man is not installed")
+        done = subprocess.run(["man", "--warnings", "-l", "-E", "UTF-8", "-Tutf8", self.PAGE], check=False, capture_output=True,
+                              env={**os.environ, "LC_ALL": "C.UTF-8", "MANROFFSEQ": ""})
+        self.assertEqual((done.returncode, done.stderr), (0, b""))
+
+
+if __name__ == "__main__":
+    unittest.main()

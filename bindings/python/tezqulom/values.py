@@ -1,0 +1,186 @@
+"""Kinds of types, and the values of stored octets."""
+
+import datetime
+import enum
+from typing import NamedTuple, Optional, Union
+
+from .engine import Octets, Refused, check_value
+
+
+class Kind(enum.IntEnum):
+    """The kinds of rows, with the table's numbers; `asn1` is the type's name."""
+
+    BOOLEAN = 1
+    INTEGER = 2
+    ENUMERATED = 3
+    NULL = 4
+    OBJECT_IDENTIFIER = 5
+    OCTET_STRING = 6
+    BIT_STRING = 7
+    UTF8_STRING = 8
+    PRINTABLE_STRING = 9
+    IA5_STRING = 10
+    GENERALIZED_TIME = 11
+    SEQUENCE = 12
+    CHOICE = 13
+    SEQUENCE_OF = 14
+    SET_OF = 15
+    MEMBER = 16
+
+    @property
+    def asn1(self) -> str:
+        """The type's name in ASN.1."""
+        return _NAMES[self]
+
+    @property
+    def basic(self) -> bool:
+        """Whether the kind's row has no body and its value no components."""
+        return self <= Kind.GENERALIZED_TIME
+
+    @property
+    def tag(self) -> Optional[int]:
+        """The universal tag octet; a CHOICE and a member have none."""
+        return _TAGS.get(self)
+
+
+_NAMES = dict(zip(Kind, ("BOOLEAN", "INTEGER", "ENUMERATED", "NULL", "OBJECT IDENTIFIER", "OCTET STRING", "BIT STRING", "UTF8String",
+                         "PrintableString", "IA5String", "GeneralizedTime", "SEQUENCE", "CHOICE", "SEQUENCE OF", "SET OF", "member")))
+_TAGS = dict(zip(Kind, (0x01, 0x02, 0x0A, 0x05, 0x06, 0x04, 0x03, 0x0C, 0x13, 0x16, 0x18, 0x30)))
+_TAGS.update({Kind.SEQUENCE_OF: 0x30, Kind.SET_OF: 0x31})
+_STRINGS = (Kind.UTF8_STRING, Kind.PRINTABLE_STRING, Kind.IA5_STRING)
+
+
+class Time(NamedTuple):
+    """A GeneralizedTime. Second 60 and nanoseconds have no place in a datetime, so this is no datetime."""
+
+    year: int
+    month: int
+    day: int
+    hour: int
+    minute: int
+    second: int
+    nanosecond: int = 0
+
+    def datetime(self) -> datetime.datetime:
+        """The moment in UTC, its fraction cut to microseconds; a ValueError for year 0 and for second 60."""
+        return datetime.datetime(*self[:6], self.nanosecond // 1000, datetime.timezone.utc)
+
+    def __str__(self) -> str:
+        fraction = (".%09d" % self.nanosecond).rstrip("0") if self.nanosecond else ""
+        return "%04d-%02d-%02dT%02d:%02d:%02d%sZ" % (*self[:6], fraction)
+
+
+Plain = Union[bool, int, None, str, bytes, Time]
+
+
+def encoded(tag: int, contents: bytes) -> bytes:
+    """An encoding: tag octet, shortest length, contents.
+
+    >>> encoded(2, b"\\5").hex()
+    '020105'
+    """
+    size = len(contents)
+    length = bytes([size]) if size < 128 else bytes([0x81, size]) if size < 256 else b"\x82" + size.to_bytes(2, "big")
+    return bytes([tag]) + length + contents
+
+
+def integer_contents(number: int) -> bytes:
+    """The contents of an INTEGER, shortest.
+
+    >>> integer_contents(128).hex(), integer_contents(-128).hex()
+    ('0080', '80')
+    """
+    return number.to_bytes((number if number >= 0 else ~number).bit_length() // 8 + 1, "big", signed=True)
+
+
+def contents_of(octets: bytes) -> bytes:
+    """The contents of an encoding that the engine has found good."""
+    return octets[2 + max(0, octets[1] - 0x80):]
+
+
+def value_of(kind: int, octets: Octets) -> Plain:
+    """The value of the octets of a listed value of a kind; a ValueError where they are none.
+
+    The tag may be the kind's own or one that stands in its place (implicit). A BOOLEAN is a bool, an INTEGER and an ENUMERATED an int, NULL is
+    None, an OBJECT IDENTIFIER dotted text, an OCTET STRING bytes, a BIT STRING a text of 0 and 1, a string kind a str, a GeneralizedTime a Time;
+    of any other kind the octets themselves.
+
+    >>> value_of(Kind.INTEGER, b"\\x80\\x01\\x03")
+    3
+    >>> str(value_of(Kind.GENERALIZED_TIME, b"\\x18\\x0f20240229120000Z"))
+    '2024-02-29T12:00:00Z'
+    """
+    kind, octets = Kind(kind), bytes(octets)
+    if not kind.basic:
+        return octets
+    try:
+        check_value(bytes([kind]), bytes([kind.tag or 0]) + octets[1:])
+    except Refused:
+        raise ValueError("no %s: %s" % (kind.asn1, octets.hex().upper() or "no octets")) from None
+    return plain(kind, contents_of(octets))
+
+
+def plain(kind: Kind, contents: bytes) -> Plain:
+    """The value of a basic kind's good contents."""
+    if kind is Kind.BOOLEAN:
+        return contents != b"\0"
+    if kind in (Kind.INTEGER, Kind.ENUMERATED):
+        return int.from_bytes(contents, "big", signed=True)
+    if kind is Kind.NULL:
+        return None
+    if kind is Kind.OBJECT_IDENTIFIER:
+        return dotted(contents)
+    if kind is Kind.BIT_STRING:
+        return "".join("%08d" % int(bin(octet)[2:]) for octet in contents[1:])[:8 * (len(contents) - 1) - contents[0]]
+    if kind in _STRINGS:
+        return contents.decode("utf-8")
+    return time_of(contents.decode("ascii")) if kind is Kind.GENERALIZED_TIME else contents
+
+
+def dotted(contents: bytes) -> str:
+    """The dotted form of an OBJECT IDENTIFIER's contents.
+
+    >>> dotted(bytes.fromhex("2a0304"))
+    '1.2.3.4'
+    """
+    numbers, number = [], 0
+    for octet in contents:
+        number = number << 7 | octet & 0x7F
+        if octet < 0x80:
+            numbers.append(number)
+            number = 0
+    first = min(numbers[0] // 40, 2)
+    return ".".join(map(str, [first, numbers[0] - 40 * first] + numbers[1:]))
+
+
+def time_of(text: str) -> Time:
+    """The time of a GeneralizedTime's text."""
+    date = [int(text[:4])] + [int(text[at:at + 2]) for at in range(4, 14, 2)]
+    return Time(*date, nanosecond=int(text[15:-1].ljust(9, "0")) if text[14] == "." else 0)
+
+
+def gser(kind: Kind, value: Plain) -> str:
+    """A value as text for people: strings in double quotes, with characters that don't print escaped."""
+    if isinstance(value, bool):
+        return str(value).upper()
+    if isinstance(value, bytes):
+        return "'%s'H" % value.hex().upper()
+    if kind is Kind.BIT_STRING:
+        return "'%s'B" % value
+    if isinstance(value, str) and kind is not Kind.OBJECT_IDENTIFIER:
+        return '"%s"' % printable(value)
+    return "NULL" if value is None else str(value)
+
+
+def printable(text: str) -> str:
+    """A text that can be shown on a terminal: other characters, and backslashes, are escaped.
+
+    >>> printable("a\\x1b[b")
+    'a\\\\x1b[b'
+    """
+    shown = [one if one.isprintable() and one != "\\" else one.encode("unicode_escape", "surrogatepass").decode("ascii") for one in text]
+    return "".join(shown)
+
+
+for _name in (Kind, Time):
+    _name.__module__ = "tezqulom"
