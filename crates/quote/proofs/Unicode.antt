@@ -1,11 +1,11 @@
 -- Valid UTF-8 (RFC 3629): texts one behind the other, and the quoted form of a text.
-use mathlib.Core.Path.{_≡_, refl, sym, ap, _∙_}
+use mathlib.Core.Path.{_≡_, refl, _∙_}
 use mathlib.Core.Bool.{Bool, true, false, false≢true}
 use mathlib.Core.List.{List, [], _∷_, _++_}
 use Prim.Native.Nat.{ℕ, _≤_, _-_}
 use native.Mathlib.Omega.{arith}
-use borrow.Author.Tests.{eqb-true, lt-leb}
-use lib.Dec.{ltb, leb, eqb}
+use borrow.Author.Tests.{lt-leb}
+use lib.Dec.{ltb, eqb}
 use Rattle.octets.specs.Pick.{pick}
 use Rattle.octets.specs.Text.{within}
 use Rattle.octets.specs.Utf8.{awaits, afterFirst, after, mayEnd, utf8From, utf8}
