@@ -73,7 +73,8 @@ class Descriptions(unittest.TestCase):
             deep = build.SequenceOf(deep)
         many = {"m%d" % at: build.Integer() for at in range(17)}
         for sentence, given in [
-                ("5 is no description", 5), ("a: 5 is no description", build.Sequence(a=5)), ("a.b: None is no description", build.Sequence(a=build.Sequence(b=None))),
+                ("5 is no description", 5), ("a: 5 is no description", build.Sequence(a=5)),
+                ("a.b: None is no description", build.Sequence(a=build.Sequence(b=None))),
                 ("a: the default of INTEGER is not 'x'", build.Sequence(a=build.Default(build.Integer(), "x"))),
                 ("a: the default of INTEGER is not True", build.Sequence(a=build.Default(build.Integer(), True))),
                 ("a: the default 9223372036854775808 has", build.Sequence(a=build.Default(build.Integer(), 2 ** 63))),

@@ -77,8 +77,8 @@ class Statuses(Command):
         self.gives(0, "count 6 2 parts.0 INTEGER 2\n", "list", "table", "record", "parts.0")
         self.gives(0, "       seats INTEGER 1 (default)\n", "show", "table", "record", "seats")
         self.gives(0, "", "show", "table", "record", "parts.3")
-        self.gives(0, "FALSE 1  default 8 9 parts.1.copies INTEGER 1\nTRUE 1  stored 20 3 parts.2.copies INTEGER 3\n", "each", "table", "record", "parts.*.copies",
-                   "item:{rule integerMatch,value 3}")
+        self.gives(0, "FALSE 1  default 8 9 parts.1.copies INTEGER 1\nTRUE 1  stored 20 3 parts.2.copies INTEGER 3\n", "each", "table", "record",
+                   "parts.*.copies", "item:{rule integerMatch,value 3}")
         self.gives(0, "nothing is refused\n", "why", "table", "record", TRUE)
         self.gives(0, '"a""b"\n', "quote", 'a"b')
         self.gives(0, "tezqulom %s\n" % tezqulom.__version__, "--version")
@@ -170,7 +170,8 @@ class Statuses(Command):
         self.assertEqual(said(3, "why", "table", "bad")["refusal"], 4)
         self.assertEqual(said(0, "why", "table", "record"), {"answer": "GOOD"})
         self.assertEqual(said(0, "check", "table"), {"answer": "GOOD", "rows": 12})
-        self.assertEqual(said(0, "list", "table", "record", "seats"), [{"source": "default", "place": 0, "row": 2, "reference": "seats", "kind": "INTEGER", "value": 1}])
+        self.assertEqual(said(0, "list", "table", "record", "seats"), [
+            {"source": "default", "place": 0, "row": 2, "reference": "seats", "kind": "INTEGER", "value": 1}])
         self.assertEqual([node["reference"] for node in said(0, "show", "table", "record")][:4], ["", "event", "seats", "parts"])
         self.assertEqual(said(0, "each", "table", "record", "parts.*.copies", "item:{rule integerMatch,value 3}")[1]["answer"], "TRUE")
         self.assertEqual(said(0, "explain", "table", "record", TRUE)[0]["truth"], "TRUE")
