@@ -17,7 +17,8 @@ use Rattle.octets.specs.Computing.{octetsCompute}
 use Rattle.octets.specs.Utf8.{utf8}
 use Rattle.octets.proofs.Laws.{all-at, every-fails, every-holds}
 use Rattle.der.specs.Time.{legalTime}
-use Rattle.der.specs.Contents.{legalBoolean, shortest, legalInteger, legalBits, isSign, isMark, isPrintable, isIa5, legalNull, legalOid, legalPrintable, legalIa5, legalText, legal}
+use Rattle.der.specs.Contents.{legalBoolean, shortest, legalInteger, legalBits, isSign, isMark, isPrintable, isIa5, legalNull, legalOid, legalPrintable}
+use Rattle.der.specs.Contents.{legalIa5, legalText, legal}
 
 -- ---- BOOLEAN
 one-octet : (c : List ℕ) (b : ℕ) → length c ≡ 1 → same c (b ∷ []) ≡ eqb (octet c 0) b

@@ -169,6 +169,27 @@ module _ (chain : ℕ) (t s m : List ℕ) (row : ℕ) (ok : Sound chain t s m) (
         answer-basic r l b a j e =
             record { says = λ mode u q. check-by-basic v at end mode u no-choice tag h (tags mode u q) opening start n found r l b a j e }
 
+-- ---- a value of a basic type
+small-list : (k : ℕ) → k ≤ 11 → false ≡ isList k
+unfolding isList
+small-list k l = rw (ne-eqb k 14 (λ z. omega arith), ne-eqb k 15 (λ z. omega arith))
+
+module _ (chain : ℕ) (t s m : List ℕ) (row : ℕ) (ok : Sound chain t s m) (here : row < length s) (k : ℕ) (read : k ≡ kindAt t (rowAt s row))
+    (small : kindAt t (rowAt s row) ≤ 11) (v : List ℕ) (at end tag : ℕ) (h : Inside) (opening : h ≡ insideAt tag v at end) where
+  no-choice : k ≡ 13 → ⊥
+  no-choice z = omega arith
+
+  no-sequence : k ≡ 12 → ⊥
+  no-sequence z = omega arith
+
+  pub leaf-misfit : h ≡ Inside.Misfit → Answers (typeFrom chain t s row) (kindAt t (rowAt s row)) tag v at end Checked.Bad
+  leaf-misfit e = answer-misfit chain t s m row ok here k read v at end tag no-choice h opening e
+
+  pub leaf-basic : (start n : ℕ) (r : Checked) → h ≡ Inside.Of start n → r ≡ upTo (start + n) (legal k (part v start (start + n - start)))
+      → Answers (typeFrom chain t s row) (kindAt t (rowAt s row)) tag v at end r
+  leaf-basic start n r found e =
+      answer-basic chain t s m row ok here k read v at end tag no-choice h opening start n found r false no-sequence (small-list k (omega arith)) refl e
+
 -- ---- under a member's tag mode
 module _ (ty : Ty) (v : List ℕ) (at end mode number : ℕ) where
   pub bare-decode : (mode ≡ 1 → ⊥) → decode ty (taggingOf mode number) v at end ≡ unwrapped ty (taggingOf mode number) v at end

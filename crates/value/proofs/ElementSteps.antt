@@ -5,9 +5,9 @@ use mathlib.Core.Option.{Option, none, some}
 use mathlib.Core.List.{List, []}
 use Prim.Native.Nat.{ℕ, zero, suc, _≤_, _<_, _+_, _-_, _*_}
 use native.Mathlib.Omega.{arith}
-use borrow.Author.Tests.{not-true, not-false}
+use borrow.Author.Tests.{not-true, not-false, leb-true}
 use lib.ListN.{length}
-use lib.Dec.{eqb}
+use lib.Dec.{leb, eqb}
 use Rattle.octets.specs.Pick.{both, either, bind}
 use Rattle.octets.specs.Octets.{part}
 use Rattle.der.specs.Kind as kind
@@ -179,3 +179,13 @@ module _ (chain : ℕ) (t s m : List ℕ) (row : ℕ) (ok : Sound chain t s m) (
 pub element-typed : (chain : ℕ) (t s m : List ℕ) (row e : ℕ) → Ready chain t s m → row < length s → isList (kindAt t (rowAt s row)) ≡ true
     → e ≡ elementAt t (rowAt s row) → kindAt t (rowAt s e) ≡ 16 → ⊥
 element-typed chain t s m row e ok here list read = rw read (ok .of-element row here list)
+
+pub leaves-are : (t s : List ℕ) (row e k : ℕ) → e ≡ elementAt t (rowAt s row) → k ≡ kindAt t (rowAt s e)
+    → leb k 11 ≡ leb (kindAt t (rowAt s (elementAt t (rowAt s row)))) 11
+leaves-are t s row e k read kinded = ap (λ (x : ℕ). leb x 11) (kinded ∙ ap (λ (x : ℕ). kindAt t (rowAt s x)) read)
+
+pub leaves-small : (k : ℕ) (r : Bool) → r ≡ leb k 11 → r ≡ true → k ≤ 11
+leaves-small k r e h = leb-true k 11 (sym e ∙ h)
+
+pub element-small : (t s : List ℕ) (row e : ℕ) → e ≡ elementAt t (rowAt s row) → kindAt t (rowAt s (elementAt t (rowAt s row))) ≤ 11 → kindAt t (rowAt s e) ≤ 11
+element-small t s row e read l = rw read l

@@ -6,8 +6,10 @@ ghost use mathlib.Core.Path.{_≡_};
 ghost use mathlib.Core.Bool.{true, false};
 ghost use Prim.Native.Nat.{_≤_, _<_, _+_, _-_};
 ghost use lib.ListN.{length};
+ghost use lib.Dec.{leb};
 ghost use Rattle.octets.specs.Pick.{isSome};
 ghost use Rattle.octets.specs.Octets.{part, same};
+ghost use Rattle.der.specs.Kind.{generalizedTime};
 ghost use Rattle.der.specs.Tag.{tagOf};
 ghost use Rattle.der.specs.Contents.{legal};
 ghost use Rattle.rows.specs.Row.{kindAt, elementAt, membersAt, isList, modeAt, presenceAt, defaultAt};
@@ -196,6 +198,28 @@ fn check_basic(kind: u8, v: &[u8], start: usize, stop: usize) -> Checked
     Checked::Bad
 }
 
+// A value of the basic type of a row at a place, before an end, behind a tag octet.
+fn check_leaf(
+    t: &[u8],
+    w: &[u64; 256],
+    v: &[u8],
+    row: usize,
+    tag: usize,
+    at: usize,
+    end: usize,
+) -> Checked
+    requires worded { ⌜ Worded (now t) (now w) ⌝ }
+    requires here { ⌜ row < length (tableRows (now t)) ⌝ }
+    requires basic { ⌜ kindAt (now t) (placeAt (now t) row) ≤ generalizedTime ⌝ }
+    ensures { λ r. ⌜ work.Answers (typeAt (now (t .entry)) row) (kindAt (now (t .entry)) (placeAt (now (t .entry)) row)) tag (now (v .entry)) at end r ⌝ }
+{
+    let kind = words::kind(t, w, row);
+    let Inside::Of(start, n) = der::open(tag, v, at, end) else {
+        return Checked::Bad;
+    };
+    check_basic(kind, v, start, start + n)
+}
+
 // The plain member of a row, at a place where it is there: one header, contents of the kind, and not its default.
 fn check_plain(t: &[u8], w: &[u64; 256], v: &[u8], row: usize, at: usize, end: usize) -> Checked
     requires worded { ⌜ Worded (now t) (now w) ⌝ }
@@ -335,6 +359,53 @@ fn first_alternative(
     j
 }
 
+// Whether the elements of the list of a row are of a basic type.
+fn has_leaves(t: &[u8], w: &[u64; 256], row: usize) -> bool
+    requires worded { ⌜ Worded (now t) (now w) ⌝ }
+    requires here { ⌜ row < length (tableRows (now t)) ⌝ }
+    requires list { ⌜ isList (kindAt (now t) (placeAt (now t) row)) ≡ true ⌝ }
+    ensures { λ r. ⌜ r
+        ≡ leb (kindAt (now (t .entry)) (placeAt (now (t .entry)) (elementAt (now (t .entry)) (placeAt (now (t .entry)) row)))) generalizedTime ⌝ }
+{
+    words::kind(t, w, words::element(t, w, row)) <= Kind::GENERALIZED_TIME
+}
+
+// The elements of the list of a row, whose type is basic, from start up to stop: without a call of the recursion for each.
+fn check_leaves(
+    t: &[u8],
+    w: &[u64; 256],
+    v: &[u8],
+    row: usize,
+    start: usize,
+    stop: usize,
+) -> Checked
+    requires worded { ⌜ Worded (now t) (now w) ⌝ }
+    requires here { ⌜ row < length (tableRows (now t)) ⌝ }
+    requires list { ⌜ isList (kindAt (now t) (placeAt (now t) row)) ≡ true ⌝ }
+    requires basic { ⌜ kindAt (now t) (placeAt (now t) (elementAt (now t) (placeAt (now t) row))) ≤ generalizedTime ⌝ }
+    requires ordered { ⌜ start ≤ stop ⌝ }
+    ensures { λ r. ⌜ r
+        ≡ work.elementsChecked (kindAt (now (t .entry)) (placeAt (now (t .entry)) row))
+        (typeAt (now (t .entry)) (elementAt (now (t .entry)) (placeAt (now (t .entry)) row))) (now (v .entry)) stop start ⌝ }
+{
+    let kind = words::kind(t, w, row);
+    let element = words::element(t, w, row);
+    let tag = words::own_first(t, w, element);
+    let mut before = start;
+    let mut i = start;
+    while i < stop {
+        let Checked::At(next) = check_leaf(t, w, v, element, tag, i, stop) else {
+            return Checked::Bad;
+        };
+        if !in_order(kind, v, before, i, next) {
+            return Checked::Bad;
+        }
+        before = i;
+        i = next;
+    }
+    Checked::At(stop)
+}
+
 // ---- "a nested value is checked as its row says, one level deeper"
 // The elements of the list of a row, from start up to stop.
 fn check_elements(
@@ -353,6 +424,9 @@ fn check_elements(
         ≡ work.elementsChecked (kindAt (now (t .entry)) (placeAt (now (t .entry)) row))
         (typeAt (now (t .entry)) (elementAt (now (t .entry)) (placeAt (now (t .entry)) row))) (now (v .entry)) stop start ⌝ }
 {
+    if has_leaves(t, w, row) {
+        return check_leaves(t, w, v, row, start, stop);
+    }
     let kind = words::kind(t, w, row);
     let element = words::element(t, w, row);
     let tag = words::own_first(t, w, element);

@@ -8,7 +8,8 @@ use Rattle.value.proofs.CheckSteps.{falls-body, falls-tagged, falls-wra
 use Rattle.value.proofs.CheckSteps.{answer-fields, answer-elements, answer-basic, wraps-misfit, wraps-inner, wraps-surplus, wraps-filled, target-here}
 use Rattle.value.proofs.CheckSteps.{target-typed, tagged-explicit, tagged-other}
 use Rattle.value.proofs.ChoiceSteps.{choice-none, choice-here, choice-member, choice-falls, choice-is}
-use Rattle.value.proofs.ElementSteps.{Listed, element-here, element-typed, element-falls, elements-bad, element-after, element-less, elements-disorder}
+use Rattle.value.proofs.ElementSteps.{Listed, leaves-small, element-here, element-typed, element-falls, elements-bad, element-after, element-less}
+use Rattle.value.proofs.ElementSteps.{elements-disorder}
 use Rattle.value.proofs.ElementSteps.{elements-again, elements-done, elements-start, listed-low}
 use borrow.Author.Needs.{needs}
 use lib.ListN.{length}
@@ -42,6 +43,8 @@ use Rattle.der.proofs.open.Reads as open-reads
 use Rattle.rows.proofs.is_list.Reads as is-list-reads
 use Rattle.value.proofs.absent.Reads as absent-reads
 use Rattle.value.proofs.check_basic.Reads as check-basic-reads
+use Rattle.value.proofs.check_leaves.Reads as check-leaves-reads
+use Rattle.value.proofs.has_leaves.Reads as has-leaves-reads
 use Rattle.value.proofs.check_plain_member.Reads as check-plain-member-reads
 use Rattle.value.proofs.first_alternative.Reads as first-alternative-reads
 use Rattle.value.proofs.in_order.Reads as in-order-reads
@@ -156,6 +159,10 @@ check-choice-claims t =
 
 abbrev check-elements-claims : ℕ → check-elements-lts.Claims
 check-elements-claims t = (
+  has-leaves-reads.Asked,
+  has-leaves-reads.Learnt,
+  check-leaves-reads.Asked,
+  check-leaves-reads.Learnt,
   kind-reads.Asked,
   kind-reads.Learnt,
   element-reads.Asked,
@@ -232,6 +239,9 @@ pub +check+check-choice+check-elements+check-fields+check-member+check-tagged+ch
     (λ c κs. (search choice-falls, (search needs, (search choice-here, search choice-member))))  -- check-tagged-requires
     (λ c. search choice-is))  -- returns-2
     (λ t. check-elements-lts.spec (check-elements-claims t) (check-elements-at t) check-elements.Post check-elements-Inv-loop check-elements-μ-loop
+    (λ c κs. search needs)  -- has-leaves-requires
+    (λ c κs. (search needs, (search needs, (search needs, (search leaves-small, search needs)))))  -- check-leaves-requires
+    (λ c. search needs)  -- returns
     (λ c κs. search needs)  -- kind-requires
     (λ c κs. search needs)  -- element-requires
     (λ c κs. (search needs, (search element-here, search element-typed)))  -- own-first-requires
@@ -239,12 +249,12 @@ pub +check+check-choice+check-elements+check-fields+check-member+check-tagged+ch
     (λ c κs. (search element-falls, (search needs, search element-here)))  -- check-requires
     (λ c. search needs)  -- enum-known-next
     (λ c. search needs)  -- enum-told
-    (λ c. search elements-bad)  -- returns
+    (λ c. search elements-bad)  -- returns-2
     (λ c κs. (search listed-low, search element-after))  -- in-order-requires
-    (λ c. search elements-disorder)  -- returns-2
+    (λ c. search elements-disorder)  -- returns-3
     (λ c. search element-less)  -- loop-less
     (λ c. search elements-again)  -- loop-again
-    (λ c. search elements-done))  -- returns-3
+    (λ c. search elements-done))  -- returns-4
     (λ t. check-fields-lts.spec (check-fields-claims t) (check-fields-at t) check-fields.Post check-fields-Inv-loop check-fields-μ-loop
     (λ c κs. search needs)  -- members-requires
     (λ c. search fields-start)  -- loop-holds
