@@ -70,7 +70,8 @@ module _ (r : CAnswer) where
   quoted-little a e q = rw e q
 
   -- ---- what is said of an entry's report is said of the two numbers
-  pub list-numbers : (a : Listed) (memory : List ℕ) (l : listing.Listing) → r ≡ ofListed (listing.report a) → listing.listing a memory ≡ l → writtenSeen r memory ≡ ofListing l
+  pub list-numbers : (a : Listed) (memory : List ℕ) (l : listing.Listing) → r ≡ ofListed (listing.report a) → listing.listing a memory ≡ l
+      → writtenSeen r memory ≡ ofListing l
   list-numbers a memory l e q = ap (λ (x : CAnswer). writtenSeen x memory) e ∙ ap ofListing q
 
   pub quote-numbers : (a : Quoted) (memory : List ℕ) (l : Quoting) → r ≡ ofQuoted a → quoting a memory ≡ l → writtenSeen r memory ≡ ofQuoting l

@@ -2,14 +2,14 @@
 use mathlib.Core.Path.{_≡_, refl, ap, _∙_}
 use mathlib.Core.Bool.{Bool, true, false}
 use mathlib.Core.List.{List, [], _∷_, _++_}
-use Prim.Native.Nat.{ℕ, _<_, _+_}
+use Prim.Native.Nat.{ℕ, _≤_, _<_, _+_}
 use native.Mathlib.Omega.{arith}
 use borrow.Author.Tests.{eq-eqb, ne-eqb, eqb-true, eqb-false}
 use lib.Dec.{eqb}
 use lib.ListN.{length, drop, length-append}
 use Rattle.octets.specs.Pick.{pick}
 use Rattle.octets.specs.Octets.{octet}
-use Rattle.octets.proofs.Laws.{rest-cons}
+use Rattle.octets.proofs.Laws.{pick-cases, rest-cons}
 use Rattle.quote.specs.Quote.{doubled, quoted}
 use Rattle.quote.specs.inner.Work.{width}
 
@@ -37,6 +37,9 @@ by-octets P none quote other (b ∷ t) = go (eqb b 34) refl (by-octets P none qu
     go false e p = let n = eqb-false b 34 e in rw (doubled-other b t n) (other b t (doubled t) n p)
 
 -- ---- lengths
+pub width-some : (b : ℕ) → 1 ≤ width b
+width-some b = pick-cases (λ n. 1 ≤ n) (eqb b 34) 2 1 (λ _. omega arith) (λ _. omega arith)
+
 width-doubled : (b : ℕ) (s : List ℕ) → length (doubled (b ∷ s)) ≡ width b + length (doubled s)
 unfolding doubled
 width-doubled b s = go (eqb b 34)

@@ -5,7 +5,8 @@ use mathlib.Core.Option.{some}
 use mathlib.Core.List.{List, [], _∷_, _++_, append-assoc}
 use Prim.Native.Nat.{ℕ, zero, suc, _≤_, _<_, _+_, _-_}
 use native.Mathlib.Omega.{arith}
-use borrow.Author.Tests.{ne-eqb}
+use native.Mathlib.Numerals.{add-one}
+use borrow.Author.Tests.{eq-eqb, ne-eqb, eqb-false, le-leb}
 use lib.Dec.{eqb}
 use lib.ListN.{length, take, drop, replicate, length-append, length-replicate}
 use lib.Seq.{drop-append-le, take-append-seam, drop-append-seam, take-append-add, take-at}
@@ -15,15 +16,17 @@ use Rattle.octets.specs.Utf8.{utf8}
 use Rattle.octets.specs.Quoted.{closing, closingAt, undoubled, unquoted}
 use Rattle.octets.proofs.Laws.{pick-cases}
 use Rattle.octets.proofs.QuotedLaws.{undoubled-nil, undoubled-two, undoubled-other, unquoted-whole}
+use Rattle.strings.specs.Asserted.{isText, assertedText}
 use Rattle.assertion.specs.ValueText.{braceFrom, braceAt, valueTextAt}
 use Rattle.assertion.specs.Assertion.{readTo, assertionAt}
 use Rattle.filter.specs.Filter.{item}
-use Rattle.filter.specs.Parse.{headAt, filterFrom}
+use Rattle.filter.specs.Parse.{headAt, filterFrom, filterAt, whole}
 use Rattle.assertion.proofs.Laws.{trimmed-other, starts-fits}
 use Rattle.quote.specs.Quote.{doubled, quoted, Quoting, quoting, written, fits, quotedInto, quotedReport}
 use Rattle.quote.specs.Reading.{closedBy, Opening, openingAt, itemWith, ReadsAs, Reads}
 use Rattle.quote.specs.declared.Quoted.{Quoted}
 use Rattle.quote.proofs.Laws.{by-octets, quoted-is, quoted-length}
+use Rattle.quote.proofs.Unicode.{utf8-joined, utf8-quoted, utf8-closed}
 use Rattle.quote.proofs.Prefix.{starts-in, assertion-in}
 
 -- ---- the text is read back
@@ -55,6 +58,14 @@ unquoted-quoted t =
     unquoted-whole (quoted t) (1 + length (doubled t)) (closing-doubled t 1) (let e = quoted-length t in omega arith)
     ∙ ap (λ (k : ℕ). some (undoubled (part (quoted t) 1 k))) z
     ∙ ap (λ (l : List ℕ). some (undoubled l)) (take-append-seam (doubled t) (34 ∷ [])) ∙ ap some (undoubled-doubled t)
+
+conforms-quoted : (t : List ℕ) → (length t ≡ 0 → ⊥) → isText (quoted t) ≡ true
+unfolding isText
+conforms-quoted t n = rw (unquoted-quoted t) (le-leb 1 (length t) (omega arith))
+
+asserts-quoted : (t : List ℕ) → assertedText (quoted t) ≡ t
+unfolding assertedText
+asserts-quoted t = rw (unquoted-quoted t)
 
 -- ---- the search for the brace passes it
 brace-doubled : (t after : List ℕ) (at inner : ℕ) → braceFrom (doubled t ++ after) at inner true ≡ braceFrom after (at + length (doubled t)) inner true
@@ -140,8 +151,40 @@ unfolding filterFrom headAt
 filter-quoted t n before after at spaces o e f =
     rw (item-starts before (quoted t ++ closedBy spaces after) at e, assertion-quoted t before after (at + 5) spaces o f)
 
-pub quoted-reads : (t : List ℕ) → ReadsAs t (quoted t)
-quoted-reads t = record { back = unquoted-quoted t; passed = brace-quoted t; value = value-quoted t; assertion = assertion-quoted t; filter = filter-quoted t }
+module _ (t : List ℕ) (u : utf8 t ≡ true) where
+  characters-quoted : (before after : List ℕ) → utf8 before ≡ true → utf8 (before ++ (quoted t ++ after)) ≡ utf8 after
+  characters-quoted before after e = utf8-joined before (quoted t ++ after) e ∙ utf8-joined (quoted t) after (utf8-quoted t u)
+
+  alone-quoted : (before : List ℕ) (spaces : ℕ) (o : Opening) → utf8 before ≡ true → starts (bytes "item:") before ≡ true
+      → openingAt (before ++ (34 ∷ [])) 5 ≡ readTo o (length before) → whole (before ++ (quoted t ++ closedBy spaces [])) ≡ some (item (itemWith o (quoted t)))
+  unfolding whole filterAt
+  alone-quoted before spaces o e i f =
+      let s = before ++ (quoted t ++ closedBy spaces []) in
+      let a = length-append before (quoted t ++ closedBy spaces []) in
+      let b = length-append (quoted t) (closedBy spaces []) in
+      let c = length-append {A = ℕ} (replicate spaces 32) (125 ∷ []) in
+      let d = length-replicate {A = ℕ} spaces 32 in
+      let z : length before + (length (quoted t) + spaces) + 1 ≡ length s = omega arith in
+      rw (
+        characters-quoted before (closedBy spaces []) e,
+        utf8-closed spaces,
+        add-one (length s),
+        filter-quoted t (length s) before [] 0 spaces o i f,
+        eq-eqb _ _ z,
+      )
+
+pub quoted-reads : (t : List ℕ) → (length t ≡ 0 → ⊥) → utf8 t ≡ true → ReadsAs t (quoted t)
+quoted-reads t n u = record {
+  back = unquoted-quoted t;
+  conforms = conforms-quoted t n;
+  asserts = asserts-quoted t;
+  passed = brace-quoted t;
+  value = value-quoted t;
+  assertion = assertion-quoted t;
+  filter = filter-quoted t;
+  characters = characters-quoted t u;
+  alone = alone-quoted t u;
+}
 
 -- ---- what was written is read so
 abbrev Read : List ℕ → Quoting → Type 0
@@ -150,8 +193,8 @@ Read t x = Reads (x .answer) t (x .memory)
 read-none : (t : List ℕ) (x : Quoting) → ((n : ℕ) → x .answer ≡ Quoted.Written n → ⊥) → Read t x
 read-none t x f = record { written = λ n e. absurd (f n e) }
 
-read-written : (t room : List ℕ) → Read t (written t room)
-read-written t room = record { written = λ n e. let z : n ≡ length (quoted t) = cc in subst (ReadsAs t) (sym (octets n z)) (quoted-reads t) }
+read-written : (t room : List ℕ) → (length t ≡ 0 → ⊥) → utf8 t ≡ true → Read t (written t room)
+read-written t room m u = record { written = λ n e. let z : n ≡ length (quoted t) = cc in subst (ReadsAs t) (sym (octets n z)) (quoted-reads t m u) }
   where
     octets : (n : ℕ) → n ≡ length (quoted t) → take n (quoted t ++ drop (length (quoted t)) room) ≡ quoted t
     octets n z = take-at (quoted t) (drop (length (quoted t)) room) n (sym z)
@@ -160,8 +203,8 @@ report-read : (t room : List ℕ) → Read t (quotedReport t room)
 unfolding quotedReport quotedInto
 report-read t room =
     pick-cases (Read t) (eqb (length t) 0) _ _ (λ _. read-none t (quoting Quoted.Empty room) (λ n e. let z : _≡_ {A = ℕ} 0 1 = cc in omega arith))
-    (λ _. pick-cases (Read t) (utf8 t) _ _
-    (λ _. pick-cases (Read t) (fits t (length room)) _ _ (λ _. read-written t room)
+    (λ m. pick-cases (Read t) (utf8 t) _ _
+    (λ u. pick-cases (Read t) (fits t (length room)) _ _ (λ _. read-written t room (eqb-false (length t) 0 m) u)
     (λ _. read-none t (quoting Quoted.TooLittleRoom room) (λ n e. let z : _≡_ {A = ℕ} 0 1 = cc in omega arith)))
     (λ _. read-none t (quoting Quoted.NotUtf8 room) (λ n e. let z : _≡_ {A = ℕ} 0 1 = cc in omega arith)))
 

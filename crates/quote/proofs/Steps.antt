@@ -14,7 +14,7 @@ use Rattle.octets.proofs.Laws.{rest-cons, rest-none}
 use Rattle.quote.specs.declared.Quoted.{Quoted}
 use Rattle.quote.specs.Quote.{doubled, quoted, Quoting, quoting, written, fits, quotedInto, quotedReport}
 use Rattle.quote.specs.inner.Work.{width}
-use Rattle.quote.proofs.Laws.{doubled-nil, doubled-quote, doubled-other, width-at, quoted-length}
+use Rattle.quote.proofs.Laws.{doubled-nil, doubled-quote, doubled-other, width-some, width-at, quoted-length}
 
 -- ---- fits: the room that is left, and what is yet to be counted
 pub fits-small : (t : List ℕ) (size : ℕ) → size < 2 → false ≡ fits t size
@@ -108,8 +108,16 @@ module _ (t room : List ℕ) (n i : ℕ) (s : List ℕ) (v : Quotes t room n i s
     first : octet t i ≡ 34 → Writing (quoted t) room (n + 1) (34 ∷ toCome t (i + 1)) (set s n (octet t i))
     first e = writing-one (quoted t) room n s (octet t i) (34 ∷ toCome t (i + 1)) (rw (quotes-quote e) at v)
 
-    pub room-quote : octet t i ≡ 34 → n + 1 < length (set s n (octet t i))
-    room-quote e = let w = first e in let l = w .long in let c = w .count in let f = w .fit in omega arith
+    -- at least the last quote is to come behind an octet
+    pub room-next : (b : ℕ) → n + 1 < length (set s n b)
+    room-next b =
+        let e = length-append (doubled (drop i t)) (34 ∷ []) in
+        let w = width-at t i h in
+        let m = width-some (octet t i) in
+        let l = v .long in
+        let c = v .count in
+        let f = v .fit in
+        rw length-set (omega arith)
 
     pub quotes-double : octet t i ≡ 34 → Quotes t room (n + 1 + 1) (i + 1) (set (set s n (octet t i)) (n + 1) 34)
     quotes-double e = writing-one (quoted t) room (n + 1) (set s n (octet t i)) 34 (toCome t (i + 1)) (first e)

@@ -1,8 +1,8 @@
 -- Valid UTF-8 (RFC 3629): texts one behind the other, and the quoted form of a text.
-use mathlib.Core.Path.{_≡_, refl, _∙_}
+use mathlib.Core.Path.{_≡_, refl}
 use mathlib.Core.Bool.{Bool, true, false, false≢true}
 use mathlib.Core.List.{List, [], _∷_, _++_}
-use Prim.Native.Nat.{ℕ, _≤_, _-_}
+use Prim.Native.Nat.{ℕ, zero, suc, _≤_, _-_}
 use native.Mathlib.Omega.{arith}
 use borrow.Author.Tests.{lt-leb}
 use lib.Dec.{ltb, eqb}
@@ -12,6 +12,7 @@ use Rattle.octets.specs.Utf8.{awaits, afterFirst, after, mayEnd, utf8From, utf8
 use Rattle.octets.specs.declared.Awaiting.{Awaiting}
 use Rattle.octets.proofs.Laws.{pick-cases}
 use Rattle.quote.specs.Quote.{doubled, quoted}
+use Rattle.quote.specs.Reading.{closedBy}
 use Rattle.quote.proofs.Laws.{by-octets, quoted-is}
 
 -- ---- one text behind the other
@@ -68,7 +69,8 @@ second-quote (Awaiting.Tails n least most) h = go (eqb n 0) refl
 
 utf8-doubled : (t : List ℕ) (a : Awaiting) → High a → utf8From a t ≡ true → utf8From a (doubled t) ≡ true
 unfolding utf8From
-utf8-doubled = by-octets Same (λ a h e. e) (λ t d f a h e. rw (second-quote a h) (f (after a 34) (high-after a 34) e)) (λ b t d n f a h e. f (after a b) (high-after a b) e)
+utf8-doubled = by-octets Same (λ a h e. e) (λ t d f a h e. rw (second-quote a h) (f (after a 34) (high-after a 34) e))
+    (λ b t d n f a h e. f (after a b) (high-after a b) e)
   where
     Same : List ℕ → List ℕ → Type 0
     Same t d = (a : Awaiting) → High a → utf8From a t ≡ true → utf8From a d ≡ true
@@ -76,3 +78,8 @@ utf8-doubled = by-octets Same (λ a h e. e) (λ t d f a h e. rw (second-quote a 
 pub utf8-quoted : (t : List ℕ) → utf8 t ≡ true → utf8 (quoted t) ≡ true
 unfolding utf8 utf8From after afterFirst
 utf8-quoted t e = rw (quoted-is t) (joined-from (doubled t) (34 ∷ []) (awaits 0) (utf8-doubled t (awaits 0) (omega arith) e))
+
+pub utf8-closed : (spaces : ℕ) → utf8 (closedBy spaces []) ≡ true
+unfolding utf8 utf8From after afterFirst
+utf8-closed zero = refl
+utf8-closed (suc n) = utf8-closed n

@@ -8,13 +8,15 @@ use lib.ListN.{length, take, drop, replicate}
 use Rattle.octets.specs.Pick.{_>>=_}
 use Rattle.octets.specs.Octets.{bytes}
 use Rattle.octets.specs.Text.{starts}
+use Rattle.octets.specs.Utf8.{utf8}
 use Rattle.octets.specs.Quoted.{unquoted}
+use Rattle.strings.specs.Asserted.{isText, assertedText}
 use Rattle.assertion.specs.Item.{Item}
 use Rattle.assertion.specs.Spaces.{labelAt, markAt, openBrace, closeBrace}
 use Rattle.assertion.specs.ValueText.{braceFrom, valueTextAt}
 use Rattle.assertion.specs.Assertion.{Read, readTo, componentAt, defaultsAt, ruleAt, assertionAt}
 use Rattle.filter.specs.Filter.{item}
-use Rattle.filter.specs.Parse.{filterFrom}
+use Rattle.filter.specs.Parse.{filterFrom, whole}
 use Rattle.quote.specs.declared.Quoted.{Quoted}
 
 -- so many spaces, a closing brace, and any octets
@@ -44,6 +46,9 @@ itemWith o value = record { component = o .component; defaults = o .defaults; ru
 pub record ReadsAs (text q : List ℕ) : Type 0 where
   -- they are one quoted string, and its characters are the text
   pub back : unquoted q ≡ some text
+  -- so for the rules on strings they conform, and assert the text
+  pub conforms : isText q ≡ true
+  pub asserts : assertedText q ≡ text
   -- the search for the brace that ends a value text goes on behind them as it was before them, with as many braces open inside and out of quotes
   pub passed : (after : List ℕ) (at inner : ℕ) → braceFrom (q ++ after) at inner false ≡ braceFrom after (at + length q) inner false
   -- where they stand as a value text behind any octets, they are the value text that is read, and the brace behind them ends it
@@ -57,6 +62,11 @@ pub record ReadsAs (text q : List ℕ) : Type 0 where
   pub filter : (n : ℕ) (before after : List ℕ) (at spaces : ℕ) (o : Opening) → starts (bytes "item:") (drop at before) ≡ true
       → openingAt (before ++ (34 ∷ [])) (at + 5) ≡ readTo o (length before)
       → filterFrom (suc n) (before ++ (q ++ closedBy spaces after)) at ≡ readTo (item (itemWith o q)) (length before + (length q + spaces) + 1)
+  -- they are whole characters: behind valid UTF-8, what follows decides whether all is
+  pub characters : (before after : List ℕ) → utf8 before ≡ true → utf8 (before ++ (q ++ after)) ≡ utf8 after
+  -- a filter of one item that is made so is this item
+  pub alone : (before : List ℕ) (spaces : ℕ) (o : Opening) → utf8 before ≡ true → starts (bytes "item:") before ≡ true
+      → openingAt (before ++ (34 ∷ [])) 5 ≡ readTo o (length before) → whole (before ++ (q ++ closedBy spaces [])) ≡ some (item (itemWith o q))
 
 -- the octets that were written
 pub record Reads (answer : Quoted) (text memory : List ℕ) : Type 0 where

@@ -1,4 +1,4 @@
-use Rattle.quote.proofs.Steps.{Quotes, room-first, room-more, room-quote, quotes-start, quotes-double, quotes-on, quotes-same, quotes-end}
+use Rattle.quote.proofs.Steps.{Quotes, room-first, room-more, room-next, quotes-start, quotes-double, quotes-on, quotes-same, quotes-end}
 use Prim.Native.Nat.{_-_}
 use lib.ListN.{length}
 use borrow.Author.Needs.{needs}
@@ -22,7 +22,7 @@ write-spec =
     (λ c. search needs)  -- shared-slice-read-b
     (λ c. search room-more)  -- slice-write-room-2
     (λ c. search needs)  -- add-n
-    (λ c. search room-quote)  -- slice-write-room-3
+    (λ c. search room-next)  -- slice-write-room-3
     (λ c. search needs)  -- add-n-2
     (λ c. search needs)  -- add-i
     (λ c. search needs)  -- loop-less
