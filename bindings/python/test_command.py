@@ -11,7 +11,9 @@ import subprocess
 import sys
 import tempfile
 import unittest
+import zipfile
 
+import backend
 import tezqulom
 from tezqulom import command, inputs
 from tezqulom.library import library
@@ -284,6 +286,22 @@ class BillRun(Command):
         expected = [name for at, (name, _) in enumerate(records) if (at % 5 == 2 or at % 3 == 2) and at % 1000 != 7]
         self.assertEqual(done.stdout.decode().split(), expected)
         self.assertIn(b"%d records: %d TRUE, %d FALSE, 0 UNDEFINED, 40 refused" % (MANY, len(expected), MANY - 40 - len(expected)), done.stderr)
+
+
+class Wheel(unittest.TestCase):
+    """The package that pip installs."""
+
+    def test_wheel(self):
+        with tempfile.TemporaryDirectory() as folder:
+            wheel = pathlib.Path(folder, backend.build_wheel(folder))
+            self.assertIn(tezqulom.__version__, wheel.name)
+            program = "import tezqulom, tezqulom.command; print(tezqulom.__file__, tezqulom.check_table(b'\\2'))"
+            done = subprocess.run([sys.executable, "-B", "-c", program], check=True, capture_output=True, cwd=folder, text=True,
+                                  env={**os.environ, "PYTHONPATH": str(wheel), "TEZQULOM_LIBRARY": library.file})
+            self.assertEqual(done.stdout, "%s/tezqulom/__init__.py 1\n" % wheel)
+            with zipfile.ZipFile(wheel) as archive:
+                self.assertIn("tezqulom/py.typed", archive.namelist())
+            self.assertTrue(pathlib.Path(folder, backend.build_sdist(folder)).is_file())
 
 
 class ManPage(unittest.TestCase):
