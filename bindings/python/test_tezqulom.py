@@ -168,7 +168,7 @@ class Document(unittest.TestCase):
     def test_sentences(self):
         for sentence, entry, inputs in [
                 ("refused 1: the table has 0 octets, not 1 to 4992", tezqulom.check_table, [b""]),
-                ("refused 1: the value has 1 octets, not 2 to 4096", tezqulom.check_value, [LICENCE, b"0"]),
+                ("refused 1: the value has 1 octet, not 2 to 4096", tezqulom.check_value, [LICENCE, b"0"]),
                 ("refused 1: the filter has 0 octets, not 1 to 2048", tezqulom.ask, [LICENCE, RECORD, ""]),
                 ("refused 1: the budget is 65536, above 65535", tezqulom.ask, [LICENCE, RECORD, P1, 65536]),
                 ("refused 1: the reference has 2049 octets, not 0 to 2048", tezqulom.listing, [LICENCE, RECORD, "a" * 2049]),
