@@ -246,6 +246,12 @@ class Causes(unittest.TestCase):
             self.assertEqual([part.reference for part in records.parts(choice, value, reference)], exact)
             self.assertEqual([node.reference for node in records.tree(choice, value, reference) if node.depth == 0], exact)
 
+    def test_stored(self):
+        """A listed part has its octets as they are stored, and with its type's own tag."""
+        table = build.build(build.Sequence(a=build.Implicit(0, build.Sequence(n=build.Integer()))))
+        one, = records.parts(table, bytes.fromhex("3005A003020105"), "a")
+        self.assertEqual((one.stored.hex(), one.octets.hex(), one.value), ("a003020105", "3003020105", one.stored))
+
     def test_each(self):
         more = 'not:item:{component "copies",rule integerOrderingMatch,value 3}'
         self.assertEqual([answer.truth.name for _, answer in records.each(LICENCE, RECORD, "parts.*", more)], ["FALSE", "TRUE"])

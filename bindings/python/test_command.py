@@ -4,6 +4,7 @@ import base64
 import json
 import os
 import pathlib
+import pty
 import resource
 import shutil
 import sqlite3
@@ -11,7 +12,9 @@ import subprocess
 import sys
 import tempfile
 import unittest
+import zipfile
 
+import backend
 import tezqulom
 from tezqulom import command, inputs
 from tezqulom.library import library
@@ -93,7 +96,7 @@ class Statuses(Command):
             '   16        name PrintableString "Va"', "   20        copies INTEGER 3"])
 
     def test_refused(self):
-        four = "bad: refused 4: the value is not one of the table's type: at octet 0: length 21 passes the enclosing end by 1 octets\n"
+        four = "bad: refused 4: the value is not one of the table's type: at octet 0: length 21 passes the enclosing end by 1 octet\n"
         for arguments in (["ask", "table", "bad", TRUE], ["show", "table", "bad"], ["list", "table", "bad"], ["check", "table", "bad"],
                           ["explain", "table", "bad", TRUE], ["each", "table", "bad", "parts.*", TRUE]):
             self.gives(3, "REFUSED 4\n", *arguments, error=four)
@@ -154,7 +157,7 @@ class Statuses(Command):
             self.assertNotIn(b"Exception ignored", done.stderr)
         self.gives(74, "", "table", "t.py", "-o", "nope/x", error="nope/x: no such file")
         self.gives(74, "", "run", "table", TRUE, "record", "--refused", "nope/x", error="nope/x: no such file")
-        self.gives(74, None, "run", "table", TRUE, "bad", "--refused", "/dev/full", error="output: no space left")
+        self.gives(74, None, "run", "table", TRUE, "bad", "--refused", "/dev/full", error="/dev/full: no space left")
 
     def test_mistake(self):
         """A mistake in the command has a status of its own, never that of FALSE."""
@@ -250,9 +253,9 @@ class BillRun(Command):
         self.assertEqual((self.folder / "tezqulom.undefined").read_text(), "")
 
     def test_statuses(self):
-        self.gives(0, "record\n", "run", "table", TRUE, "record", error="1 records: 1 TRUE")
-        self.gives(0, "", "run", "table", FALSE, "record", error="1 records: 0 TRUE, 1 FALSE")
-        self.gives(2, "", "run", "table", UNDEFINED, "record", "--undefined", "u", error="1 records: 0 TRUE, 0 FALSE, 1 UNDEFINED")
+        self.gives(0, "record\n", "run", "table", TRUE, "record", error="1 record: 1 TRUE")
+        self.gives(0, "", "run", "table", FALSE, "record", error="1 record: 0 TRUE, 1 FALSE")
+        self.gives(2, "", "run", "table", UNDEFINED, "record", "--undefined", "u", error="1 record: 0 TRUE, 0 FALSE, 1 UNDEFINED")
         self.assertEqual((self.folder / "u").read_text(), "record\n")
         self.gives(3, "record\n", "run", "table", TRUE, "bad", "record", error="2 records: 1 TRUE, 0 FALSE, 0 UNDEFINED, 1 refused")
         self.gives(66, "record\n", "run", "table", TRUE, "nope", "record", error="2 records: 1 TRUE, 0 FALSE, 0 UNDEFINED, 0 refused, 1 not read")
@@ -262,7 +265,21 @@ class BillRun(Command):
         self.database([("a", RECORD)])
         for query in ("select id from bill", "select * from nothing", "delete from bill", "selec", "", "select 1, 2; select 3, 4"):
             self.assertEqual(self.run_("run", "table", TRUE, "--sqlite", "bills.db", query).returncode, 64, query)
-        self.gives(0, "a\n", "run", "table", TRUE, "--sqlite", "bills.db", "select id, record from bill", error="1 records")
+        self.gives(0, "a\n", "run", "table", TRUE, "--sqlite", "bills.db", "select id, record from bill", error="1 record")
+
+    def test_terminal(self):
+        """On a terminal the number of records so far is shown on standard error, and wiped."""
+        leader, follower = pty.openpty()
+        program = "import sys\nfrom tezqulom import billrun\nbillrun._PAUSE, billrun._STEP = -1, 1\n" \
+                  "from tezqulom.command import main\nsys.exit(main())\n"
+        environment = {**os.environ, "PYTHONPATH": str(ROOT / "bindings" / "python"), "TEZQULOM_LIBRARY": library.file}
+        done = subprocess.run([sys.executable, "-B", "-c", program, "run", "table", TRUE, "record", "record"], check=False, cwd=self.folder, env=environment,
+                              stdout=subprocess.PIPE, stderr=follower)
+        os.close(follower)
+        said = os.read(leader, 9999)
+        os.close(leader)
+        self.assertEqual((done.returncode, done.stdout), (0, b"record\nrecord\n"))
+        self.assertTrue(said.startswith(b"\r0 records\r1 records\r\x1b[Ktezqulom: 2 records: 2 TRUE"), said)
 
     def test_json(self):
         done = self.run_("run", "table", TRUE, "record", "bad", "--json")
@@ -284,6 +301,22 @@ class BillRun(Command):
         expected = [name for at, (name, _) in enumerate(records) if (at % 5 == 2 or at % 3 == 2) and at % 1000 != 7]
         self.assertEqual(done.stdout.decode().split(), expected)
         self.assertIn(b"%d records: %d TRUE, %d FALSE, 0 UNDEFINED, 40 refused" % (MANY, len(expected), MANY - 40 - len(expected)), done.stderr)
+
+
+class Wheel(unittest.TestCase):
+    """The package that pip installs."""
+
+    def test_wheel(self):
+        with tempfile.TemporaryDirectory() as folder:
+            wheel = pathlib.Path(folder, backend.build_wheel(folder))
+            self.assertIn(tezqulom.__version__, wheel.name)
+            program = "import tezqulom, tezqulom.command; print(tezqulom.__file__, tezqulom.check_table(b'\\2'))"
+            done = subprocess.run([sys.executable, "-B", "-c", program], check=True, capture_output=True, cwd=folder, text=True,
+                                  env={**os.environ, "PYTHONPATH": str(wheel), "TEZQULOM_LIBRARY": library.file})
+            self.assertEqual(done.stdout, "%s/tezqulom/__init__.py 1\n" % wheel)
+            with zipfile.ZipFile(wheel) as archive:
+                self.assertIn("tezqulom/py.typed", archive.namelist())
+            self.assertTrue(pathlib.Path(folder, backend.build_sdist(folder)).is_file())
 
 
 class ManPage(unittest.TestCase):

@@ -168,7 +168,7 @@ class Document(unittest.TestCase):
     def test_sentences(self):
         for sentence, entry, inputs in [
                 ("refused 1: the table has 0 octets, not 1 to 4992", tezqulom.check_table, [b""]),
-                ("refused 1: the value has 1 octets, not 2 to 4096", tezqulom.check_value, [LICENCE, b"0"]),
+                ("refused 1: the value has 1 octet, not 2 to 4096", tezqulom.check_value, [LICENCE, b"0"]),
                 ("refused 1: the filter has 0 octets, not 1 to 2048", tezqulom.ask, [LICENCE, RECORD, ""]),
                 ("refused 1: the budget is 65536, above 65535", tezqulom.ask, [LICENCE, RECORD, P1, 65536]),
                 ("refused 1: the reference has 2049 octets, not 0 to 2048", tezqulom.listing, [LICENCE, RECORD, "a" * 2049]),
@@ -226,6 +226,15 @@ class Quoting(unittest.TestCase):
             self.assertEqual(tezqulom.ask(b"\x08", record, found), Answer(Truth.TRUE, 1), text)
             self.assertEqual(tezqulom.ask(b"\x08", b"\x0c\2zz", found), Answer(Truth.FALSE, 1), text)
             self.assertIn(tezqulom.ask(LICENCE, RECORD, tezqulom.item(text, "presentMatch", "NULL")).truth, (Truth.UNDEFINED, Truth.TRUE))
+
+    def test_library(self):
+        if not tezqulom.quoted_by_library():
+            self.skipTest("the library has no tezqulom_quote")
+        for text, size, answer in [(b'a"b', 7, (0, 6, b'"a""b"\7')), (b'a"b', 6, (0, 6, b'"a""b"')), (b'a"b', 5, (34, 0, b"\7" * 5)),
+                                   (b"", 9, (32, 0, b"\7" * 9)), (b"\xc3", 0, (33, 0, b"")), (b"a", 1, (34, 0, b"\7"))]:
+            room = (ctypes.c_uint8 * size)(*[7] * size)
+            given = library.tezqulom_quote(text, len(text), room, size)
+            self.assertEqual((given.number, given.count, bytes(room)), answer)
 
     def test_no_quoted_form(self):
         for text in ("", b"\xff", b"\xed\xa0\x80"):
@@ -285,7 +294,7 @@ class Header(unittest.TestCase):
              "uint64_t *": ctypes.POINTER(ctypes.c_uint64), "uint8_t *": ctypes.POINTER(ctypes.c_uint8)}
 
     def test_numbers(self):
-        numbers = {name: int(number) for name, number in re.findall(r"TEZQULOM_(\w+) = (\d+)", self.TEXT) if not name.startswith("QUOTE_")}
+        numbers = {name: int(number) for name, number in re.findall(r"TEZQULOM_(\w+) = (\d+)", self.TEXT)}
         ours = {"DONE": 0, **{truth.name: truth.value for truth in Truth}}
         ours.update(("REFUSED_" + refusal.name, refusal.value) for refusal in Refusal)
         ours.update(QUOTE_EMPTY=32, QUOTE_UTF8=33, QUOTE_ROOM=34)

@@ -1,5 +1,6 @@
 """The bill run: one filter about many records."""
 
+import contextlib
 import json
 import os
 import sqlite3
@@ -8,7 +9,7 @@ import time
 import urllib.parse
 from typing import Any, Callable, Dict, Iterator, List, NamedTuple, TextIO, Tuple, Union
 
-from .engine import Answer, Octets, Refused
+from .engine import Answer, Octets, Refused, counted
 from .inputs import NO_INPUT, USAGE, WRITE_ERROR, Inputs, Stop, no_file, recognised
 from .values import printable
 
@@ -27,8 +28,8 @@ class Tally(NamedTuple):
     unread: int
 
     def __str__(self) -> str:
-        return "%d records: %d TRUE, %d FALSE, %d UNDEFINED, %d refused%s" % (
-            sum(self), self.true, self.false, self.undefined, self.refused, ", %d not read" % self.unread if self.unread else "")
+        return "%s: %d TRUE, %d FALSE, %d UNDEFINED, %d refused%s" % (
+            counted(sum(self), "record"), self.true, self.false, self.undefined, self.refused, ", %d not read" % self.unread if self.unread else "")
 
     def status(self) -> int:
         """The exit status: what needs attention first."""
@@ -81,12 +82,43 @@ def shown(identity: Any) -> str:
     return printable(str(identity)) if isinstance(identity, str) else str(identity)
 
 
+class Lines:
+    """A file of lines; a write error names it."""
+
+    def __init__(self, path: str) -> None:
+        self.path = path
+        with self.named_errors():
+            self.file = open(path, "w", encoding="utf-8", errors="backslashreplace")
+
+    @contextlib.contextmanager
+    def named_errors(self) -> Iterator[None]:
+        try:
+            yield
+        except OSError as error:
+            raise Stop(WRITE_ERROR, "%s: %s" % (self.path, (error.strerror or str(error)).lower())) from None
+
+    def write(self, text: str) -> object:
+        """Write a line."""
+        with self.named_errors():
+            return self.file.write(text)
+
+    def __enter__(self) -> "Lines":
+        return self
+
+    def __exit__(self, *_: object) -> None:
+        with self.named_errors():
+            self.file.close()
+
+
+Output = Union[Lines, TextIO]
+
+
 class Run:
     """Asks the records one after another, and writes where each one belongs."""
 
-    def __init__(self, ask: Callable[[Octets], Answer], out: TextIO, undefined: TextIO, refused: TextIO, as_json: bool) -> None:
+    def __init__(self, ask: Callable[[Octets], Answer], out: Output, undefined: Output, refused: Output, as_json: bool) -> None:
         self.ask, self.as_json = ask, as_json
-        self.files: Dict[str, TextIO] = {"TRUE": out, "UNDEFINED": undefined, "REFUSED": refused, "UNREAD": refused}
+        self.files: Dict[str, Output] = {"TRUE": out, "UNDEFINED": undefined, "REFUSED": refused, "UNREAD": refused}
         self.counts = dict.fromkeys(("TRUE", "FALSE", "UNDEFINED", "REFUSED", "UNREAD"), 0)
 
     def one(self, identity: Any, record: Record) -> None:
@@ -110,7 +142,7 @@ class Run:
             return "REFUSED", str(error)
         return truth.name, tests
 
-    def write(self, file: TextIO, identity: str, answer: str, detail: Any) -> None:
+    def write(self, file: Output, identity: str, answer: str, detail: Any) -> None:
         """A line about a record."""
         if self.as_json:
             key = "tests" if isinstance(detail, int) else "why"
@@ -129,11 +161,3 @@ class Run:
         if terminal:
             sys.stderr.write("\r\x1b[K")
         return Tally(*self.counts.values())
-
-
-def opened(path: str) -> TextIO:
-    """A file to write to."""
-    try:
-        return open(path, "w", encoding="utf-8", errors="backslashreplace")
-    except OSError as error:
-        raise Stop(WRITE_ERROR, "%s: %s" % (path, (error.strerror or str(error)).lower())) from None

@@ -9,7 +9,7 @@ import traceback
 from typing import Any, Callable, Dict, Iterable, List, NoReturn, Optional
 
 from . import billrun, builder, clauses, filters, records
-from .engine import MOST_TESTS, NotQuoted, Refusal, Refused, Truth, ask, asker, check_table, check_value, quoted
+from .engine import MOST_TESTS, NotQuoted, Refusal, Refused, Truth, ask, asker, check_table, check_value, counted, quoted
 from .inputs import NO_INPUT, USAGE, WRITE_ERROR, Input, Inputs, Stop
 from .rows import Table
 from .values import Plain, Time, gser, printable
@@ -148,7 +148,7 @@ def node_line(node: records.Node) -> str:
     place = "%5d" % node.place if node.source == "stored" else " " * 5
     value = " " + gser(node.kind, node.value) if node.kind.basic and node.source != "absent" else ""
     if node.elements is not None:
-        value = ", %d element%s" % (node.elements, "" if node.elements == 1 else "s")
+        value = ", " + counted(node.elements, "element")
     mark = "" if node.source == "stored" else " (%s)" % node.source
     return "%s  %s%s%s%s%s" % (place, "  " * node.depth, node.name + " " if node.name else "", node.kind.asn1, value, mark)
 
@@ -206,7 +206,7 @@ def check(options: argparse.Namespace, inputs: Inputs) -> int:
     if options.json:
         say(json.dumps({"answer": "GOOD", "rows": rows}))
     else:
-        say("%s: admitted, %d row%s" % (found.name, rows, "" if rows == 1 else "s"), *([] if record is None else ["%s: good" % record.name]))
+        say("%s: admitted, %s" % (found.name, counted(rows, "row")), *([] if record is None else ["%s: good" % record.name]))
     return DONE
 
 
@@ -288,7 +288,7 @@ def run_(options: argparse.Namespace, inputs: Inputs) -> int:
 
 def _billed(options: argparse.Namespace, asked: Callable[..., Any], source: Iterable[Any]) -> billrun.Tally:
     """The run, with its files open."""
-    with billrun.opened(options.undefined) as undefined, billrun.opened(options.refused) as refused:
+    with billrun.Lines(options.undefined) as undefined, billrun.Lines(options.refused) as refused:
         return billrun.Run(asked, sys.stdout, undefined, refused, options.json).all(iter(source))
 
 
@@ -378,7 +378,7 @@ def main(arguments: Optional[List[str]] = None) -> int:
         complain(str(error))
         return NO_INPUT
     except OSError as error:
-        complain("output: %s" % (error.strerror or str(error)).lower())
+        complain("standard output: %s" % (error.strerror or str(error)).lower())
         return WRITE_ERROR
 
 
@@ -394,7 +394,7 @@ def flushed(status: int) -> int:
 def run() -> NoReturn:
     """The command as a process: what standard output holds back is written or dropped before it ends."""
     if sys.stdout is None:
-        complain("output: it is closed")
+        complain("standard output: it is closed")
         sys.exit(WRITE_ERROR)
     for stream in (sys.stdout, sys.stderr):
         if stream is not None:

@@ -147,9 +147,18 @@ def _number(given: Any, name: str) -> int:
     return min(given, _LARGEST)
 
 
+def counted(number: int, thing: str) -> str:
+    """So many things, in words.
+
+    >>> counted(1, "octet"), counted(2, "octet")
+    ('1 octet', '2 octets')
+    """
+    return "%d %s%s" % (number, thing, "" if number == 1 else "s")
+
+
 def _size_sentence(name: str, size: int, least: int, most: int) -> Optional[str]:
     """What is wrong with a size, or None."""
-    return None if least <= size <= most else "the %s has %d octets, not %d to %d" % (name, size, least, most)
+    return None if least <= size <= most else "the %s has %s, not %d to %d" % (name, counted(size, "octet"), least, most)
 
 
 def _sizes(table: Optional[int] = None, value: Optional[int] = None, text: Optional[int] = None,

@@ -2,7 +2,7 @@
 
 from typing import Iterator, List, NamedTuple, Optional, Tuple
 
-from .engine import Answer, Component, Count, Default, Octets, Refusal, Refused, Text, asker, check_value, listing, part
+from .engine import Answer, Component, Count, Default, Octets, Refusal, Refused, Text, asker, check_value, counted, listing, part
 from .rows import CONSTRUCTED, DEFAULT, EXPLICIT, MANDATORY, Member, Table
 from .values import Kind, Plain, contents_of, encoded, gser, integer_contents, plain
 
@@ -100,19 +100,16 @@ class _Named:
         self.table, self.octets, self.reference = Table(table), bytes(value), reference
         self.found, self.row = _Tree(self.table, self.octets), self.table.reached(reference)
         self.nodes = list(self.found.nodes(0, 0, 0, "", ""))
+        self.references = {(node.source, node.place, node.depth, node.name if node.source == "default" else ""): node.reference for node in self.nodes}
         self.depth = 0 if reference is None else reference.count(".") + 1
 
     def exact(self, one: Component) -> str:
         """The reference that names this component alone: `*` and positions from the end are positions in it."""
         if isinstance(one, Count):
-            return _joined(self.at("stored", one.place, self.depth - 1), "0")
+            return _joined(self.references["stored", one.place, self.depth - 1, ""], "0")
         if isinstance(one, Default):
-            return self.at("default", one.place, self.depth, self.table.rows[one.row].identifier)
-        return self.at("stored", one.place, self.depth)
-
-    def at(self, source: str, place: int, depth: int, name: Optional[str] = None) -> str:
-        """The reference of the node at a place and depth."""
-        return next(node.reference for node in self.nodes if (node.source, node.place, node.depth) == (source, place, depth) and name in (None, node.name))
+            return self.references["default", one.place, self.depth, self.table.rows[one.row].identifier]
+        return self.references["stored", one.place, self.depth, ""]
 
 
 def tree(table: Octets, value: Octets, reference: Optional[str] = None) -> List[Node]:
@@ -145,11 +142,13 @@ class Part(NamedTuple):
     kind: Kind
     table: bytes
     octets: bytes
+    stored: bytes = b""
+    """The octets as they are stored; none of a default and a count."""
 
     @property
     def value(self) -> Plain:
-        """The value of a basic kind; else the octets."""
-        return plain(self.kind, contents_of(self.octets)) if self.kind.basic else self.octets
+        """The value of a basic kind; else the octets as they are stored."""
+        return plain(self.kind, contents_of(self.octets)) if self.kind.basic else self.stored
 
 
 def parts(table: Octets, value: Octets, reference: Optional[str] = None, defaults: bool = True) -> List[Part]:
@@ -167,7 +166,7 @@ def _part(named: _Named, one: Component) -> Part:
         return Part(one, exact, rows.kind(row), rows.after(row), rows.default_octets(Member(one.row, rows.rows[one.row])))
     assert row is not None
     octets, tag = part(named.octets, one.place, one.length), rows.kind(row).tag
-    return Part(one, exact, rows.kind(row), rows.after(row), octets if tag is None else bytes([tag]) + octets[1:])
+    return Part(one, exact, rows.kind(row), rows.after(row), octets if tag is None else bytes([tag]) + octets[1:], octets)
 
 
 def each(table: Octets, value: Octets, reference: Optional[str], filter_text: Text) -> List[Tuple[Part, Answer]]:
@@ -220,7 +219,7 @@ class _Search:
     def whole(self) -> Fault:
         end = self.value(0, self.table.kind(0).tag, 0, len(self.octets), "")
         if end < len(self.octets):
-            return Fault(end, "", "the value ends here, and %d more octets follow" % (len(self.octets) - end))
+            return Fault(end, "", "the value ends here, and %s more follow" % counted(len(self.octets) - end, "octet"))
         return Fault(0, "", "the engine refuses the value; the cause was not found")
 
     def shown(self, start: int, end: int) -> str:
@@ -238,7 +237,7 @@ class _Search:
         size = self.length(octets[1:4], place, reference)
         start = place + 2 + max(0, octets[1] - 0x80)
         if start + size > limit:
-            raise _Found(place, reference, "length %d passes the enclosing end by %d octets" % (size, start + size - limit))
+            raise _Found(place, reference, "length %d passes the enclosing end by %s" % (size, counted(start + size - limit, "octet")))
         return start, start + size
 
     @staticmethod
@@ -317,7 +316,7 @@ class _Search:
                 raise _Found(place, name, "tag octet %02X where %02X is needed (explicit tag)" % (self.octets[place], tag or 0))
             inner = self.value(to, self.table.kind(to).tag, start, end, name)
             if inner < end:
-                raise _Found(inner, name, "%d more octets within the explicit tag" % (end - inner))
+                raise _Found(inner, name, "%s too many within the explicit tag" % counted(end - inner, "octet"))
             start = self.header(start, end, name)[0]
         else:
             self.value(to, tag, place, limit, name)

@@ -1,6 +1,6 @@
 """The rows of a table, the table of the rows from one on, and the row that a reference reaches."""
 
-from typing import Iterator, List, NamedTuple, Optional, Tuple
+from typing import Dict, Iterator, List, NamedTuple, Optional, Tuple
 
 from .engine import Octets, check_table
 from .values import Kind, Plain, encoded, plain
@@ -100,6 +100,7 @@ class Table:
         check_table(octets)
         self.octets = bytes(octets)
         self.rows = read(self.octets)
+        self._after: Dict[int, bytes] = {}
 
     def kind(self, row: int) -> Kind:
         """The kind of a row."""
@@ -117,7 +118,9 @@ class Table:
 
     def after(self, row: int) -> bytes:
         """The table whose row 0 is this type row: rows point only to later ones, so those from it on, renumbered, are a table."""
-        return from_row(self.rows, row)
+        if row not in self._after:
+            self._after[row] = from_row(self.rows, row)
+        return self._after[row]
 
     def tags(self, row: int) -> List[int]:
         """The class and number of each tag that a value of a type row can start with."""
