@@ -25,6 +25,7 @@ try:
     from pyasn1.type import char, namedtype, tag, univ, useful
 except ImportError:
     encoder = None
+    print("  pyasn1's classes and records SKIPPED, it is not installed")
 
 DRAWN = 1500
 NOT_FOUND = "not found"
@@ -307,6 +308,7 @@ copies=IMPLICIT:0,INTEGER:3
         try:
             subprocess.run(["openssl", "version"], check=True, capture_output=True)
         except OSError:
+            print("\n  the comparison with openssl SKIPPED, it is not installed")
             self.skipTest("openssl is not installed")
 
     def test_places(self):
