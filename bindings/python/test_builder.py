@@ -86,6 +86,7 @@ class Descriptions(unittest.TestCase):
                 ("q.c: an implicit tag on a CHOICE", build.Sequence(q=build.Sequence(c=build.Implicit(0, build.Choice(a=build.Null()))))),
                 ("tags and presence stand on members only", build.Optional(build.Integer())),
                 (r"\*: tags and presence stand on members only", build.SequenceOf(build.Explicit(1, build.Integer()))),
+                ("when: no row for UTCTime", build.Sequence(when=build.Optional(build.UTCTime()))), ("s: no row for Set", build.Sequence(s=build.Set(a=1))),
                 ("a: tag number 31, not 0 to 30", build.Sequence(a=build.Implicit(31, build.Integer()))),
                 ("a{25}: a name has at most 24 characters", build.Sequence({"a" * 25: build.Integer()})),
                 ("more than 16 types in one another", deep),
