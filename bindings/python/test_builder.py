@@ -25,6 +25,7 @@ try:
     from pyasn1.type import char, namedtype, tag, univ, useful
 except ImportError:
     encoder = None
+    print("  pyasn1's classes and records SKIPPED, it is not installed")
 
 DRAWN = 1500
 NOT_FOUND = "not found"
@@ -85,6 +86,7 @@ class Descriptions(unittest.TestCase):
                 ("q.c: an implicit tag on a CHOICE", build.Sequence(q=build.Sequence(c=build.Implicit(0, build.Choice(a=build.Null()))))),
                 ("tags and presence stand on members only", build.Optional(build.Integer())),
                 (r"\*: tags and presence stand on members only", build.SequenceOf(build.Explicit(1, build.Integer()))),
+                ("when: no row for UTCTime", build.Sequence(when=build.Optional(build.UTCTime()))), ("s: no row for Set", build.Sequence(s=build.Set(a=1))),
                 ("a: tag number 31, not 0 to 30", build.Sequence(a=build.Implicit(31, build.Integer()))),
                 ("a{25}: a name has at most 24 characters", build.Sequence({"a" * 25: build.Integer()})),
                 ("more than 16 types in one another", deep),
@@ -307,6 +309,7 @@ copies=IMPLICIT:0,INTEGER:3
         try:
             subprocess.run(["openssl", "version"], check=True, capture_output=True)
         except OSError:
+            print("\n  the comparison with openssl SKIPPED, it is not installed")
             self.skipTest("openssl is not installed")
 
     def test_places(self):

@@ -80,6 +80,9 @@ class Statuses(Command):
         self.gives(0, "count 6 2 parts.0 INTEGER 2\n", "list", "table", "record", "parts.0")
         self.gives(0, "       seats INTEGER 1 (default)\n", "show", "table", "record", "seats")
         self.gives(0, "", "show", "table", "record", "parts.3")
+        (self.folder / "list").write_bytes(b"\x0e\0\1\2")
+        self.gives(0, "stored 5 3 2 INTEGER 9\n", "list", "list", "-", "-1", stdin=bytes.fromhex("3006020107020109"))
+        self.gives(3, "REFUSED 3\n", "list", "list", "-", "--", "-1.x", stdin=bytes.fromhex("3006020107020109"), error="the reference: refused 3")
         self.gives(0, "FALSE 1  default 8 9 parts.1.copies INTEGER 1\nTRUE 1  stored 20 3 parts.2.copies INTEGER 3\n", "each", "table", "record",
                    "parts.*.copies", "item:{rule integerMatch,value 3}")
         self.gives(0, "nothing is refused\n", "why", "table", "record", TRUE)
@@ -112,6 +115,8 @@ class Statuses(Command):
         self.gives(3, "REFUSED 3\n", "each", "table", "record", "parts.*", "item:x", error="the filter: " + three)
         self.gives(3, "REFUSED 3\n", "list", "table", "record", "seat", error="the reference: refused 3: the reference is malformed")
         self.gives(3, "REFUSED 3\n", "list", "table", "record", "", error="the reference: refused 3: the reference is malformed")
+        self.gives(3, "REFUSED 3\n", "show", "table", "record", b"\xff", error="the reference: refused 3: the reference is malformed")
+        self.gives(3, "REFUSED 3\n", "ask", "table", "record", b"item:\xff", error="the filter: refused 3")
         self.gives(3, "REFUSED 5\n", "ask", "table", "record", TRUE, "--budget", "1", error="the filter: refused 5: the tests needed exceed the budget")
         self.gives(3, "REFUSED 1\n", "ask", "table", "record", TRUE, "--budget", "65536", error="the filter: refused 1: the budget is 65536")
 
@@ -332,6 +337,7 @@ class ManPage(unittest.TestCase):
 
     def test_warnings(self):
         if shutil.which("man") is None:
+            print("\n  the man page's warnings SKIPPED, man is not installed")
             self.skipTest("man is not installed")
         done = subprocess.run(["man", "--warnings", "-l", "-E", "UTF-8", "-Tutf8", self.PAGE], check=False, capture_output=True,
                               env={**os.environ, "LC_ALL": "C.UTF-8", "MANROFFSEQ": ""})

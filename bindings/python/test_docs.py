@@ -65,8 +65,10 @@ class Examples(unittest.TestCase):
         for name, octets in {"licence.table": LICENCE, **self.records()}.items():
             (self.folder / name).write_bytes(octets)
 
-    @unittest.skipIf(shutil.which("sqlite3") is None, "the command sqlite3 is not installed")
     def test_first_steps(self):
+        if shutil.which("sqlite3") is None:
+            print("\n  the README's first steps SKIPPED, the command sqlite3 is not installed")
+            self.skipTest("the command sqlite3 is not installed")
         self.play(section(README, "First steps"), 7)
 
     def test_cookbook(self):

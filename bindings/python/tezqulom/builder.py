@@ -28,7 +28,8 @@ from .rows import CONTEXT, DEFAULT, EXPLICIT, IMPLICIT, MANDATORY, MOST_ROWS, NO
 from .values import Kind, integer_contents
 
 __all__ = ["BitString", "Boolean", "Choice", "Default", "Enumerated", "Explicit", "GeneralizedTime", "IA5String", "Implicit", "Integer", "Null",
-           "ObjectIdentifier", "OctetString", "Optional", "PrintableString", "Sequence", "SequenceOf", "SetOf", "TableError", "UTF8String", "build"]
+           "ObjectIdentifier", "OctetString", "Optional", "PrintableString", "Sequence", "SequenceOf", "Set", "SetOf", "TableError", "UTCTime", "UTF8String",
+           "build"]
 
 MOST_CHAINED = clauses.MOST_CHAINED
 _LONGEST_NAME = 24
@@ -66,6 +67,22 @@ def _basic(kind: Kind) -> Callable[[], Type]:
 
 Boolean, Integer, Enumerated, Null, ObjectIdentifier, OctetString = map(_basic, list(Kind)[:6])
 BitString, UTF8String, PrintableString, IA5String, GeneralizedTime = map(_basic, list(Kind)[6:11])
+
+
+class Rowless(NamedTuple):
+    """A type that has no row."""
+
+    name: str
+
+
+def UTCTime() -> Rowless:
+    """UTCTime, which has no row."""
+    return Rowless("UTCTime")
+
+
+def Set(members: Maybe[Dict[str, Any]] = None, /, **named: Any) -> Rowless:
+    """SET, which has no row."""
+    return Rowless("Set")
 
 
 def _named(kind: Kind, members: Maybe[Dict[str, Any]], named: Dict[str, Any]) -> Type:
@@ -195,6 +212,8 @@ def _settled(given: Any, path: str, depth: int = 1) -> Type:
     """A description with its parts checked, pyasn1's classes turned into descriptions."""
     if isinstance(given, Marked):
         raise _fail(path, "tags and presence stand on members only")
+    if isinstance(given, Rowless):
+        raise _fail(path, "no row for %s" % given.name)
     if depth > MOST_CHAINED:
         raise _fail(path, "more than %d types in one another" % MOST_CHAINED)
     described = given if isinstance(given, Type) else _of_pyasn1(given, path)

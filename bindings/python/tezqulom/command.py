@@ -19,8 +19,9 @@ DONE, REFUSED = 0, 3
 MISTAKE, INTERRUPTED = 70, 130
 STATUS = {Truth.TRUE: 0, Truth.FALSE: 1, Truth.UNDEFINED: 2}
 UNDEFINED_FILE, REFUSED_FILE = "tezqulom.undefined", "tezqulom.refused"
-EPILOGUE = """TABLE and RECORD are files in DER, hexadecimal digits or PEM; FILTER is a filter's text (it starts with item:, and:, or: or not:) or a file of it;
-`-` is standard input. Exit status: 0 TRUE or done, 1 FALSE, 2 Undefined, 3 refused, 64 usage, 66 no file, 74 write error."""
+EPILOGUE = """TABLE and RECORD are files in DER, hexadecimal digits or PEM; FILTER is a filter's text (it starts with item:, and:, or: or not:) or a
+file of it; `-` is standard input; an argument that starts with a hyphen stands after `--`. Exit status: 0 TRUE or done, 1 FALSE, 2 Undefined,
+3 refused, 64 usage, 66 no file, 74 write error."""
 
 
 class Parser(argparse.ArgumentParser):

@@ -96,7 +96,8 @@ class _Named:
     """What a reference names in a record, each with the reference of it alone."""
 
     def __init__(self, table: Octets, value: Octets, reference: Optional[str], defaults: bool = True) -> None:
-        self.components = listing(table, value, reference, defaults)
+        given = None if reference is None else reference.encode("utf-8", "surrogateescape")
+        self.components = listing(table, value, given, defaults)
         self.table, self.octets, self.reference = Table(table), bytes(value), reference
         self.found, self.row = _Tree(self.table, self.octets), self.table.reached(reference)
         self.nodes = list(self.found.nodes(0, 0, 0, "", ""))
