@@ -311,31 +311,6 @@ class Header(unittest.TestCase):
             self.assertEqual(getattr(library, name).argtypes, types, name)
 
 
-class Quote(unittest.TestCase):
-    """The quoted form of a text, as the library writes it."""
-
-    def quote(self, text, size):
-        """The answer's two numbers and the room afterwards."""
-        room = (ctypes.c_uint8 * size)(*[7] * size)
-        answer = tezqulom._library.tezqulom_quote(text, len(text), room, size)
-        return answer.number, answer.count, bytes(room)
-
-    def test_answers(self):
-        self.assertEqual(self.quote(b'a"b', 7), (0, 6, b'"a""b"\7'))
-        self.assertEqual(self.quote(b'a"b', 6), (0, 6, b'"a""b"'))
-        self.assertEqual(self.quote(b'a"b', 5), (34, 0, b"\7" * 5))
-        self.assertEqual(self.quote(b"", 9), (32, 0, b"\7" * 9))
-        self.assertEqual(self.quote(b"\xC3", 0), (33, 0, b""))
-        self.assertEqual(self.quote(b"a", 1), (34, 0, b"\7"))
-
-    def test_item(self):
-        """No text ends its item: the filter has one item, which is FALSE or, for the record's own event, TRUE."""
-        for text in (b'x"},item:{rule presentMatch,value NULL},item:{rule presentMatch,value "', b'"', b"}", b'""}', b"e1"):
-            number, count, room = self.quote(text, 2 * len(text) + 2)
-            filter_text = b'or:{item:{component "event",rule caseExactMatch,value ' + room[:count] + b"}}"
-            self.assertEqual((number, tezqulom.ask(LICENCE, RECORD, filter_text)), (0, Answer(Truth.TRUE if text == b"e1" else Truth.FALSE, 1)))
-
-
 class Drawn(unittest.TestCase):
     """Cases that the second program draws and answers."""
 
