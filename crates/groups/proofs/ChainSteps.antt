@@ -96,7 +96,7 @@ named-cong f g t s i later h e =
 
 -- the array d is right from row i on
 abbrev pub Right : List ℕ → List ℕ → List ℕ → ℕ → Type 0
-Right t s d i = (j : ℕ) → i ≤ j → j < length s → (rowAt d j ≤ 16) × ((k : ℕ) → chainFits k t s j ≡ leb (rowAt d j) k)
+Right t s d i = (j : ℕ) → i ≤ j → j < length s → (rowAt d j ≤ tableLimits .chain) × ((k : ℕ) → chainFits k t s j ≡ leb (rowAt d j) k)
 
 depth-next : (t s d : List ℕ) (i : ℕ) → Later t s → Right t s d (suc i) → i < length s → (k : ℕ) → chainFits k t s i ≡ leb (deepest d t s i + 1) k
 unfolding chainFits
@@ -108,9 +108,9 @@ depth-next t s d i later right h (suc k) =
     ∙ ap (λ (x : ℕ). leb x (suc k)) (sym (add-one (deepest d t s i)))
 
 abbrev pub Chains : List ℕ → List ℕ → List ℕ → ℕ → Type 0
-Chains t s d i = (i ≤ length s) × (length d ≡ 128) × Right t s d i
+Chains t s d i = (i ≤ length s) × (length d ≡ tableLimits .rows) × Right t s d i
 
-pub chains-start : (t s d : List ℕ) → length d ≡ 128 → Chains t s d (length s)
+pub chains-start : (t s d : List ℕ) → length d ≡ tableLimits .rows → Chains t s d (length s)
 chains-start t s d e = (omega arith, e, λ j h l. absurd (omega arith))
 
 module _ (t s d : List ℕ) (i m : ℕ) (points : everyRow (pointsLater t s) s ≡ true) (stands : membersStand t s ≡ true) (v : Chains t s d i) (pos : 0 < i) (told : m ≡ deepest d t s (i - 1)) where
@@ -121,21 +121,21 @@ module _ (t s d : List ℕ) (i m : ℕ) (points : everyRow (pointsLater t s) s �
   next k = let r : Right t s d (suc (i - 1)) = rw one-down (v .2) in let l : i - 1 < length s = omega arith in
       depth-next t s d (i - 1) (is-later t s points stands) r l k ∙ ap (λ (x : ℕ). leb (x + 1) k) (sym told)
 
-  pub chains-long : 16 ≤ m → false ≡ everyRow (chainFits (tableLimits .chain) t s) s
+  pub chains-long : tableLimits .chain ≤ m → false ≡ everyRow (chainFits (tableLimits .chain) t s) s
   chains-long h = let l : i - 1 < length s = omega arith in
-      sym (all-not (chainFits (tableLimits .chain) t s) (length s) (i - 1) l (next 16 ∙ lt-leb (m + 1) 16 (omega arith)))
+      sym (all-not (chainFits (tableLimits .chain) t s) (length s) (i - 1) l (next (tableLimits .chain) ∙ lt-leb (m + 1) (tableLimits .chain) (omega arith)))
 
-  pub chains-again : m < 16 → length s ≤ tableLimits .rows → Chains t s (set d (i - 1) (m + 1)) (i - 1)
+  pub chains-again : m < tableLimits .chain → length s ≤ tableLimits .rows → Chains t s (set d (i - 1) (m + 1)) (i - 1)
   chains-again h short = (omega arith, length-set d (i - 1) (m + 1) ∙ v .1, λ j a b. ⊎-elim (here j) (there j b) (eq-or-lt-of-le a))
     where
       inside : i - 1 < length d
       inside = let e = v .1 in omega arith
 
-      here : (j : ℕ) → i - 1 ≡ j → (rowAt (set d (i - 1) (m + 1)) j ≤ 16) × ((k : ℕ) → chainFits k t s j ≡ leb (rowAt (set d (i - 1) (m + 1)) j) k)
+      here : (j : ℕ) → i - 1 ≡ j → (rowAt (set d (i - 1) (m + 1)) j ≤ tableLimits .chain) × ((k : ℕ) → chainFits k t s j ≡ leb (rowAt (set d (i - 1) (m + 1)) j) k)
       here j q = rw (← q, getD-set-same d (i - 1) (m + 1) 0 inside) (omega arith, next)
 
-      there : (j : ℕ) → j < length s → i - 1 < j → (rowAt (set d (i - 1) (m + 1)) j ≤ 16) × ((k : ℕ) → chainFits k t s j ≡ leb (rowAt (set d (i - 1) (m + 1)) j) k)
+      there : (j : ℕ) → j < length s → i - 1 < j → (rowAt (set d (i - 1) (m + 1)) j ≤ tableLimits .chain) × ((k : ℕ) → chainFits k t s j ≡ leb (rowAt (set d (i - 1) (m + 1)) j) k)
       there j b l = rw (getD-set-other d (i - 1) j (m + 1) 0 (λ z. omega arith)) (v .2 j (omega arith) b)
 
 pub chains-done : (t s d : List ℕ) (i : ℕ) → Chains t s d i → i ≤ 0 → true ≡ everyRow (chainFits (tableLimits .chain) t s) s
-chains-done t s d i v z = sym (all-is (chainFits (tableLimits .chain) t s) (length s) (λ j l. let w = v .2 j (omega arith) l in w .1 16 ∙ le-leb (rowAt d j) 16 (w .0)))
+chains-done t s d i v z = sym (all-is (chainFits (tableLimits .chain) t s) (length s) (λ j l. let w = v .2 j (omega arith) l in w .1 (tableLimits .chain) ∙ le-leb (rowAt d j) (tableLimits .chain) (w .0)))

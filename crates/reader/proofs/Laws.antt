@@ -14,7 +14,8 @@ use Rattle.value.specs.Value.{Spot, spotAt, Value, Fields, Values}
 use Rattle.value.specs.Decode.{storedValue}
 use Rattle.value.proofs.Decodes.{Behind, Decodes, is-basic, is-sequence, is-choice, is-list, Tagged, bare, filling}
 use Rattle.value.proofs.Decodes.{Fielded, none-left, there, lacks, Chosen, this, other, Elements, ends, goes, decodes-stored}
-use Rattle.reader.specs.There.{headerThere, sizeThere, nextThere, valueThere, contentsThere}
+use Rattle.reader.specs.There.{headerThere, contentsThere}
+use Rattle.reader.specs.inner.Reads.{sizeThere, nextThere, valueThere}
 use Rattle.reader.specs.inner.Sees.{Sees, SeesAll, SeesFields, SeesElements}
 
 sees-there : (v : List ℕ) (at o start n : ℕ) → headerThere v at ≡ Header.Found o start n → Sees v (spotAt v at start n)

@@ -7,7 +7,8 @@ use lib.ListN.{length}
 use Rattle.octets.specs.Octets.{part}
 use Rattle.der.specs.declared.Header.{Header}
 use Rattle.der.proofs.Laws.{header-long, header-within}
-use Rattle.reader.specs.There.{headerThere, sizeThere, valueThere}
+use Rattle.reader.specs.There.{headerThere}
+use Rattle.reader.specs.inner.Reads.{sizeThere, valueThere}
 
 module _ (s : List ℕ) (place : ℕ) (h : Header) (read : h ≡ headerThere s place) where
   -- ---- no header fits

@@ -4,7 +4,8 @@ use mathlib.Core.List.{[], _∷_, map}
 use Rattle.octets.specs.Octets.{hex}
 use Rattle.der.specs.declared.Header.{Header}
 use Rattle.value.specs.Paper.{licenceRecord}
-use Rattle.reader.specs.There.{headerThere, sizeThere, nextThere, valueThere, contentsThere}
+use Rattle.reader.specs.There.{headerThere, contentsThere}
+use Rattle.reader.specs.inner.Reads.{sizeThere, nextThere, valueThere}
 use Rattle.reader.specs.Computing.{readerComputes}
 
 -- the record, its event, the list of its parts, the second part's copies; inside the event's contents, where 65 31 would be a tag and a length of

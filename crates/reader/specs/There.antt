@@ -1,42 +1,19 @@
--- What a reader sees: "a reader that holds the stored bytes and a place". The value at a place lies before the octets' end.
-use Prim.Native.Nat.{ℕ, _+_, _-_}
+-- What stands at a place of a stored value's octets; the value there lies before the octets' end.
+use Prim.Native.Nat.{ℕ}
 use mathlib.Core.List.{List, []}
 use lib.ListN.{length}
-use denote.Ref.{RefT}
 use Rattle.octets.specs.Octets.{part}
 use Rattle.der.specs.Header.{headerAt}
 use Rattle.der.specs.declared.Header.{Header}
-use Rattle.reader.specs.declared.Reader.{Reader}
-
--- the reader that holds these octets and this place
-abbrev pub readerAt : RefT (List ℕ) → ℕ → Reader
-readerAt octets place = record { octets = octets; place = place }
 
 -- the header of the value at a place
 unfoldable pub headerThere : List ℕ → ℕ → Header
 headerThere s place = headerAt s place (length s)
 
--- the length of header and contents, from the value's place
-abbrev pub sizeFrom : ℕ → Header → ℕ
-sizeFrom place Header.Misfit = 0
-sizeFrom place (Header.Found o start n) = start + n - place
-
 -- the contents behind a header
 abbrev pub contentsOf : List ℕ → Header → List ℕ
 contentsOf s Header.Misfit = []
 contentsOf s (Header.Found o start n) = part s start n
-
--- "its whole length", header and contents; 0 where no header fits
-unfoldable pub sizeThere : List ℕ → ℕ → ℕ
-sizeThere s place = sizeFrom place (headerThere s place)
-
--- the place after the value
-unfoldable pub nextThere : List ℕ → ℕ → ℕ
-nextThere s place = place + sizeThere s place
-
--- the value's octets, header and contents; none where no header fits
-unfoldable pub valueThere : List ℕ → ℕ → List ℕ
-valueThere s place = part s place (sizeThere s place)
 
 -- the octets of its contents; none where no header fits
 unfoldable pub contentsThere : List ℕ → ℕ → List ℕ

@@ -2,7 +2,8 @@
 // over the reader takes it apart and calls one of these. Reads past the end are total, so nothing is asked of a caller.
 use der::Header;
 ghost use mathlib.Core.Path.{_≡_};
-ghost use Rattle.reader.specs.There.{readerAt, headerThere, sizeThere, valueThere};
+ghost use Rattle.reader.specs.There.{headerThere};
+ghost use Rattle.reader.specs.inner.Reads.{readerAt, sizeThere, valueThere};
 
 // A place in a stored value's octets.
 pub struct Reader<'a> {

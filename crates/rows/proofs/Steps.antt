@@ -17,6 +17,7 @@ use Rattle.octets.proofs.Laws.{octet-past, rest-none, part-rest, all-at, all-is
 use Rattle.octets.proofs.TextLaws.{every-is, every-at, highest-nought}
 use Rattle.rows.specs.Row.{nameOctetAt, defaultAt, isGroup, isList, rowSize, rowAt, membersAt}
 use Rattle.rows.specs.Body.{countFormed, follows, followed, nameFormed, taggingFormed, tagFormed, presenceFormed, isZero, defaultFilled, memberFormed, rowFormed}
+use Rattle.rows.specs.Paper.{tableLimits}
 
 -- ---- reading
 pub from-past : (t : List ℕ) (p k : ℕ) → length t ≤ p → take k (drop (length t) t) ≡ drop p t
@@ -172,28 +173,28 @@ module _ (t row : List ℕ) (p j a b : ℕ) (u : Bool) (rest : row ≡ drop p t)
   unfolding followed
   pair = told ∙ ap₂ follows last spelt-next
 
-  pub spelt-bad : j < 23 → not u ≡ true → false ≡ all (followed t p) 23
-  spelt-bad h n = all-bad (followed t p) j u pair 23 h n
+  pub spelt-bad : j < tableLimits .name - 1 → not u ≡ true → false ≡ all (followed t p) (tableLimits .name - 1)
+  spelt-bad h n = all-bad (followed t p) j u pair (tableLimits .name - 1) h n
 
   module _ (before : all (followed t p) j ≡ true) (n : not u ≡ false) where
     pub spelt-more : all (followed t p) (j + 1) ≡ true
     spelt-more = all-more (followed t p) j u pair before n
 
-    pub spelt-fill : (c : List ℕ) (r : Bool) → b ≡ 0 → c ≡ part row (j + 2) (23 - j) → r ≡ every isZero c → r ≡ all (followed t p) 23
+    pub spelt-fill : (c : List ℕ) (r : Bool) → b ≡ 0 → c ≡ part row (j + 2) (tableLimits .name - 1 - j) → r ≡ every isZero c → r ≡ all (followed t p) (tableLimits .name - 1)
     spelt-fill c r z e q =
-        q ∙ ap (every isZero) (fields-are t row p rest (j + 2) (23 - j) c e) ∙ fill-is t p 23 j spelt-more (sym spelt-next ∙ z)
+        q ∙ ap (every isZero) (fields-are t row p rest (j + 2) (tableLimits .name - 1 - j) c e) ∙ fill-is t p (tableLimits .name - 1) j spelt-more (sym spelt-next ∙ z)
 
 module _ (t : List ℕ) (p o : ℕ) (low : Bool) (read : o ≡ octet t (p + 1)) (told : low ≡ isLower o) where
-  pub name-high : not low ≡ true → false ≡ nameFormed 24 t p
+  pub name-high : not low ≡ true → false ≡ nameFormed (tableLimits .name) t p
   unfolding nameFormed
   name-high h = rw (← read, sym told ∙ not-true low h)
 
-  module _ (l : ℕ) (h : not low ≡ false) (last : l ≡ octet t (p + 24)) where
-    pub name-hyphen : l ≡ 45 → false ≡ nameFormed 24 t p
+  module _ (l : ℕ) (h : not low ≡ false) (last : l ≡ octet t (p + tableLimits .name)) where
+    pub name-hyphen : l ≡ 45 → false ≡ nameFormed (tableLimits .name) t p
     unfolding nameFormed
     name-hyphen q = rw (← read, sym told ∙ not-false low h, ← last, eq-eqb l 45 q)
 
-    pub name-spelt : (r : Bool) → (l ≡ 45 → ⊥) → r ≡ all (followed t p) 23 → r ≡ nameFormed 24 t p
+    pub name-spelt : (r : Bool) → (l ≡ 45 → ⊥) → r ≡ all (followed t p) (tableLimits .name - 1) → r ≡ nameFormed (tableLimits .name) t p
     unfolding nameFormed
     name-spelt r q e = rw (← read, sym told ∙ not-false low h, ← last, ne-eqb l 45 q) e
 
@@ -209,8 +210,8 @@ module _ (t : List ℕ) (p o n : ℕ) (read : o ≡ octet t (p + 30)) (wide : n 
   unfolding defaultFilled
   filled-is c r h e q = rw (← read, ← wide, le-leb n 8 h) (q ∙ ap (every isZero) e)
 
-module _ (t : List ℕ) (p : ℕ) (r : Bool) (named : r ≡ nameFormed 24 t p) where
-  pub member-name : not r ≡ true → false ≡ memberFormed 24 t p
+module _ (t : List ℕ) (p : ℕ) (r : Bool) (named : r ≡ nameFormed (tableLimits .name) t p) where
+  pub member-name : not r ≡ true → false ≡ memberFormed (tableLimits .name) t p
   unfolding memberFormed
   member-name h = rw (sym named ∙ not-true r h)
 
@@ -219,20 +220,20 @@ module _ (t : List ℕ) (p : ℕ) (r : Bool) (named : r ≡ nameFormed 24 t p) w
     unfolding tagFormed
     tag = told ∙ ap₂ taggingFormed e f
 
-    pub member-tag : not u ≡ true → false ≡ memberFormed 24 t p
+    pub member-tag : not u ≡ true → false ≡ memberFormed (tableLimits .name) t p
     unfolding memberFormed
     member-tag g = rw (sym named ∙ not-false r h, sym tag ∙ not-true u g)
 
     module _ (g : not u ≡ false) (c : ℕ) (q : c ≡ octet t (p + 29)) where
-      pub member-presence : 2 < c → false ≡ memberFormed 24 t p
+      pub member-presence : 2 < c → false ≡ memberFormed (tableLimits .name) t p
       unfolding memberFormed presenceFormed
       member-presence l = rw (sym named ∙ not-false r h, sym tag ∙ not-false u g, ← q, lt-leb c 2 l)
 
-      pub member-filled : (w : Bool) → c ≤ 2 → w ≡ defaultFilled t p → w ≡ memberFormed 24 t p
+      pub member-filled : (w : Bool) → c ≤ 2 → w ≡ defaultFilled t p → w ≡ memberFormed (tableLimits .name) t p
       unfolding memberFormed presenceFormed
       member-filled w l k = rw (sym named ∙ not-false r h, sym tag ∙ not-false u g, ← q, le-leb c 2 l) k
 
-pub row-member : (most : ℕ) (t : List ℕ) (p k : ℕ) (r : Bool) → k ≡ octet t p → k ≡ 16 → r ≡ memberFormed 24 t p → r ≡ rowFormed most 24 t p
+pub row-member : (most : ℕ) (t : List ℕ) (p k : ℕ) (r : Bool) → k ≡ octet t p → k ≡ 16 → r ≡ memberFormed (tableLimits .name) t p → r ≡ rowFormed most 24 t p
 unfolding rowFormed
 row-member most t p k r e f q = rw (← e, eq-eqb k 16 f) q
 

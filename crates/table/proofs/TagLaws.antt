@@ -311,7 +311,7 @@ pub tags-done : (t s m : List ℕ) (i : ℕ) → Tags t s m i → i ≤ 0 → tr
 tags-done t s m i v z = sym (all-is (tagsDiffer (tableLimits .chain) t s) (length s) (λ j l. v .3 j (omega arith) l))
 
 pub tags-masked : (t s m : List ℕ) (i : ℕ) → everyRow (chainFits (tableLimits .chain) t s) s ≡ true → Tags t s m i → i ≤ 0 → Masked (tableLimits .chain) t s m
-tags-masked t s m i chained v z = record { says = λ j l g b. v .2 j (omega arith) l .1 16 (all-at (chainFits (tableLimits .chain) t s) (length s) j chained l) g b }
+tags-masked t s m i chained v z = record { says = λ j l g b. v .2 j (omega arith) l .1 (tableLimits .chain) (all-at (chainFits (tableLimits .chain) t s) (length s) j chained l) g b }
 
 pub not-masked : (t s m : List ℕ) → false ≡ true → Masked (tableLimits .chain) t s m
 not-masked t s m e = absurd (false≢true e)

@@ -22,6 +22,7 @@ use Rattle.words.proofs.Places.{row-place}
 use Rattle.words.specs.inner.Rows.{tableRows, placeAt, taggingAt, memberKindAt}
 use Rattle.words.specs.inner.Fields.{kindOf, firstOf, countOf, targetOf, typeOf, howOf, presenceOf, lengthOf, placeOf}
 use Rattle.words.specs.inner.Words.{firstOctet, how, elementRow, secondOf, Shaped, Ready, Worded}
+use Rattle.rows.specs.Paper.{tableLimits}
 
 -- ---- an admitted table is ready for its words
 is-type : (t s : List ℕ) (j : ℕ) → isType t s j ≡ true → kindAt t (rowAt s j) ≡ 16 → ⊥
@@ -45,7 +46,7 @@ module _ (t s : List ℕ) (i : ℕ) (points : pointsLater t s i ≡ true) where
   unfolding pointsLater isList
   of-member h = rw h at points
 
-pub ready : (l : Limits) (t m : List ℕ) → admitted l t ≡ true → l .rows ≤ 128 → Masked (l .chain) t (rows (l .rows) t) m
+pub ready : (l : Limits) (t m : List ℕ) → admitted l t ≡ true → l .rows ≤ tableLimits .rows → Masked (l .chain) t (rows (l .rows) t) m
     → Ready (l .chain) t (rows (l .rows) t) m
 ready l t m ok few masked = record {
   sound = sound l t m ok masked;
@@ -62,7 +63,7 @@ ready l t m ok few masked = record {
 
 -- ---- reading
 module _ (t w : List ℕ) (i : ℕ) (ok : Worded t w) (here : i < length (tableRows t)) where
-  pub row-small : i < 128
+  pub row-small : i < tableLimits .rows
   row-small = let a = ok .ready .few in omega arith
 
   module _ (x r : ℕ) (read : x ≡ getD w (2 * i) 0) where

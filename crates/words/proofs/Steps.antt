@@ -19,6 +19,7 @@ use Rattle.table.specs.Types.{Tagging, untagged, explicit, implicit, taggingOf}
 use Rattle.table.proofs.TagLaws.{universal-fits}
 use Rattle.words.specs.inner.Fields.{Packed}
 use Rattle.words.specs.inner.Words.{firstOctet, how, elementRow, TypeWord, MemberWord, secondOf, Shaped, Filled, Ready}
+use Rattle.rows.specs.Paper.{tableLimits}
 
 -- ---- the first tag octet
 module _ (mode n k r : ℕ) where
@@ -105,7 +106,7 @@ module _ (chain : ℕ) (t s m : List ℕ) (i p : ℕ) (ok : Ready chain t s m) (
     pub member-number : numberAt t p ≤ 30
     member-number = rw placed (ok .number i here member)
 
-    pub member-target : typeRowAt t p < 128
+    pub member-target : typeRowAt t p < tableLimits .rows
     member-target = rw placed (let a = ok .target i here member in let b = ok .few in omega arith)
 
     pub member-size : length (defaultAt t p) ≤ 8
@@ -172,7 +173,7 @@ presence-fits t p pr e l = omega arith
 pub number-fits : (t : List ℕ) (p mode n k f : ℕ) → n ≡ numberAt t p → numberAt t p ≤ 30 → f ≡ firstOctet (taggingOf mode n) k → f < 256
 number-fits t p mode n k f e l q = first-small mode n k f q (rw e l)
 
-pub target-fits : (t : List ℕ) (p j : ℕ) → j ≡ typeRowAt t p → typeRowAt t p < 128 → j < 256
+pub target-fits : (t : List ℕ) (p j : ℕ) → j ≡ typeRowAt t p → typeRowAt t p < tableLimits .rows → j < 256
 target-fits t p j e l = omega arith
 
 -- ---- the loop over the rows

@@ -160,7 +160,7 @@ fn type_word(t: &[u8], s: &[usize], m: &[u64], i: usize) -> u64
 // The word of the member row at p, whose type is of a kind.
 fn member_pack(t: &[u8], p: usize, kind: u8) -> u64
     requires number { ⌜ row.numberAt (now t) p ≤ 30 ⌝ }
-    requires target { ⌜ row.typeRowAt (now t) p < 128 ⌝ }
+    requires target { ⌜ row.typeRowAt (now t) p < tableLimits .rows ⌝ }
     requires size { ⌜ length (row.defaultAt (now t) p) ≤ 8 ⌝ }
     requires presence { ⌜ row.presenceAt (now t) p ≤ 2 ⌝ }
     requires place { ⌜ p < 65536 ⌝ }
@@ -235,7 +235,7 @@ pub fn fill(t: &[u8], s: &[usize], m: &[u64], w: &mut [u64; 256])
 
 // ---- what the words of an admitted table say
 fn first_word(w: &[u64; 256], i: usize) -> u64
-    requires { ⌜ i < 128 ⌝ }
+    requires { ⌜ i < tableLimits .rows ⌝ }
     ensures { λ r. ⌜ r ≡ getD (now (w .entry)) (2 * i) 0 ⌝ }
 {
     w[2 * i]
@@ -243,7 +243,7 @@ fn first_word(w: &[u64; 256], i: usize) -> u64
 
 // The second word of row i.
 pub fn second_word(w: &[u64; 256], i: usize) -> u64
-    requires { ⌜ i < 128 ⌝ }
+    requires { ⌜ i < tableLimits .rows ⌝ }
     ensures { λ r. ⌜ r ≡ getD (now (w .entry)) (2 * i + 1) 0 ⌝ }
 {
     w[2 * i + 1]

@@ -1,5 +1,5 @@
 -- `reader::value` meets its contract: it calls `reader::value_at` on the reader's octets and its place.
-use Rattle.reader.specs.There.{valueThere}
+use Rattle.reader.specs.inner.Reads.{valueThere}
 use Rattle.reader.proofs.Thin.{part, thin-met}
 use Rattle.reader.proofs.value_at.Symbol as callee
 use Rattle.reader.proofs.value_at.Met as callee-thm

@@ -1,5 +1,5 @@
 -- `reader::value_octets` meets its contract: it makes a reader, and passes it to `value`.
-use Rattle.reader.specs.There.{valueThere}
+use Rattle.reader.specs.inner.Reads.{valueThere}
 use Rattle.reader.proofs.Thin.{part}
 use Rattle.reader.proofs.Above.{above-met}
 use Rattle.reader.proofs.value.Symbol as callee

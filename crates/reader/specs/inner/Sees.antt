@@ -4,7 +4,8 @@ use mathlib.Core.List.{List}
 use Prim.Native.Nat.{ℕ, _+_}
 use Rattle.octets.specs.Octets.{part}
 use Rattle.value.specs.Value.{Spot, Value, leaf, fields, chosen, elements, Fields, endFields, present, absent, Values, endValues, next}
-use Rattle.reader.specs.There.{sizeThere, nextThere, valueThere, contentsThere}
+use Rattle.reader.specs.There.{contentsThere}
+use Rattle.reader.specs.inner.Reads.{sizeThere, nextThere, valueThere}
 
 -- at a spot
 pub record Sees (v : List ℕ) (s : Spot) : Type 0 where

@@ -10,12 +10,13 @@ use Prim.Native.Nat.{_-_, _≤_}
 use borrow.Author.Needs.{needs}
 use Rattle.rows.proofs.name_spelt.Statement.{statement}
 use Rattle.rows.proofs.name_spelt.Tie as tie
+use Rattle.rows.specs.Paper.{tableLimits}
 
 abbrev Inv-loop : tie.InvT-loop
-Inv-loop t p row j₀ a₀ j a = (j ≤ 23) × (all (followed t p) j ≡ true) × (a ≡ nameOctetAt t p j)
+Inv-loop t p row j₀ a₀ j a = (j ≤ tableLimits .name - 1) × (all (followed t p) j ≡ true) × (a ≡ nameOctetAt t p j)
 
 abbrev μ-loop : tie.MeasureT-loop
-μ-loop t p row j₀ a₀ j a = 23 - j
+μ-loop t p row j₀ a₀ j a = tableLimits .name - 1 - j
 
 pub name-spelt-spec : {M : Type 1} → statement M
 name-spelt-spec =

@@ -62,7 +62,7 @@ pub record Ready (chain : ℕ) (t s m : List ℕ) : Type 0 where
   pub sound : Sound chain t s m
   pub rooted : 0 < length s
   pub root : kindAt t (rowAt s 0) ≡ kind.member → ⊥
-  pub few : length s ≤ 128
+  pub few : length s ≤ tableLimits .rows
   pub place : (i : ℕ) → i < length s → rowAt s i < 65536
   pub number : (i : ℕ) → i < length s → kindAt t (rowAt s i) ≡ kind.member → numberAt t (rowAt s i) ≤ 30
   pub size : (i : ℕ) → i < length s → kindAt t (rowAt s i) ≡ kind.member → defaultLengthAt t (rowAt s i) ≤ 8
