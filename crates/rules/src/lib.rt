@@ -1,4 +1,5 @@
 // Matching rules: known rules, which rule is for which type, conforming value texts, acceptance.
+use der::Kind;
 ghost use mathlib.Core.Path.{_≡_};
 ghost use lib.Dec.{eqb};
 ghost use lib.ListN.{drop};
@@ -237,20 +238,20 @@ pub fn accepts_count(rule: Rule, t: &[u8], n: u64) -> bool
 fn is_string(k: u8) -> bool
     ensures { λ r. ⌜ r ≡ isString k ⌝ }
 {
-    octets::within(8, 10, k)
+    octets::within(Kind::UTF8_STRING, Kind::IA5_STRING, k)
 }
 
 fn suits_kind(x: Syntax, k: u8) -> bool
     ensures { λ r. ⌜ r ≡ suiting.suitsKind (answers.syntaxOf x) k ⌝ }
 {
     match x {
-        Syntax::Booleans => k == 1,
-        Syntax::Integers => k == 2,
-        Syntax::ObjectIdentifiers => k == 5,
-        Syntax::OctetStrings => k == 6,
-        Syntax::BitStrings => k == 7,
+        Syntax::Booleans => k == Kind::BOOLEAN,
+        Syntax::Integers => k == Kind::INTEGER,
+        Syntax::ObjectIdentifiers => k == Kind::OBJECT_IDENTIFIER,
+        Syntax::OctetStrings => k == Kind::OCTET_STRING,
+        Syntax::BitStrings => k == Kind::BIT_STRING,
         Syntax::Strings(_) => is_string(k),
-        Syntax::Times => k == 11,
+        Syntax::Times => k == Kind::GENERALIZED_TIME,
     }
 }
 
@@ -282,10 +283,10 @@ fn suits_row(x: Syntax, t: &[u8], s: &[usize], i: usize) -> bool
 {
     let p = rows::row_at(s, i);
     let k = rows::kind_at(t, p);
-    if k != 13 {
+    if k != Kind::CHOICE {
         return suits_kind(x, k);
     }
-    if !suits_kind(x, 8) {
+    if !suits_kind(x, Kind::UTF8_STRING) {
         return false;
     }
     all_strings(t, s, i, rows::members_at(t, p))
@@ -308,7 +309,7 @@ pub fn suits_count(rule: Rule) -> bool
 {
     match rule {
         Rule::Present => true,
-        Rule::Equal(x) => suits_kind(x, 2),
-        Rule::Less(x) => suits_kind(x, 2),
+        Rule::Equal(x) => suits_kind(x, Kind::INTEGER),
+        Rule::Less(x) => suits_kind(x, Kind::INTEGER),
     }
 }

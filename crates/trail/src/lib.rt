@@ -1,5 +1,6 @@
 // The walk along a reference, on the octets: values whose header has been read, elements and members found.
 use der::Inside;
+use der::Kind;
 ghost use mathlib.Core.Path.{_≡_};
 ghost use mathlib.Core.Bool.{true};
 ghost use Prim.Native.Nat.{_≤_, _<_, _+_, _-_, _*_};
@@ -11,6 +12,7 @@ ghost use Rattle.rows.specs.Row.{rowAt, kindAt, nameAt, typeRowAt, presenceAt};
 ghost use Rattle.table.specs.Types.{untagged, taggingOf, unfilled};
 ghost use Rattle.table.specs.inner.Work.{Sound};
 ghost use Rattle.reference.specs.Reference.{name, index, position, fromEnd};
+ghost use Rattle.der.specs.Kind as kind;
 ghost use Rattle.der.specs.Header.{insideAt, opened};
 ghost use Rattle.trail.specs.Opened.{ownHeader, openedAs, openAt};
 ghost use Rattle.value.specs.inner.Work.{marked};
@@ -84,7 +86,7 @@ fn own_header(
     ensures { λ r. ⌜ r ≡ ownHeader (rowType (now (t .entry)) (now (s .entry)) row) (taggingOf mode number) (now (v .entry)) at end ⌝ }
 {
     let kind = rows::kind_at(t, rows::row_at(s, row));
-    if kind == 13 {
+    if kind == Kind::CHOICE {
         return choice_header(m, row, v, at, end);
     }
     der::open(value::tag_octet(mode, number, kind), v, at, end)
@@ -158,7 +160,7 @@ pub fn open_at(
         return open_wrapped(t, s, m, v, row, number, at, end);
     }
     let kind = rows::kind_at(t, rows::row_at(s, row));
-    if kind == 13 {
+    if kind == Kind::CHOICE {
         return open_choice(m, row, v, at, end);
     }
     open_tagged(value::tag_octet(mode, number, kind), v, at, end)
@@ -192,7 +194,7 @@ pub fn element_tag(t: &[u8], s: &[usize], row: usize) -> usize
     ensures { λ r. ⌜ r ≡ work.elementTag (kindAt (now (t .entry)) (rowAt (now (s .entry)) row)) ⌝ }
 {
     let kind = rows::kind_at(t, rows::row_at(s, row));
-    if kind == 13 {
+    if kind == Kind::CHOICE {
         return 0;
     }
     value::tag_octet(0, 0, kind)
@@ -360,7 +362,7 @@ fn look_member(
 ) -> Look
     requires sound { ⌜ Sound (tableLimits .chain) (now t) (now s) (now m) ⌝ }
     requires here { ⌜ row < length (now s) ⌝ }
-    requires member { ⌜ kindAt (now t) (rowAt (now s) row) ≡ 16 ⌝ }
+    requires member { ⌜ kindAt (now t) (rowAt (now s) row) ≡ kind.member ⌝ }
     requires target { ⌜ typeRowAt (now t) (rowAt (now s) row) < length (now s) ⌝ }
     ensures looks { λ l. ⌜ work.reportLook (tableLimits .chain) (now (t .entry)) (now (s .entry)) l
         ≡ work.memberLook (part (now (r .entry)) a (b - a)) (rowMember (now (t .entry)) (now (s .entry)) row)
@@ -677,10 +679,10 @@ pub fn locate_name(
     ensures lands { λ f. ⌜ work.landsIn (now (s .entry)) (length (now (v .entry))) f ≡ true ⌝ }
 {
     let kind = rows::kind_at(t, rows::row_at(s, row));
-    if kind == 12 {
+    if kind == Kind::SEQUENCE {
         return find_member(t, s, m, v, row, r, a, b, start, start + span);
     }
-    if kind == 13 {
+    if kind == Kind::CHOICE {
         return find_chosen(t, s, m, v, row, r, a, b, place, start + span);
     }
     Found::Nothing
