@@ -93,7 +93,7 @@ module _ (chain : ℕ) (t s m : List ℕ) (row : ℕ) (ok : Sound chain t s m) (
   list-row l e h = ap isList (sym read) ∙ sym e ∙ h
 
   module _ (v : List ℕ) (at end mode number : ℕ) where
-    check-by-choice : (r : Checked) → k ≡ 13 → r ≡ checked (alternativeFrom parts v at end)
+    pub check-by-choice : (r : Checked) → k ≡ 13 → r ≡ checked (alternativeFrom parts v at end)
         → r ≡ checked (unwrapped (typeFrom chain t s row) (taggingOf mode number) v at end)
     unfolding unwrapped
     check-by-choice r h e = rw (the-type ∙ typed-choice k element parts h) e

@@ -11,6 +11,7 @@ pub mod PlainSteps
 pub mod MemberSteps
 pub mod FirstSteps
 pub mod ChoiceSteps
+pub mod NestedSteps
 pub mod ElementSteps
 pub mod EntrySteps
 pub mod PartSteps

@@ -55,6 +55,12 @@ pub enum Checked {
     Bad,
 }
 
+// The alternative that a CHOICE's value is of: its member row, or none.
+pub enum Alternative {
+    Of(usize),
+    Missing,
+}
+
 // ---- tags
 // The tag octet of a value of a kind under a tag mode.
 pub fn tag_octet(mode: u8, number: u8, kind: u8) -> usize
@@ -359,6 +365,51 @@ fn first_alternative(
     j
 }
 
+// Whether the type of a member row is a CHOICE in no wrapper, so that its value is that of one of its own alternatives.
+fn is_nested(t: &[u8], w: &[u64; 256], row: usize) -> bool
+    requires worded { ⌜ Worded (now t) (now w) ⌝ }
+    requires here { ⌜ row < length (tableRows (now t)) ⌝ }
+    requires member { ⌜ MemberRow (now t) row ⌝ }
+    ensures { λ r. ⌜ r ≡ work.isNested (memberKindAt (now (t .entry)) row) (modeAt (now (t .entry)) (placeAt (now (t .entry)) row)) ⌝ }
+{
+    if words::kind_of_type(t, w, row) != Kind::CHOICE {
+        return false;
+    }
+    words::tagged(t, w, row) != 1
+}
+
+// The alternative of the CHOICE of a row that can begin here.
+fn choose(t: &[u8], w: &[u64; 256], v: &[u8], row: usize, at: usize, end: usize) -> Alternative
+    requires worded { ⌜ Worded (now t) (now w) ⌝ }
+    requires here { ⌜ row < length (tableRows (now t)) ⌝ }
+    ensures { λ r. ⌜ work.Chooses (now (t .entry)) (now (v .entry)) row at end r ⌝ }
+{
+    let n = words::members(t, w, row);
+    let j = first_alternative(t, w, v, row, n, at, end);
+    if n <= j {
+        return Alternative::Missing;
+    }
+    Alternative::Of(row + 1 + j)
+}
+
+// The same; where it is a CHOICE in no wrapper, the alternative of that one, in turn.
+fn choose_inner(t: &[u8], w: &[u64; 256], v: &[u8], row: usize, at: usize, end: usize) -> Alternative
+    requires worded { ⌜ Worded (now t) (now w) ⌝ }
+    requires here { ⌜ row < length (tableRows (now t)) ⌝ }
+    ensures { λ r. ⌜ work.Chooses (now (t .entry)) (now (v .entry)) row at end r ⌝ }
+{
+    let mut choice = row;
+    loop {
+        let Alternative::Of(member) = choose(t, w, v, choice, at, end) else {
+            return Alternative::Missing;
+        };
+        if !is_nested(t, w, member) {
+            return Alternative::Of(member);
+        }
+        choice = words::type_row(t, w, member);
+    }
+}
+
 // Whether the elements of the list of a row are of a basic type.
 fn has_leaves(t: &[u8], w: &[u64; 256], row: usize) -> bool
     requires worded { ⌜ Worded (now t) (now w) ⌝ }
@@ -537,18 +588,16 @@ fn check_wrapped(
     Checked::At(next)
 }
 
-// The alternative of the CHOICE of a row that can begin here.
+// The value of the CHOICE of a row: that of its alternative.
 fn check_choice(t: &[u8], w: &[u64; 256], v: &[u8], row: usize, at: usize, end: usize) -> Checked
     requires worded { ⌜ Worded (now t) (now w) ⌝ }
     requires here { ⌜ row < length (tableRows (now t)) ⌝ }
     ensures { λ r. ⌜ r ≡ work.checked (alternativeFrom (membersAfter (now (t .entry)) row) (now (v .entry)) at end) ⌝ }
 {
-    let n = words::members(t, w, row);
-    let j = first_alternative(t, w, v, row, n, at, end);
-    if n <= j {
+    let Alternative::Of(member) = choose_inner(t, w, v, row, at, end) else {
         return Checked::Bad;
-    }
-    check_tagged(t, w, v, row + 1 + j, at, end)
+    };
+    check_tagged(t, w, v, member, at, end)
 }
 
 // The value of the type of a row at a place, before an end, behind a tag octet.

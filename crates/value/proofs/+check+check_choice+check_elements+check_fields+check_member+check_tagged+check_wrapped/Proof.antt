@@ -7,7 +7,7 @@ use Rattle.value.proofs.ModeSteps.{is-plain, is-other}
 use Rattle.value.proofs.CheckSteps.{falls-body, falls-tagged, falls-wrapped, falls-value, falls-inner, list-row, answer-choice, answer-misfit}
 use Rattle.value.proofs.CheckSteps.{answer-fields, answer-elements, answer-basic, wraps-misfit, wraps-inner, wraps-surplus, wraps-filled, target-here}
 use Rattle.value.proofs.CheckSteps.{target-typed, tagged-explicit, tagged-other}
-use Rattle.value.proofs.ChoiceSteps.{choice-none, choice-here, choice-member, choice-falls, choice-is}
+use Rattle.value.proofs.NestedSteps.{missing-is, row-here, row-member, row-falls, row-is}
 use Rattle.value.proofs.ElementSteps.{Listed, leaves-small, element-here, element-typed, element-falls, elements-bad, element-after, element-less}
 use Rattle.value.proofs.ElementSteps.{elements-disorder}
 use Rattle.value.proofs.ElementSteps.{elements-again, elements-done, elements-start, listed-low}
@@ -46,7 +46,7 @@ use Rattle.value.proofs.check_basic.Reads as check-basic-reads
 use Rattle.value.proofs.check_leaves.Reads as check-leaves-reads
 use Rattle.value.proofs.has_leaves.Reads as has-leaves-reads
 use Rattle.value.proofs.check_plain_member.Reads as check-plain-member-reads
-use Rattle.value.proofs.first_alternative.Reads as first-alternative-reads
+use Rattle.value.proofs.choose_inner.Reads as choose-inner-reads
 use Rattle.value.proofs.in_order.Reads as in-order-reads
 use Rattle.value.proofs.member_starts.Reads as member-starts-reads
 use Rattle.value.proofs.stored_default.Reads as stored-default-reads
@@ -155,7 +155,7 @@ check-claims t = (
 
 abbrev check-choice-claims : ℕ → check-choice-lts.Claims
 check-choice-claims t =
-    (members-reads.Asked, members-reads.Learnt, first-alternative-reads.Asked, first-alternative-reads.Learnt, check-tagged-below t, check-tagged.Post)
+    (choose-inner-reads.Asked, choose-inner-reads.Learnt, check-tagged-below t, check-tagged.Post)
 
 abbrev check-elements-claims : ℕ → check-elements-lts.Claims
 check-elements-claims t = (
@@ -231,13 +231,12 @@ pub +check+check-choice+check-elements+check-fields+check-member+check-tagged+ch
     (λ c κs. search needs)  -- check-basic-requires
     (λ c. search answer-basic))  -- returns-5
     (λ t. check-choice-lts.spec (check-choice-claims t) (check-choice-at t) check-choice.Post
-    (λ c κs. search needs)  -- members-requires
-    (λ c κs. (search needs, (search needs, search count-le)))  -- first-alternative-requires
-    (λ c. search choice-none)  -- returns
-    (λ c. record { fits = search row-fits })  -- add-check-tagged
-    (λ c. record { fits = search member-fits })  -- add-check-tagged-2
-    (λ c κs. (search choice-falls, (search needs, (search choice-here, search choice-member))))  -- check-tagged-requires
-    (λ c. search choice-is))  -- returns-2
+    (λ c κs. search needs)  -- choose-inner-requires
+    (λ c. search needs)  -- enum-known-member
+    (λ c. search needs)  -- enum-told
+    (λ c. search missing-is)  -- returns
+    (λ c κs. (search row-falls, (search needs, (search row-here, search row-member))))  -- check-tagged-requires
+    (λ c. search row-is))  -- returns-2
     (λ t. check-elements-lts.spec (check-elements-claims t) (check-elements-at t) check-elements.Post check-elements-Inv-loop check-elements-μ-loop
     (λ c κs. search needs)  -- has-leaves-requires
     (λ c κs. (search needs, (search needs, (search needs, (search leaves-small, search needs)))))  -- check-leaves-requires

@@ -1,11 +1,12 @@
 -- What the functions of the check answer, by the definitions: the place after a value that is as its row says, or none.
-use Prim.Native.Nat.{ℕ, zero, suc, _+_, _-_}
+use Prim.Native.Nat.{ℕ, zero, suc, _<_, _+_, _-_}
 use mathlib.Core.Path.{_≡_}
 use mathlib.Core.Bool.{Bool, true, false}
 use mathlib.Core.Option.{Option, none, some}
 use mathlib.Core.List.{List, []}
+use lib.ListN.{length}
 use lib.Dec.{ltb, eqb}
-use Rattle.octets.specs.Pick.{pick, both, either, bind, isSome}
+use Rattle.octets.specs.Pick.{pick, both, either, no, bind, isSome}
 use Rattle.octets.specs.Octets.{octet, part, same}
 use Rattle.der.specs.Kind as kind
 use Rattle.der.specs.Tag.{class, number, tagOf, wrapperOctet}
@@ -18,9 +19,11 @@ use Rattle.groups.specs.Clauses.{memberPlace}
 use Rattle.table.specs.Types.{Tagging, untagged, explicit, implicit, taggingOf, Member, memberOf, Ty, typeFrom, Members}
 use Rattle.table.specs.Begins.{isMandatory}
 use Rattle.table.specs.inner.Work.{bitOf, memberMask}
+use Rattle.words.specs.inner.Rows.{tableRows, placeAt, MemberRow, membersAfter, taggingAt, memberTypeAt}
 use Rattle.value.specs.Value.{Values, endValues, next, encoding}
 use Rattle.value.specs.Order.{rising}
-use Rattle.value.specs.Decode.{Decoded, tagOctet, startsHere, unlessDefault, many, unwrapped, fieldsFrom, decode}
+use Rattle.value.specs.Decode.{Decoded, tagOctet, startsHere, unlessDefault, many, unwrapped, fieldsFrom, alternativeFrom, decode}
+use Rattle.value.specs.declared.Alternative.{Alternative}
 use Rattle.value.specs.declared.Checked.{Checked}
 
 -- the place after a value, where there is one
@@ -126,6 +129,22 @@ neighbours k v before i after = either (eqb k kind.sequenceOf) (notAbove (part v
 -- the octets that go with a refusal number: none, unless it is 0
 abbrev pub unlessRefused : ℕ → List ℕ → List ℕ
 unlessRefused n octets = pick (eqb n 0) octets []
+
+-- ---- alternatives
+-- a member of a type of kind k in no wrapper is a CHOICE
+unfoldable pub isNested : ℕ → ℕ → Bool
+isNested k mode = both (eqb k kind.choice) (no (eqb mode 1))
+
+-- the value of the CHOICE of a row, at a place, is that of member row r under its tag mode, whose type has a later row
+pub record ChosenRow (t v : List ℕ) (row at end r : ℕ) : Type 0 where
+  pub here : r < length (tableRows t)
+  pub member : MemberRow t r
+  pub later : row < typeRowAt t (placeAt t r)
+  pub same : checked (decode (memberTypeAt t r) (taggingAt t r) v at end) ≡ checked (alternativeFrom (membersAfter t row) v at end)
+
+unfoldable pub Chooses : List ℕ → List ℕ → ℕ → ℕ → ℕ → Alternative → Type 0
+Chooses t v row at end (Alternative.Of r) = ChosenRow t v row at end r
+Chooses t v row at end Alternative.Missing = Checked.Bad ≡ checked (alternativeFrom (membersAfter t row) v at end)
 
 -- ---- answers by a tag octet
 -- of a value of a type of kind k, whichever tag mode asks for this tag octet; a CHOICE has none of its own
