@@ -13,6 +13,8 @@ OUT = BENCH / "out"
 BUILD = OUT / "build"
 ASN1C = BUILD / "asn1c"
 QUESTIONS = BUILD / "questions"
+HOSTILE = BUILD / "hostile"
+MUTATED = BUILD / "mutated"
 HARNESS = BUILD / "harness"
 ARCHIVE = ROOT / "target" / "staticlib" / "libcapi.a"
 # Without the second word asn1c 0.9.28 formats the texts of its debug output at each tag, though it prints none.

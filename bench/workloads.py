@@ -143,6 +143,22 @@ def questions():
     return list(of_parts()) + list(of_items())
 
 
+def further():
+    """Questions on the samples' other types, for changing: every rule, lists of lists, wrappers, a CHOICE, a SET OF."""
+    example, classes = (samples.EXAMPLE, samples.EXAMPLE_VALUE), (samples.CLASSES, samples.object_class([b"a", b"b"], b"text", b"\xff", [b"\x55\x04\x03"]))
+    asked = [(*example, samples.item("part1", "integerMatch", 42)), (*example, samples.item("part2.option", "caseIgnoreMatch", '"YES"')),
+             (*example, samples.item("part2.setting", "booleanMatch", "TRUE")), (*example, samples.item("part3.*", "objectIdentifierMatch", "2.5.6.19")),
+             (*example, samples.item("part4.miney-mo", "octetStringMatch", "'CAFE'H")), (*example, samples.item("part3.0", "integerOrderingMatch", 3)),
+             (*classes, samples.item("name.-1", "caseExactMatch", '"b"')), (*classes, samples.item("description", "caseIgnoreMatch", '"  TEXT "')),
+             (*classes, samples.item("information.kind", "presentMatch", "NULL")), (*classes, samples.item("information.mandatories.*", "objectIdentifierMatch", "2.5.4.3")),
+             (bytes([7]), samples.leaf(7, b"\x04\xa0"), samples.item(None, "bitStringMatch", "'1010'B")),
+             (bytes([6]), samples.leaf(6, b"\x0a\xff"), samples.item(None, "octetStringOrderingMatch", "'0B'H")),
+             (bytes([11]), samples.leaf(11, b"20240229120000.5Z"), samples.item(None, "generalizedTimeOrderingMatch", '"20240229120001Z"')),
+             (bytes([11]), samples.leaf(11, b"20240229120000Z"), "not:" + samples.item(None, "generalizedTimeMatch", '"20240229120000Z"')),
+             (samples.LICENCE, samples.RECORD, "and:{%s,or:{},%s}" % (samples.item("parts.0", "integerMatch", 2), samples.item("x", "integerMatch", 2)))]
+    return [Question("further-%d" % at, "-", *question, samples.asked(*question), timed=False) for at, question in enumerate(asked)]
+
+
 def asserted_header():
     """What by_hand.c compares with, as C."""
     lines = []
