@@ -5,17 +5,19 @@ use mathlib.Core.List.{List, [], _∷_}
 use Prim.Native.Nat.{ℕ, _≤_, _<_, _+_, _-_, _*_, _/_, _%_, _^_}
 use native.Mathlib.Omega.{arith}
 use native.Mathlib.Nat.{one-mul}
-use borrow.Author.Tests.{eq-eqb, ne-eqb, lt-leb, le-leb}
-use lib.Dec.{eqb}
-use lib.ListN.{length, drop}
+use borrow.Author.Tests.{eq-eqb, ne-eqb, lt-ltb, le-ltb, lt-leb, le-leb, ltb-true, ltb-false, leb-true, leb-false}
+use lib.Dec.{ltb, leb, eqb}
+use lib.ListN.{length}
 use lib.Bits.{bitAnd, and-mask}
 use lib.Pow.{shl-exact, pow-pos}
-use Rattle.octets.specs.Pick.{pick, no, all}
-use Rattle.octets.specs.Octets.{octet, same, every}
+use Rattle.octets.specs.Pick.{pick, both, no, all}
+use Rattle.octets.specs.Octets.{octet, same, every, larger}
+use Rattle.octets.specs.inner.Answers.{highestFrom, highest}
 use Rattle.octets.specs.Text.{isDigit, isLower, isUpper, isLetter, isAlnum}
 use Rattle.octets.specs.Computing.{octetsCompute}
 use Rattle.octets.specs.Utf8.{utf8}
-use Rattle.octets.proofs.Laws.{all-at, every-fails, every-holds}
+use Rattle.octets.proofs.Laws.{all-at}
+use Rattle.octets.proofs.TextLaws.{larger-least, larger-most}
 use Rattle.der.specs.Time.{legalTime}
 use Rattle.der.specs.Contents.{legalBoolean, shortest, legalInteger, legalBits, isSign, isMark, isPrintable, isIa5, legalNull, legalOid, legalPrintable}
 use Rattle.der.specs.Contents.{legalIa5, legalText, legal}
@@ -132,7 +134,7 @@ high-bits = refl
 pub printable-low : (b : ℕ) → b < 64 → eqb (bitAnd (12105670854864535552 / 2 ^ b) 1) 1 ≡ isPrintable b
 printable-low b h = ap (λ (x : ℕ). eqb x 1) (and-mask (12105670854864535552 / 2 ^ b) 1) ∙ agreed _ _ (all-at low-bit 64 b low-bits h)
 
-pub printable-high : (b a : ℕ) → 64 ≤ b → b < 128 → a ≡ b - 64 → eqb (bitAnd (576460743847706622 / 2 ^ a) 1) 1 ≡ isPrintable b
+pub printable-high : (b a : ℕ) → 64 ≤ b → b < 128 → a ≡ b % 64 → eqb (bitAnd (576460743847706622 / 2 ^ a) 1) 1 ≡ isPrintable b
 printable-high b a l h e =
     let q : 64 + a ≡ b = omega arith in
     ap (λ (x : ℕ). eqb x 1) (and-mask (576460743847706622 / 2 ^ a) 1) ∙ agreed _ _ (all-at high-bit 64 a high-bits (omega arith)) ∙ ap isPrintable q
@@ -157,13 +159,35 @@ printable-none b h =
       ne-eqb b 63 (λ z. omega arith),
     )
 
--- ---- IA5String
-module _ (c : List ℕ) (i : ℕ) (inv : every isIa5 (drop i c) ≡ every isIa5 c) (h : i < length c) where
-  pub ia5-bad : 127 < octet c i → false ≡ every isIa5 c
-  ia5-bad g = every-fails isIa5 c i inv h (lt-leb _ _ g)
+-- ---- IA5String: by the largest octet
+ia5-from : (n : ℕ) (c : List ℕ) → ltb (highestFrom n c) 128 ≡ both (ltb n 128) (every isIa5 c)
+unfolding highestFrom every
+ia5-from n [] = go (ltb n 128)
+  where
+    go : (x : Bool) → x ≡ both x true
+    go true = refl
+    go false = refl
+ia5-from n (b ∷ c) = ia5-from (larger n b) c ∙ ap (λ (x : Bool). both x (every isIa5 c)) both-low ∙ go (ltb n 128) (leb b 127) (every isIa5 c)
+  where
+    both-low : ltb (larger n b) 128 ≡ both (ltb n 128) (leb b 127)
+    both-low = low (ltb n 128) refl (leb b 127) refl
+      where
+        low : (x : Bool) → ltb n 128 ≡ x → (y : Bool) → leb b 127 ≡ y → ltb (larger n b) 128 ≡ both x y
+        low true p true q =
+            let e = ltb-true n 128 p in
+            let f = leb-true b 127 q in
+            let m = larger-most n b 127 (omega arith) f in
+            lt-ltb (larger n b) 128 (omega arith)
+        low true p false q = let f = leb-false b 127 q in let m = larger-least n b .1 in le-ltb (larger n b) 128 (omega arith)
+        low false p y q = let e = ltb-false n 128 p in let m = larger-least n b .0 in le-ltb (larger n b) 128 (omega arith)
 
-  pub ia5-more : octet c i ≤ 127 → every isIa5 (drop (i + 1) c) ≡ every isIa5 c
-  ia5-more g = every-holds isIa5 c i inv h (le-leb _ _ g)
+    go : (x y z : Bool) → both (both x y) z ≡ both x (both y z)
+    go true y z = refl
+    go false y z = refl
+
+pub ia5-is : (c : List ℕ) (most : ℕ) → most ≡ highest c → ltb most 128 ≡ legalIa5 c
+unfolding legalIa5
+ia5-is c most e = ap (λ (x : ℕ). ltb x 128) e ∙ ia5-from 0 c
 
 -- ---- by kind
 pub kind-octets : (k : ℕ) (c : List ℕ) → (k ≡ 1 → ⊥) → (k ≡ 2 → ⊥) → (k ≡ 3 → ⊥) → (k ≡ 4 → ⊥) → (k ≡ 5 → ⊥) → k ≡ 6 → true ≡ legal k c
