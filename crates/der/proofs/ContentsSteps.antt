@@ -1,13 +1,13 @@
 -- Contents of the basic kinds: one lemma for each return and each turn of a loop.
 use mathlib.Core.Path.{_≡_, refl, sym, ap, _∙_}
-use mathlib.Core.Bool.{Bool, true, false}
+use mathlib.Core.Bool.{Bool, true, false, not}
 use mathlib.Core.List.{List, [], _∷_}
 use Prim.Native.Nat.{ℕ, _≤_, _<_, _+_, _-_, _*_, _/_, _%_, _^_}
 use native.Mathlib.Omega.{arith}
 use native.Mathlib.Nat.{one-mul}
-use borrow.Author.Tests.{eq-eqb, ne-eqb, lt-ltb, le-ltb, lt-leb, le-leb, ltb-true, ltb-false, leb-true, leb-false}
+use borrow.Author.Tests.{eq-eqb, ne-eqb, lt-ltb, le-ltb, lt-leb, le-leb, ltb-true, ltb-false, leb-true, leb-false, not-true, not-false}
 use lib.Dec.{ltb, leb, eqb}
-use lib.ListN.{length}
+use lib.ListN.{length, drop}
 use lib.Bits.{bitAnd, and-mask}
 use lib.Pow.{shl-exact, pow-pos}
 use Rattle.octets.specs.Pick.{pick, both, no, all}
@@ -16,11 +16,12 @@ use Rattle.octets.specs.inner.Answers.{highestFrom, highest}
 use Rattle.octets.specs.Text.{isDigit, isLower, isUpper, isLetter, isAlnum}
 use Rattle.octets.specs.Computing.{octetsCompute}
 use Rattle.octets.specs.Utf8.{utf8}
-use Rattle.octets.proofs.Laws.{all-at}
+use Rattle.octets.proofs.Laws.{all-at, both-true, every-holds}
 use Rattle.octets.proofs.TextLaws.{larger-least, larger-most}
 use Rattle.der.specs.Time.{legalTime}
 use Rattle.der.specs.Contents.{legalBoolean, shortest, legalInteger, legalBits, isSign, isMark, isPrintable, isIa5, legalNull, legalOid, legalPrintable}
 use Rattle.der.specs.Contents.{legalIa5, legalText, legal}
+use Rattle.der.specs.inner.Answers.{fourPrintable}
 
 -- ---- BOOLEAN
 one-octet : (c : List ℕ) (b : ℕ) → length c ≡ 1 → same c (b ∷ []) ≡ eqb (octet c 0) b
@@ -158,6 +159,44 @@ printable-none b h =
       ne-eqb b 61 (λ z. omega arith),
       ne-eqb b 63 (λ z. omega arith),
     )
+
+-- two tests: u is what the code found of the first
+module _ (a b u : Bool) (e : u ≡ a) where
+  pub first-fails : not u ≡ true → false ≡ both a b
+  first-fails h = rw (sym e ∙ not-true u h)
+
+  pub first-holds : (r : Bool) → not u ≡ false → r ≡ b → r ≡ both a b
+  first-holds r h q = rw (sym e ∙ not-false u h) q
+
+-- the characters before place i are ones of a PrintableString
+pub record Skipped (c : List ℕ) (i : ℕ) : Type 0 where
+  pub within : i ≤ length c
+  pub same : every isPrintable (drop i c) ≡ every isPrintable c
+
+pub skip-none : (c : List ℕ) → Skipped c 0
+skip-none c = record { within = omega arith; same = refl }
+
+module _ (c : List ℕ) where
+  pair : (j : ℕ) → every isPrintable (drop j c) ≡ every isPrintable c → j + 2 ≤ length c → both (isPrintable (octet c j)) (isPrintable (octet c (j + 1))) ≡ true
+      → every isPrintable (drop (j + 2) c) ≡ every isPrintable c
+  pair j inv h e =
+      let a = both-true (isPrintable (octet c j)) (isPrintable (octet c (j + 1))) e in
+      let q : j + 1 + 1 ≡ j + 2 = omega arith in
+      ap (λ (x : ℕ). every isPrintable (drop x c)) (sym q)
+      ∙ every-holds isPrintable c (j + 1) (every-holds isPrintable c j inv (omega arith) (a .0)) (omega arith) (a .1)
+
+  module _ (i : ℕ) (so-far : Skipped c i) where
+    pub skipped-same : every isPrintable (drop i c) ≡ every isPrintable c
+    skipped-same = so-far .same
+
+    pub skip-more : 4 ≤ length c - i → (u : Bool) → u ≡ fourPrintable c i → not u ≡ false → Skipped c (i + 4)
+    skip-more h u e n =
+        let l = so-far .within in
+        let w = both-true (both (isPrintable (octet c i)) (isPrintable (octet c (i + 1)))) (both (isPrintable (octet c (i + 2))) (isPrintable (octet c (i + 3)))) (sym e ∙ not-false u n) in
+        let q : i + 2 + 1 ≡ i + 3 = omega arith in
+        let p : i + 2 + 2 ≡ i + 4 = omega arith in
+        let f = ap (λ (y : ℕ). both (isPrintable (octet c (i + 2))) (isPrintable (octet c y))) q ∙ w .1 in
+        record { within = omega arith; same = ap (λ (y : ℕ). every isPrintable (drop y c)) (sym p) ∙ pair (i + 2) (pair i (so-far .same) (omega arith) (w .0)) (omega arith) f }
 
 -- ---- IA5String: by the largest octet
 ia5-from : (n : ℕ) (c : List ℕ) → ltb (highestFrom n c) 128 ≡ both (ltb n 128) (every isIa5 c)

@@ -3,7 +3,8 @@ ghost use mathlib.Core.Path.{_≡_};
 ghost use Prim.Native.Nat.{_≤_, _<_, _+_, _-_, _%_, _^_};
 ghost use lib.Dec.{eqb};
 ghost use lib.ListN.{length, drop, getD};
-ghost use Rattle.octets.specs.Octets.{octet, two, baseFrom};
+ghost use Rattle.octets.specs.Pick.{both};
+ghost use Rattle.octets.specs.Octets.{octet, two, baseFrom, every};
 ghost use Rattle.octets.specs.inner.Answers.{between};
 ghost use Rattle.der.specs.Tag as tag;
 ghost use Rattle.der.specs.Header as header;
@@ -11,7 +12,7 @@ ghost use Rattle.der.specs.Contents as contents;
 ghost use Rattle.der.specs.Time as time;
 ghost use Rattle.der.specs.Meaning as meaning;
 ghost use Rattle.der.specs.Order.{notAbove};
-ghost use Rattle.der.specs.inner.Answers.{reportInteger, reportSub, Forward, behind};
+ghost use Rattle.der.specs.inner.Answers.{reportInteger, reportSub, Forward, behind, fourPrintable};
 
 // A tag octet in parts: its class, whether it is constructed (1 or 0), its number.
 struct Tag {
@@ -501,10 +502,43 @@ fn is_printable(b: u8) -> bool
     false
 }
 
+fn both_printable(a: u8, b: u8) -> bool
+    ensures { λ r. ⌜ r ≡ both (contents.isPrintable a) (contents.isPrintable b) ⌝ }
+{
+    if !is_printable(a) {
+        return false;
+    }
+    is_printable(b)
+}
+
+fn four_printable(c: &[u8], i: usize) -> bool
+    requires { ⌜ i + 4 ≤ length (now c) ⌝ }
+    ensures { λ r. ⌜ r ≡ fourPrintable (now (c .entry)) i ⌝ }
+{
+    if !both_printable(c[i], c[i + 1]) {
+        return false;
+    }
+    both_printable(c[i + 2], c[i + 3])
+}
+
+// A place before which there are only characters of a PrintableString: as far as whole fours of them go.
+fn skip_printable(c: &[u8]) -> usize
+    ensures { λ r. ⌜ every contents.isPrintable (drop r (now (c .entry))) ≡ every contents.isPrintable (now (c .entry)) ⌝ }
+{
+    let mut i = 0;
+    while 4 <= c.len() - i {
+        if !four_printable(c, i) {
+            return i;
+        }
+        i += 4;
+    }
+    i
+}
+
 fn legal_printable(c: &[u8]) -> bool
     ensures { λ r. ⌜ r ≡ contents.legalPrintable (now (c .entry)) ⌝ }
 {
-    let mut i = 0;
+    let mut i = skip_printable(c);
     while i < c.len() {
         if !is_printable(c[i]) {
             return false;

@@ -1,11 +1,13 @@
 -- What the code's answers say.
-use Prim.Native.Nat.{ℕ, _≤_, _<_, _-_}
+use Prim.Native.Nat.{ℕ, _≤_, _<_, _+_, _-_}
+use mathlib.Core.Bool.{Bool}
 use mathlib.Core.Option.{Option, none, some}
 use mathlib.Core.List.{List, []}
 use lib.ListN.{length, drop}
 use lib.Dec.{ltb}
-use Rattle.octets.specs.Pick.{pick, consed}
-use Rattle.der.specs.Contents.{subidentifiers}
+use Rattle.octets.specs.Pick.{pick, both, consed}
+use Rattle.octets.specs.Octets.{octet}
+use Rattle.der.specs.Contents.{subidentifiers, isPrintable}
 use Rattle.der.specs.Meaning.{Whole}
 use Rattle.der.specs.declared.Length.{Length}
 use Rattle.der.specs.declared.Inside.{Inside}
@@ -32,3 +34,7 @@ Forward c at (Sub.Value n next) = (at < next) × (next ≤ length c)
 abbrev pub behind : ℕ → Length → Inside
 behind end Length.Unusable = Inside.Misfit
 behind end (Length.Of n next) = pick (ltb (end - next) n) Inside.Misfit (Inside.Of next n)
+
+-- the four octets from a place on are characters of a PrintableString
+abbrev pub fourPrintable : List ℕ → ℕ → Bool
+fourPrintable c i = both (both (isPrintable (octet c i)) (isPrintable (octet c (i + 1)))) (both (isPrintable (octet c (i + 2))) (isPrintable (octet c (i + 3))))
