@@ -1,24 +1,27 @@
 -- Contents of the basic kinds: one lemma for each return and each turn of a loop.
 use mathlib.Core.Path.{_≡_, refl, sym, ap, _∙_}
-use mathlib.Core.Bool.{Bool, true, false}
+use mathlib.Core.Bool.{Bool, true, false, not}
 use mathlib.Core.List.{List, [], _∷_}
 use Prim.Native.Nat.{ℕ, _≤_, _<_, _+_, _-_, _*_, _/_, _%_, _^_}
 use native.Mathlib.Omega.{arith}
 use native.Mathlib.Nat.{one-mul}
-use borrow.Author.Tests.{eq-eqb, ne-eqb, lt-leb, le-leb}
-use lib.Dec.{eqb}
+use borrow.Author.Tests.{eq-eqb, ne-eqb, lt-ltb, le-ltb, lt-leb, le-leb, ltb-true, ltb-false, leb-true, leb-false, not-true, not-false}
+use lib.Dec.{ltb, leb, eqb}
 use lib.ListN.{length, drop}
 use lib.Bits.{bitAnd, and-mask}
 use lib.Pow.{shl-exact, pow-pos}
-use Rattle.octets.specs.Pick.{pick, no, all}
-use Rattle.octets.specs.Octets.{octet, same, every}
+use Rattle.octets.specs.Pick.{pick, both, no, all}
+use Rattle.octets.specs.Octets.{octet, same, every, larger}
+use Rattle.octets.specs.inner.Answers.{highestFrom, highest}
 use Rattle.octets.specs.Text.{isDigit, isLower, isUpper, isLetter, isAlnum}
 use Rattle.octets.specs.Computing.{octetsCompute}
 use Rattle.octets.specs.Utf8.{utf8}
-use Rattle.octets.proofs.Laws.{all-at, every-fails, every-holds}
+use Rattle.octets.proofs.Laws.{all-at, both-true, every-holds}
+use Rattle.octets.proofs.TextLaws.{larger-least, larger-most}
 use Rattle.der.specs.Time.{legalTime}
 use Rattle.der.specs.Contents.{legalBoolean, shortest, legalInteger, legalBits, isSign, isMark, isPrintable, isIa5, legalNull, legalOid, legalPrintable}
 use Rattle.der.specs.Contents.{legalIa5, legalText, legal}
+use Rattle.der.specs.inner.Answers.{fourPrintable}
 
 -- ---- BOOLEAN
 one-octet : (c : List ℕ) (b : ℕ) → length c ≡ 1 → same c (b ∷ []) ≡ eqb (octet c 0) b
@@ -132,7 +135,7 @@ high-bits = refl
 pub printable-low : (b : ℕ) → b < 64 → eqb (bitAnd (12105670854864535552 / 2 ^ b) 1) 1 ≡ isPrintable b
 printable-low b h = ap (λ (x : ℕ). eqb x 1) (and-mask (12105670854864535552 / 2 ^ b) 1) ∙ agreed _ _ (all-at low-bit 64 b low-bits h)
 
-pub printable-high : (b a : ℕ) → 64 ≤ b → b < 128 → a ≡ b - 64 → eqb (bitAnd (576460743847706622 / 2 ^ a) 1) 1 ≡ isPrintable b
+pub printable-high : (b a : ℕ) → 64 ≤ b → b < 128 → a ≡ b % 64 → eqb (bitAnd (576460743847706622 / 2 ^ a) 1) 1 ≡ isPrintable b
 printable-high b a l h e =
     let q : 64 + a ≡ b = omega arith in
     ap (λ (x : ℕ). eqb x 1) (and-mask (576460743847706622 / 2 ^ a) 1) ∙ agreed _ _ (all-at high-bit 64 a high-bits (omega arith)) ∙ ap isPrintable q
@@ -157,13 +160,73 @@ printable-none b h =
       ne-eqb b 63 (λ z. omega arith),
     )
 
--- ---- IA5String
-module _ (c : List ℕ) (i : ℕ) (inv : every isIa5 (drop i c) ≡ every isIa5 c) (h : i < length c) where
-  pub ia5-bad : 127 < octet c i → false ≡ every isIa5 c
-  ia5-bad g = every-fails isIa5 c i inv h (lt-leb _ _ g)
+-- two tests: u is what the code found of the first
+module _ (a b u : Bool) (e : u ≡ a) where
+  pub first-fails : not u ≡ true → false ≡ both a b
+  first-fails h = rw (sym e ∙ not-true u h)
 
-  pub ia5-more : octet c i ≤ 127 → every isIa5 (drop (i + 1) c) ≡ every isIa5 c
-  ia5-more g = every-holds isIa5 c i inv h (le-leb _ _ g)
+  pub first-holds : (r : Bool) → not u ≡ false → r ≡ b → r ≡ both a b
+  first-holds r h q = rw (sym e ∙ not-false u h) q
+
+-- the characters before place i are ones of a PrintableString
+pub record Skipped (c : List ℕ) (i : ℕ) : Type 0 where
+  pub within : i ≤ length c
+  pub same : every isPrintable (drop i c) ≡ every isPrintable c
+
+pub skip-none : (c : List ℕ) → Skipped c 0
+skip-none c = record { within = omega arith; same = refl }
+
+module _ (c : List ℕ) where
+  pair : (j : ℕ) → every isPrintable (drop j c) ≡ every isPrintable c → j + 2 ≤ length c → both (isPrintable (octet c j)) (isPrintable (octet c (j + 1))) ≡ true
+      → every isPrintable (drop (j + 2) c) ≡ every isPrintable c
+  pair j inv h e =
+      let a = both-true (isPrintable (octet c j)) (isPrintable (octet c (j + 1))) e in
+      let q : j + 1 + 1 ≡ j + 2 = omega arith in
+      ap (λ (x : ℕ). every isPrintable (drop x c)) (sym q)
+      ∙ every-holds isPrintable c (j + 1) (every-holds isPrintable c j inv (omega arith) (a .0)) (omega arith) (a .1)
+
+  module _ (i : ℕ) (so-far : Skipped c i) where
+    pub skipped-same : every isPrintable (drop i c) ≡ every isPrintable c
+    skipped-same = so-far .same
+
+    pub skip-more : 4 ≤ length c - i → (u : Bool) → u ≡ fourPrintable c i → not u ≡ false → Skipped c (i + 4)
+    skip-more h u e n =
+        let l = so-far .within in
+        let w = both-true (both (isPrintable (octet c i)) (isPrintable (octet c (i + 1)))) (both (isPrintable (octet c (i + 2))) (isPrintable (octet c (i + 3)))) (sym e ∙ not-false u n) in
+        let q : i + 2 + 1 ≡ i + 3 = omega arith in
+        let p : i + 2 + 2 ≡ i + 4 = omega arith in
+        let f = ap (λ (y : ℕ). both (isPrintable (octet c (i + 2))) (isPrintable (octet c y))) q ∙ w .1 in
+        record { within = omega arith; same = ap (λ (y : ℕ). every isPrintable (drop y c)) (sym p) ∙ pair (i + 2) (pair i (so-far .same) (omega arith) (w .0)) (omega arith) f }
+
+-- ---- IA5String: by the largest octet
+ia5-from : (n : ℕ) (c : List ℕ) → ltb (highestFrom n c) 128 ≡ both (ltb n 128) (every isIa5 c)
+unfolding highestFrom every
+ia5-from n [] = go (ltb n 128)
+  where
+    go : (x : Bool) → x ≡ both x true
+    go true = refl
+    go false = refl
+ia5-from n (b ∷ c) = ia5-from (larger n b) c ∙ ap (λ (x : Bool). both x (every isIa5 c)) both-low ∙ go (ltb n 128) (leb b 127) (every isIa5 c)
+  where
+    both-low : ltb (larger n b) 128 ≡ both (ltb n 128) (leb b 127)
+    both-low = low (ltb n 128) refl (leb b 127) refl
+      where
+        low : (x : Bool) → ltb n 128 ≡ x → (y : Bool) → leb b 127 ≡ y → ltb (larger n b) 128 ≡ both x y
+        low true p true q =
+            let e = ltb-true n 128 p in
+            let f = leb-true b 127 q in
+            let m = larger-most n b 127 (omega arith) f in
+            lt-ltb (larger n b) 128 (omega arith)
+        low true p false q = let f = leb-false b 127 q in let m = larger-least n b .1 in le-ltb (larger n b) 128 (omega arith)
+        low false p y q = let e = ltb-false n 128 p in let m = larger-least n b .0 in le-ltb (larger n b) 128 (omega arith)
+
+    go : (x y z : Bool) → both (both x y) z ≡ both x (both y z)
+    go true y z = refl
+    go false y z = refl
+
+pub ia5-is : (c : List ℕ) (most : ℕ) → most ≡ highest c → ltb most 128 ≡ legalIa5 c
+unfolding legalIa5
+ia5-is c most e = ap (λ (x : ℕ). ltb x 128) e ∙ ia5-from 0 c
 
 -- ---- by kind
 pub kind-octets : (k : ℕ) (c : List ℕ) → (k ≡ 1 → ⊥) → (k ≡ 2 → ⊥) → (k ≡ 3 → ⊥) → (k ≡ 4 → ⊥) → (k ≡ 5 → ⊥) → k ≡ 6 → true ≡ legal k c

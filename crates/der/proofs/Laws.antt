@@ -4,13 +4,13 @@ use mathlib.Core.Bool.{Bool, true, false}
 use mathlib.Core.List.{List}
 use Prim.Native.Nat.{ℕ, _≤_, _<_, _+_, _-_, _%_}
 use native.Mathlib.Omega.{arith}
-use borrow.Author.Tests.{ltb-false, leb-true, leb-false, eqb-true, eq-eqb, le-ltb, lt-leb}
+use borrow.Author.Tests.{ltb-false, leb-true, leb-false, eqb-true, eqb-false, eq-eqb, ne-eqb, le-ltb, lt-leb}
 use lib.Dec.{ltb, leb, eqb}
 use lib.ListN.{length}
 use Rattle.octets.specs.Octets.{octet, two}
 use Rattle.octets.specs.Pick.{pick, both}
 use Rattle.octets.proofs.Laws.{pick-cases, both-true}
-use Rattle.der.specs.Tag.{class, number, tagOf}
+use Rattle.der.specs.Tag.{class, number, tagOf, universalText, universal}
 use Rattle.der.specs.Header.{longLength, lengthAt, sized, headerAt, tagged, insideAt, anyTag}
 use Rattle.der.specs.Kind as kind
 use Rattle.der.specs.Contents.{legalBoolean, legalInteger, legal}
@@ -32,6 +32,29 @@ tag-small o = go (eqb (class o) 0) (eqb (class o) 2)
     go true y = omega arith
     go false true = omega arith
     go false false = omega arith
+
+-- universal tags are 0 to 24
+pub universal-most : (k : ℕ) → universal k ≤ 24
+unfolding universal universalText
+universal-most k =
+    low (eqb k 1) 1 _ (omega arith) (low (eqb k 2) 2 _ (omega arith) (low (eqb k 3) 10 _ (omega arith) (low (eqb k 4) 5 _ (omega arith)
+    (low (eqb k 5) 6 _ (omega arith) (low (eqb k 6) 4 _ (omega arith) (low (eqb k 7) 3 _ (omega arith) (low (eqb k 8) 12 _ (omega arith)
+    (low (eqb k 9) 19 _ (omega arith) (low (eqb k 10) 22 _ (omega arith) (low (eqb k 11) 24 _ (omega arith) (low (eqb k 12) 16 _ (omega arith)
+    (low (eqb k 14) 16 _ (omega arith) (low (eqb k 15) 17 0 (omega arith) (omega arith))))))))))))))
+  where
+    low : (x : Bool) (a b : ℕ) → a ≤ 24 → b ≤ 24 → pick x a b ≤ 24
+    low true a b p q = p
+    low false a b p q = q
+
+-- the first three kinds have one
+pub universal-first : (k : ℕ) → 1 ≤ k → k ≤ 3 → 1 ≤ universal k
+unfolding universal
+universal-first k h g = go (eqb k 1) refl (eqb k 2) refl
+  where
+    go : (x : Bool) → eqb k 1 ≡ x → (y : Bool) → eqb k 2 ≡ y → 1 ≤ universal k
+    go true p y q = rw p (omega arith)
+    go false p true q = rw (p, q) (omega arith)
+    go false p false q = let a = eqb-false k 1 p in let b = eqb-false k 2 q in let e : k ≡ 3 = omega arith in rw (p, q, eq-eqb k 3 e) (omega arith)
 
 -- ---- lengths
 -- the place after a length lies after the length's own place, and within the end
@@ -121,6 +144,21 @@ module _ (g : ℕ) (s : List ℕ) (at end start n : ℕ) (e : insideAt g s at en
 
   pub inside-within : start + n ≤ end
   inside-within = header-within s at end g start n (inside-view g s at end start n e)
+
+-- behind another tag octet nothing opens
+pub other-octet : (o : ℕ) (s : List ℕ) (at end : ℕ) → (octet s at ≡ o → ⊥) → insideAt o s at end ≡ Inside.Misfit
+unfolding insideAt headerAt
+other-octet o s at end h = go (leb end at) (eqb (number (octet s at)) 31) (lengthAt s (at + 1) end)
+  where
+    fits : (x : Bool) (n next : ℕ) → tagged o (pick x Header.Misfit (Header.Found (octet s at) next n)) ≡ Inside.Misfit
+    fits true n next = refl
+    fits false n next = rw (ne-eqb (octet s at) o h)
+
+    go : (x y : Bool) (l : Length) → tagged o (pick x Header.Misfit (pick y Header.Misfit (sized (octet s at) end l))) ≡ Inside.Misfit
+    go true y l = refl
+    go false true l = refl
+    go false false Length.Unusable = refl
+    go false false (Length.Of n next) = fits (ltb (end - next) n) n next
 
 -- ---- contents
 pub integer-octets : (c : List ℕ) → legalInteger c ≡ true → (1 ≤ length c) × (length c ≤ 8)

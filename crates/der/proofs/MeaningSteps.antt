@@ -13,10 +13,8 @@ use lib.ListN.{length, getD, drop, length-take, length-append, List·getD-append
 use lib.Seq.{getD-take, getD-append-add}
 use Rattle.octets.specs.Pick.{pick}
 use Rattle.octets.specs.Octets.{octet, baseFrom}
-use Rattle.octets.specs.inner.Answers.{between}
 use Rattle.octets.proofs.Laws.{octet-past, rest-cons, rest-none}
 use Rattle.der.specs.Tag.{form, universal, ownOctet, implicitOctet, wrapperOctet}
-use Rattle.der.specs.Contents.{legal}
 use Rattle.der.specs.Meaning.{integerOf, booleanOf, octetBits, allBits, bitsOf}
 use Rattle.der.specs.Order.{notAbove}
 use Rattle.der.specs.inner.Answers.{reportInteger}
@@ -33,10 +31,6 @@ implicit-is n k a x y e f g = ap₂ (λ (p q : ℕ). 128 + p + q) (f ∙ e) g
 pub wrapper-is : (n x : ℕ) → x ≡ n → 160 + x ≡ wrapperOctet n
 unfolding wrapperOctet
 wrapper-is n x e = ap (λ (p : ℕ). 160 + p) e
-
--- ---- contents up to an end
-pub legal-is : (k : ℕ) (s c : List ℕ) (start end : ℕ) (r : Bool) → c ≡ between s start end → r ≡ legal k c → r ≡ legal k (between s start end)
-legal-is k s c start end r e q = q ∙ ap (legal k) e
 
 -- ---- BOOLEAN
 pub truth-is : (c : List ℕ) (o : ℕ) → o ≡ octet c 0 → not (eqb o 0) ≡ booleanOf c

@@ -1,18 +1,22 @@
 -- One lemma for each return and each turn of a loop; its premises are the facts as the code has them.
-use mathlib.Core.Path.{_≡_, sym, ap, ap₂, _∙_}
+use mathlib.Core.Path.{_≡_, refl, sym, ap, ap₂, _∙_}
+use mathlib.Core.Bool.{Bool, true, false}
 use mathlib.Core.List.{List}
 use Prim.Native.Nat.{ℕ, _≤_, _<_, _+_, _-_, _*_, _/_, _^_}
 use native.Mathlib.Omega.{arith}
 use borrow.Author.Tests.{eq-eqb, ne-eqb, lt-ltb, le-ltb, lt-leb, le-leb}
+use lib.Dec.{ltb}
 use lib.Bits.{bitAnd, and-mask}
+use Rattle.octets.specs.Pick.{pick}
 use Rattle.octets.specs.Octets.{octet, two}
 use Rattle.der.specs.Tag.{class, constructed, number, split, tagOf, context, universalText, universal}
 use Rattle.der.specs.Header.{longLength, lengthAt, sized, headerAt, tagged, insideAt, anyTag}
+use Rattle.der.specs.inner.Answers.{behind}
 use Rattle.der.specs.declared.Tag.{Tag}
 use Rattle.der.specs.declared.Length.{Length}
 use Rattle.der.specs.declared.Header.{Header}
 use Rattle.der.specs.declared.Inside.{Inside}
-use Rattle.der.proofs.Laws.{number-small, length-within}
+use Rattle.der.proofs.Laws.{number-small, length-within, other-octet}
 
 -- ---- tags
 pub split-is : (o : ℕ) → record { class = o / 2 ^ 6; constructed = bitAnd (o / 2 ^ 5) 1; number = bitAnd o 31 } ≡ split o
@@ -88,6 +92,23 @@ unfolding lengthAt
 length-none s at end h = rw (le-leb end at h)
 
 -- ---- headers
+-- the header of a tag octet and contents
+abbrev headed : ℕ → Inside → Header
+headed o Inside.Misfit = Header.Misfit
+headed o (Inside.Of start n) = Header.Found o start n
+
+sized-headed : (o end : ℕ) (l : Length) → sized o end l ≡ headed o (behind end l)
+sized-headed o end Length.Unusable = refl
+sized-headed o end (Length.Of n next) = go (ltb (end - next) n)
+  where
+    go : (x : Bool) → pick x Header.Misfit (Header.Found o next n) ≡ headed o (pick x Inside.Misfit (Inside.Of next n))
+    go true = refl
+    go false = refl
+
+tagged-headed : (o : ℕ) (i : Inside) → tagged o (headed o i) ≡ i
+tagged-headed o Inside.Misfit = refl
+tagged-headed o (Inside.Of start n) = rw (eq-eqb o o refl)
+
 pub header-none : (s : List ℕ) (at end : ℕ) → end ≤ at → Header.Misfit ≡ headerAt s at end
 unfolding headerAt
 header-none s at end h = rw (le-leb end at h)
@@ -97,23 +118,76 @@ module _ (s : List ℕ) (at end o : ℕ) (g : Tag) (h : at < end) (read : o ≡ 
   unfolding headerAt
   header-31 e = rw (lt-leb end at h, ← read, eq-eqb _ _ (sym (number-of o g told) ∙ e))
 
-  module _ (n : g .number ≡ 31 → ⊥) (l : Length) (found : l ≡ lengthAt s (at + 1) end) where
-    sized-is : headerAt s at end ≡ sized o end l
+  module _ (n : g .number ≡ 31 → ⊥) (i : Inside) (found : i ≡ behind end (lengthAt s (at + 1) end)) where
+    headed-is : headerAt s at end ≡ headed o i
     unfolding headerAt
-    sized-is = rw (lt-leb end at h, ← read, ne-eqb _ _ (λ z. n (number-of o g told ∙ z)), ← found)
+    headed-is = rw (lt-leb end at h, ← read, ne-eqb _ _ (λ z. n (number-of o g told ∙ z)), sized-headed o end (lengthAt s (at + 1) end), ← found)
 
-    pub header-unusable : l ≡ Length.Unusable → Header.Misfit ≡ headerAt s at end
-    header-unusable e = sym (sized-is ∙ ap (sized o end) e)
+    pub header-misfit : i ≡ Inside.Misfit → Header.Misfit ≡ headerAt s at end
+    header-misfit e = sym (headed-is ∙ ap (headed o) e)
 
-    module _ (m next : ℕ) (e : l ≡ Length.Of m next) where
-      pub header-long : end - next < m → Header.Misfit ≡ headerAt s at end
-      header-long g = sym (sized-is ∙ ap (sized o end) e ∙ rw (lt-ltb _ _ g))
+    pub header-is : (start m : ℕ) → i ≡ Inside.Of start m → Header.Found o start m ≡ headerAt s at end
+    header-is start m e = sym (headed-is ∙ ap (headed o) e)
 
-      pub header-is : m ≤ end - next → Header.Found o next m ≡ headerAt s at end
-      header-is g = sym (sized-is ∙ ap (sized o end) e ∙ rw (le-ltb _ _ g))
+-- ---- contents by their length
+module _ (s : List ℕ) (at end : ℕ) (l : Length) (found : l ≡ lengthAt s (at + 1) end) where
+  pub long-unusable : l ≡ Length.Unusable → Inside.Misfit ≡ behind end (lengthAt s (at + 1) end)
+  long-unusable e = sym (ap (behind end) (sym found ∙ e))
 
-pub length-ends : (s : List ℕ) (at end m next : ℕ) (l : Length) → l ≡ lengthAt s (at + 1) end → l ≡ Length.Of m next → next ≤ end
-length-ends s at end m next l found e = length-within s (at + 1) end m next (sym found ∙ e) .1
+  module _ (m next : ℕ) (e : l ≡ Length.Of m next) where
+    pub length-ends : next ≤ end
+    length-ends = length-within s (at + 1) end m next (sym found ∙ e) .1
+
+    pub long-past : end - next < m → Inside.Misfit ≡ behind end (lengthAt s (at + 1) end)
+    long-past g = sym (ap (behind end) (sym found ∙ e) ∙ rw (lt-ltb _ _ g))
+
+    pub long-is : m ≤ end - next → Inside.Of next m ≡ behind end (lengthAt s (at + 1) end)
+    long-is g = sym (ap (behind end) (sym found ∙ e) ∙ rw (le-ltb _ _ g))
+
+-- ---- contents behind a tag octet that was seen
+module _ (s : List ℕ) (at end : ℕ) (h : at < end) (usable : number (octet s at) ≡ 31 → ⊥) where
+  by-length : insideAt (octet s at) s at end ≡ behind end (lengthAt s (at + 1) end)
+  unfolding insideAt headerAt
+  by-length =
+      rw (lt-leb end at h, ne-eqb _ _ usable)
+      (ap (tagged (octet s at)) (sized-headed (octet s at) end (lengthAt s (at + 1) end)) ∙ tagged-headed (octet s at) (behind end (lengthAt s (at + 1) end)))
+
+  pub seen-short : end - at < 2 → Inside.Misfit ≡ insideAt (octet s at) s at end
+  seen-short g = sym (by-length ∙ ap (behind end) (sym (length-none s (at + 1) end (omega arith))))
+
+  pub seen-long : (r : Inside) → r ≡ behind end (lengthAt s (at + 1) end) → r ≡ insideAt (octet s at) s at end
+  seen-long r e = e ∙ sym by-length
+
+  module _ (n : ℕ) (g : 2 ≤ end - at) (read : n ≡ octet s (at + 1)) (small : n < 128) where
+    by-octet : insideAt (octet s at) s at end ≡ behind end (Length.Of n (at + 2))
+    by-octet =
+        let next : at + 1 + 1 ≡ at + 2 = omega arith in
+        by-length ∙ ap (behind end) (sym (length-short s (at + 1) end n (omega arith) read n small refl) ∙ ap (Length.Of n) next)
+
+    pub seen-past : end - at - 2 < n → Inside.Misfit ≡ insideAt (octet s at) s at end
+    seen-past l = let q : end - (at + 2) < n = omega arith in sym (by-octet ∙ rw (lt-ltb _ _ q))
+
+    pub seen-is : n ≤ end - at - 2 → Inside.Of (at + 2) n ≡ insideAt (octet s at) s at end
+    seen-is l = let q : n ≤ end - (at + 2) = omega arith in sym (by-octet ∙ rw (le-ltb _ _ q))
+
+-- ---- contents behind a tag octet
+pub within-none : (g : ℕ) (s : List ℕ) (at end : ℕ) → end ≤ at → Inside.Misfit ≡ insideAt g s at end
+unfolding insideAt
+within-none g s at end h = ap (tagged g) (header-none s at end h)
+
+module _ (g : ℕ) (s : List ℕ) (at end u : ℕ) (wide : u ≡ octet s at) where
+  pub within-other : (u ≡ g → ⊥) → Inside.Misfit ≡ insideAt g s at end
+  within-other h = sym (other-octet g s at end (λ z. h (wide ∙ z)))
+
+  pub within-31 : (p : Tag) → at < end → p ≡ split (octet s at) → p .number ≡ 31 → Inside.Misfit ≡ insideAt g s at end
+  unfolding insideAt
+  within-31 p h told e = ap (tagged g) (header-31 s at end (octet s at) p h refl told e)
+
+  pub within-seen : (r : Inside) → u ≡ g → r ≡ insideAt (octet s at) s at end → r ≡ insideAt g s at end
+  within-seen r h e = e ∙ ap (λ (x : ℕ). insideAt x s at end) (sym wide ∙ h)
+
+pub within-usable : (s : List ℕ) (at : ℕ) (p : Tag) → p ≡ split (octet s at) → (p .number ≡ 31 → ⊥) → number (octet s at) ≡ 31 → ⊥
+within-usable s at p told n z = n (number-of (octet s at) p told ∙ z)
 
 module _ (s : List ℕ) (at end : ℕ) (h : Header) (read : h ≡ headerAt s at end) where
   pub body-misfit : (g : ℕ) → h ≡ Header.Misfit → Inside.Misfit ≡ insideAt g s at end

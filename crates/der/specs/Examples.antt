@@ -24,8 +24,8 @@ tags : map class (hex "30A09E") ++ map constructed (hex "30A09E") ++ map number 
 unfolding derComputes
 tags = refl
 
--- the tag octets of the kinds 1..12, 14, 15
-octets-of-kinds : map ownOctet (1 ∷ 2 ∷ 3 ∷ 4 ∷ 5 ∷ 6 ∷ 7 ∷ 8 ∷ 9 ∷ 10 ∷ 11 ∷ 12 ∷ 14 ∷ 15 ∷ []) ≡ hex "01020A050604030C131618303031"
+-- the tag octets of the kinds 1..12, 14, 15; a CHOICE, a member and what is no kind have none
+octets-of-kinds : map ownOctet (1 ∷ 2 ∷ 3 ∷ 4 ∷ 5 ∷ 6 ∷ 7 ∷ 8 ∷ 9 ∷ 10 ∷ 11 ∷ 12 ∷ 14 ∷ 15 ∷ 13 ∷ 16 ∷ 0 ∷ 17 ∷ []) ≡ hex "01020A050604030C13161830303100000000"
 unfolding derComputes
 octets-of-kinds = refl
 

@@ -2,8 +2,8 @@
 use Prim.Native.Nat.{ℕ, _+_, _/_, _%_}
 use lib.Dec.{eqb}
 use Rattle.octets.specs.Pick.{pick}
-use Rattle.der.specs.Kind.{boolean, integer, enumerated, null, objectIdentifier, octetString, bitString, setOf, isConstructed}
-use Rattle.der.specs.Kind.{utf8String, printableString, ia5String, generalizedTime}
+use Rattle.der.specs.Kind.{boolean, integer, enumerated, null, objectIdentifier, octetString, bitString, isConstructed}
+use Rattle.der.specs.Kind.{utf8String, printableString, ia5String, generalizedTime, sequence, sequenceOf, setOf}
 use Rattle.der.specs.declared.Tag.{Tag}
 
 -- 0 universal, 1 application, 2 context, 3 private
@@ -29,15 +29,18 @@ tagOf o =
     pick (eqb (class o) 0) (number o)
     (pick (eqb (class o) 2) (context (number o)) 31)
 
--- the universal tag of a kind (X.680); 16 for SEQUENCE and SEQUENCE OF. A CHOICE has none of its own, and none is asked of it
+-- the universal tag of a kind (X.680); 16 for SEQUENCE and SEQUENCE OF, 17 for SET OF. A CHOICE has none of its own, and a number that is no
+-- type's kind has none: 0, which X.690 keeps for no type
 unfoldable pub universalText : ℕ → ℕ
 universalText k =
     pick (eqb k utf8String) 12
     (pick (eqb k printableString) 19
     (pick (eqb k ia5String) 22
     (pick (eqb k generalizedTime) 24
+    (pick (eqb k sequence) 16
+    (pick (eqb k sequenceOf) 16
     (pick (eqb k setOf) 17
-    16))))
+    0))))))
 
 unfoldable pub universal : ℕ → ℕ
 universal k =

@@ -3,7 +3,8 @@ ghost use mathlib.Core.Path.{_≡_};
 ghost use Prim.Native.Nat.{_≤_, _<_, _+_, _-_, _%_, _^_};
 ghost use lib.Dec.{eqb};
 ghost use lib.ListN.{length, drop, getD};
-ghost use Rattle.octets.specs.Octets.{octet, two, baseFrom};
+ghost use Rattle.octets.specs.Pick.{both};
+ghost use Rattle.octets.specs.Octets.{octet, two, baseFrom, every};
 ghost use Rattle.octets.specs.inner.Answers.{between};
 ghost use Rattle.der.specs.Tag as tag;
 ghost use Rattle.der.specs.Header as header;
@@ -11,7 +12,7 @@ ghost use Rattle.der.specs.Contents as contents;
 ghost use Rattle.der.specs.Time as time;
 ghost use Rattle.der.specs.Meaning as meaning;
 ghost use Rattle.der.specs.Order.{notAbove};
-ghost use Rattle.der.specs.inner.Answers.{reportInteger, reportSub, Forward};
+ghost use Rattle.der.specs.inner.Answers.{reportInteger, reportSub, Forward, behind, fourPrintable};
 
 // A tag octet in parts: its class, whether it is constructed (1 or 0), its number.
 struct Tag {
@@ -135,13 +136,19 @@ fn universal_text(kind: u8) -> u8
     if kind == Kind::GENERALIZED_TIME {
         return 24;
     }
+    if kind == Kind::SEQUENCE {
+        return 16;
+    }
+    if kind == Kind::SEQUENCE_OF {
+        return 16;
+    }
     if kind == Kind::SET_OF {
         return 17;
     }
-    16
+    0
 }
 
-// The universal tag of a kind that is no CHOICE.
+// The universal tag of a kind; 0 for a CHOICE and for what is no type's kind.
 pub fn universal(kind: u8) -> u8
     ensures { λ r. ⌜ r ≡ tag.universal kind ⌝ }
 {
@@ -261,6 +268,20 @@ fn read_two(s: &[u8], at: usize, end: usize) -> Length
     long_length(n, 256, at + 3, end)
 }
 
+// The contents behind a tag octet at a place, by their length of any form.
+fn open_long(s: &[u8], at: usize, end: usize) -> Inside
+    requires { ⌜ at < end ⌝ }
+    ensures { λ r. ⌜ r ≡ behind end (header.lengthAt (now (s .entry)) (at + 1) end) ⌝ }
+{
+    let Length::Of(n, next) = read_length(s, at + 1, end) else {
+        return Inside::Misfit;
+    };
+    if end - next < n {
+        return Inside::Misfit;
+    }
+    Inside::Of(next, n)
+}
+
 // The header at a place of a value that lies before end. Where a length octet isn't usable, reading ends there.
 pub fn read_header(s: &[u8], at: usize, end: usize) -> Header
     ensures { λ r. ⌜ r ≡ header.headerAt (now (s .entry)) at end ⌝ }
@@ -273,13 +294,49 @@ pub fn read_header(s: &[u8], at: usize, end: usize) -> Header
     if tag.number == 31 {
         return Header::Misfit;
     }
-    let Length::Of(n, next) = read_length(s, at + 1, end) else {
+    let Inside::Of(start, n) = open_long(s, at, end) else {
         return Header::Misfit;
     };
-    if end - next < n {
-        return Header::Misfit;
+    Header::Found(first, start, n)
+}
+
+// The contents behind a header whose tag octet was seen, before end: by its length.
+pub fn open_seen(s: &[u8], at: usize, end: usize) -> Inside
+    requires within { ⌜ end ≤ length (now s) ⌝ }
+    requires here { ⌜ at < end ⌝ }
+    requires usable { ⌜ (tag.number (octet (now s) at) ≡ 31 → ⊥) ⌝ }
+    ensures { λ r. ⌜ r ≡ header.insideAt (octet (now (s .entry)) at) (now (s .entry)) at end ⌝ }
+{
+    if end - at < 2 {
+        return Inside::Misfit;
     }
-    Header::Found(first, next, n)
+    let n = octets::wide(s[at + 1]);
+    if 128 <= n {
+        return open_long(s, at, end);
+    }
+    if end - at - 2 < n {
+        return Inside::Misfit;
+    }
+    Inside::Of(at + 2, n)
+}
+
+// The contents at a place behind a tag octet, before end, which lies within the octets.
+pub fn open_within(tag: usize, s: &[u8], at: usize, end: usize) -> Inside
+    requires within { ⌜ end ≤ length (now s) ⌝ }
+    ensures { λ r. ⌜ r ≡ header.insideAt tag (now (s .entry)) at end ⌝ }
+{
+    if end <= at {
+        return Inside::Misfit;
+    }
+    let first = s[at];
+    if octets::wide(first) != tag {
+        return Inside::Misfit;
+    }
+    let parts = split(first);
+    if parts.number == 31 {
+        return Inside::Misfit;
+    }
+    open_seen(s, at, end)
 }
 
 // The contents at a place behind a tag octet, before end.
@@ -439,16 +496,49 @@ fn is_printable(b: u8) -> bool
         return (LOW_PRINTABLE >> b) & 1 == 1;
     }
     if b < 128 {
-        let above = b - 64;
+        let above = b % 64;
         return (HIGH_PRINTABLE >> above) & 1 == 1;
     }
     false
 }
 
+fn both_printable(a: u8, b: u8) -> bool
+    ensures { λ r. ⌜ r ≡ both (contents.isPrintable a) (contents.isPrintable b) ⌝ }
+{
+    if !is_printable(a) {
+        return false;
+    }
+    is_printable(b)
+}
+
+fn four_printable(c: &[u8], i: usize) -> bool
+    requires { ⌜ i + 4 ≤ length (now c) ⌝ }
+    ensures { λ r. ⌜ r ≡ fourPrintable (now (c .entry)) i ⌝ }
+{
+    if !both_printable(c[i], c[i + 1]) {
+        return false;
+    }
+    both_printable(c[i + 2], c[i + 3])
+}
+
+// A place before which there are only characters of a PrintableString: as far as whole fours of them go.
+fn skip_printable(c: &[u8]) -> usize
+    ensures { λ r. ⌜ every contents.isPrintable (drop r (now (c .entry))) ≡ every contents.isPrintable (now (c .entry)) ⌝ }
+{
+    let mut i = 0;
+    while 4 <= c.len() - i {
+        if !four_printable(c, i) {
+            return i;
+        }
+        i += 4;
+    }
+    i
+}
+
 fn legal_printable(c: &[u8]) -> bool
     ensures { λ r. ⌜ r ≡ contents.legalPrintable (now (c .entry)) ⌝ }
 {
-    let mut i = 0;
+    let mut i = skip_printable(c);
     while i < c.len() {
         if !is_printable(c[i]) {
             return false;
@@ -461,14 +551,7 @@ fn legal_printable(c: &[u8]) -> bool
 fn legal_ia5(c: &[u8]) -> bool
     ensures { λ r. ⌜ r ≡ contents.legalIa5 (now (c .entry)) ⌝ }
 {
-    let mut i = 0;
-    while i < c.len() {
-        if 127 < c[i] {
-            return false;
-        }
-        i += 1;
-    }
-    true
+    octets::highest(c) < 128
 }
 
 // ---- times
@@ -719,9 +802,11 @@ fn legal_text(kind: u8, c: &[u8]) -> bool
 
 // The same of the octets from start up to end.
 pub fn legal(kind: u8, s: &[u8], start: usize, end: usize) -> bool
+    requires ordered { ⌜ start ≤ end ⌝ }
+    requires within { ⌜ end ≤ length (now s) ⌝ }
     ensures { λ r. ⌜ r ≡ contents.legal kind (between (now (s .entry)) start end) ⌝ }
 {
-    legal_contents(kind, octets::between(s, start, end))
+    legal_contents(kind, &s[start..end])
 }
 
 // ---- what contents mean

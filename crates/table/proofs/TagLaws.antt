@@ -14,7 +14,8 @@ use lib.Pow.{pow-lt}
 use lib.Bits.{or-lt}
 use Rattle.octets.specs.Pick.{pick, both, either, no}
 use Rattle.octets.proofs.Laws.{all-at, all-is, all-not, all-cong}
-use Rattle.der.specs.Tag.{context, universal, universalText}
+use Rattle.der.specs.Tag.{context, universal}
+use Rattle.der.proofs.Laws.{universal-most}
 use Rattle.rows.specs.Row.{kindAt, modeAt, numberAt, presenceAt, defaultAt, elementAt, rowAt, membersAt, isGroup, isList}
 use Rattle.groups.specs.Clauses.{everyRow, pointsLater, membersStand, memberPlace, mandatoryAt, chainFits}
 use Rattle.groups.proofs.LaterSteps.{is-later}
@@ -166,18 +167,8 @@ module _ (m t s : List ℕ) (i n : ℕ) (f : ℕ → Ty)
         (differ-sequence k (a + 1) q ∙ ap runsDiffer (sym (rest-of a k)))
 
 -- ---- kinds
-universal-small : (k : ℕ) → universal k < 64
-unfolding universal universalText
-universal-small k =
-    low (eqb k 1) 1 _ (omega arith) (low (eqb k 2) 2 _ (omega arith) (low (eqb k 3) 10 _ (omega arith) (low (eqb k 4) 5 _ (omega arith) (low (eqb k 5) 6 _ (omega arith) (low (eqb k 6) 4 _ (omega arith)
-    (low (eqb k 7) 3 _ (omega arith) (low (eqb k 8) 12 _ (omega arith) (low (eqb k 9) 19 _ (omega arith) (low (eqb k 10) 22 _ (omega arith) (low (eqb k 11) 24 _ (omega arith) (low (eqb k 15) 17 16 (omega arith) (omega arith))))))))))))
-  where
-    low : (x : Bool) (a b : ℕ) → a < 64 → b < 64 → pick x a b < 64
-    low true a b p q = p
-    low false a b p q = q
-
 pub universal-fits : (k u : ℕ) → u ≡ universal k → u < 64
-universal-fits k u e = rw e (universal-small k)
+universal-fits k u e = let m = universal-most k in omega arith
 
 begins-typed : (k : ℕ) (e : Ty) (ms : Members) (g : ℕ) → eqb k 13 ≡ false → begins (typed k e ms) g ≡ eqb g (universal k)
 unfolding begins
@@ -262,7 +253,7 @@ module _ (t s m : List ℕ) (i : ℕ) (later : Later t s) (masks : Masks t s m (
 
   row-small : rowMask m t s i < 2 ^ 64
   unfolding rowMask
-  row-small = pick-small (eqb (kindAt t (rowAt s i)) 13) _ _ (2 ^ 64) (λ _. group-small m t s i (membersAt t (rowAt s i)) member-small (membersAt t (rowAt s i)) 0 (omega arith)) (λ _. pow-lt (universal-small (kindAt t (rowAt s i))))
+  row-small = pick-small (eqb (kindAt t (rowAt s i)) 13) _ _ (2 ^ 64) (λ _. group-small m t s i (membersAt t (rowAt s i)) member-small (membersAt t (rowAt s i)) 0 (omega arith)) (λ _. pow-lt (universal-fits (kindAt t (rowAt s i)) _ refl))
 
   -- for every depth that suffices
   row-all : (k : ℕ) → chainFits k t s i ≡ true → (g : ℕ) → g < 64 → bitOf (rowMask m t s i) g ≡ begins (typeFrom k t s i) g

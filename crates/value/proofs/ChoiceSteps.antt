@@ -88,9 +88,6 @@ module _ (chain : ℕ) (t s m : List ℕ) (row : ℕ) (ok : Sound chain t s m) (
       pub choice-member : kindAt t (rowAt s (row + 1 + j)) ≡ 16
       choice-member = ok .members row here j in-row
 
-      pub choice-falls : (k : ℕ) → 5 * (length s - row) + 2 ≡ k → 5 * (length s - typeRowAt t (rowAt s (row + 1 + j))) + 5 < k
-      choice-falls k e = let a = ok .later .of-member row here j in-row in let b = a .0 in let d = a .1 in omega arith
-
       pub choice-is : (r : Checked) → r ≡ checked (alternative j) → r ≡ checked (alternativeFrom (membersFrom (typeFrom chain t s) t s (row + 1) (membersAt t (rowAt s row))) v at end)
       choice-is r e = e ∙ sym (ap checked (whole ∙ ap (λ (x : Bool). pick x (taken j) none) (lt-ltb j n l))
           ∙ told-choice (memberOf t (row + 1 + j) (rowAt s (row + 1 + j))) (typeFrom chain t s (typeRowAt t (rowAt s (row + 1 + j)))) (taggingOf (modeAt t (rowAt s (row + 1 + j))) (numberAt t (rowAt s (row + 1 + j)))) v at end)

@@ -2,7 +2,7 @@
 use mathlib.Core.Path.{_≡_, refl, sym, ap, ap₂, _∙_}
 use mathlib.Core.Bool.{Bool, true, false}
 use mathlib.Core.List.{List, [], _∷_}
-use Prim.Native.Nat.{ℕ, zero, suc, _≤_, _<_, _+_, _*_}
+use Prim.Native.Nat.{ℕ, zero, suc, _≤_, _<_, _+_, _-_, _*_}
 use native.Mathlib.Omega.{arith}
 use mir.Val.{Fits}
 use mir.Syntax.{w8}
@@ -75,9 +75,11 @@ module _ (t : List ℕ) (p : ℕ) (v : List ℕ) (start n pr : ℕ) (read : pr �
   unfolding isDefaultAt
   default-none h = rw (← read, ne-eqb pr 2 h)
 
-  pub default-is : (c : List ℕ) (r : Bool) → pr ≡ 2 → c ≡ part v start n → r ≡ same c (defaultAt t p) → r ≡ isDefaultAt t p v start n
+  pub default-is : (r : Bool) → pr ≡ 2 → r ≡ same (part v start (start + n - start)) (defaultAt t p) → r ≡ isDefaultAt t p v start n
   unfolding isDefaultAt
-  default-is c r h e q = rw (← read, eq-eqb pr 2 h) (q ∙ ap (λ (x : List ℕ). same x (defaultAt t p)) e)
+  default-is r h q =
+      let l : start + n - start ≡ n = omega arith in
+      rw (← read, eq-eqb pr 2 h) (q ∙ ap (λ (x : ℕ). same (part v start x) (defaultAt t p)) l)
 
 -- ---- a member row
 module _ (t w : List ℕ) (row : ℕ) (ok : Worded t w) (here : row < length (tableRows t)) (member : kindAt t (placeAt t row) ≡ 16) where

@@ -131,6 +131,9 @@ module _ (chain : ℕ) (t s m : List ℕ) (row : ℕ) (ok : Sound chain t s m) (
         pub element-within : after ≤ stop
         element-within = let a = framed-within (framed owned) in let b = value-there .2 in omega arith
 
+        pub element-ends : stop ≤ length v → after ≤ length v
+        element-ends h = let a = element-within in omega arith
+
         pub element-less : stop - after < stop - i
         element-less = let a = element-long in let b = element-within in omega arith
 

@@ -1,10 +1,11 @@
 -- The functions outside the cycle: one lemma for each return and each turn of a loop; its premises are the facts as the code has them.
-use mathlib.Core.Path.{_≡_, refl, sym, ap, ap₂, _∙_}
+use mathlib.Core.Path.{_≡_, refl, sym, ap, _∙_}
 use mathlib.Core.Bool.{Bool, true, false}
 use mathlib.Core.List.{List}
 use Prim.Native.Nat.{ℕ, suc, _≤_, _<_, _+_, _-_}
 use native.Mathlib.Omega.{arith}
 use borrow.Author.Tests.{eq-eqb, ne-eqb, lt-ltb, le-ltb}
+use lib.ListN.{length}
 use lib.Dec.{eqb}
 use Rattle.octets.specs.Pick.{pick}
 use Rattle.octets.specs.Octets.{octet, part, same}
@@ -18,7 +19,7 @@ use Rattle.groups.specs.Clauses.{memberPlace}
 use Rattle.table.specs.Types.{Tagging, untagged, explicit, implicit, taggingOf, memberOf, typeFrom}
 use Rattle.table.specs.inner.Work.{bitOf, memberMask}
 use Rattle.value.specs.Decode.{tagOctet, startsHere}
-use Rattle.value.specs.inner.Work.{upTo, first, marked, markedOf, startsOf, contentsAt, holds, storedDefault, absentChecked, neighbours}
+use Rattle.value.specs.inner.Work.{upTo, first, marked, markedOf, startsOf, contentsAt, holds, within, storedDefault, absentChecked, neighbours}
 use Rattle.value.specs.declared.Checked.{Checked}
 
 -- ---- tags
@@ -69,13 +70,38 @@ module _ (mode n k : ℕ) where
 pub inside-fits : (o : ℕ) (v : List ℕ) (at end start n : ℕ) (h : Inside) → h ≡ insideAt o v at end → h ≡ Inside.Of start n → end < 18446744073709551616 → start + n < 18446744073709551616
 inside-fits o v at end start n h e q l = let w = inside-within o v at end start n (sym e ∙ q) in omega arith
 
+-- and within the octets, where the end does
+pub inside-ends : (o : ℕ) (v : List ℕ) (at end start n : ℕ) (h : Inside) → h ≡ insideAt o v at end → h ≡ Inside.Of start n → end ≤ length v → start + n ≤ length v
+inside-ends o v at end start n h e q l = let w = inside-within o v at end start n (sym e ∙ q) in omega arith
+
+contents-within : (g : Tagging) (k : ℕ) (v : List ℕ) (at end start n : ℕ) → contentsAt g k v at end ≡ Inside.Of start n → start + n ≤ end
+unfolding contentsAt
+contents-within untagged k v at end start n e = inside-within (tagOctet untagged k) v at end start n e
+contents-within (implicit m) k v at end start n e = inside-within (tagOctet (implicit m) k) v at end start n e
+contents-within (explicit m) k v at end start n e = go (insideAt (wrapperOctet m) v at end) refl e
+  where
+    go : (i : Inside) → insideAt (wrapperOctet m) v at end ≡ i → within (insideAt (tagOctet (explicit m) k) v) i ≡ Inside.Of start n → start + n ≤ end
+    go Inside.Misfit q f = absurd (let z : _≡_ {A = ℕ} 0 1 = cc in omega arith)
+    go (Inside.Of a c) q f =
+        let x = inside-within (wrapperOctet m) v at end a c q in
+        let y = inside-within (tagOctet (explicit m) k) v a (a + c) start n f in
+        omega arith
+
 -- ---- a default that is stored
 module _ (v d : List ℕ) (g : Tagging) (k at end : ℕ) (h : Inside) (e : h ≡ contentsAt g k v at end) where
   pub holds-none : h ≡ Inside.Misfit → false ≡ holds v d (contentsAt g k v at end)
   holds-none m = rw (← e, m)
 
-  pub holds-same : (start n : ℕ) (c : List ℕ) (r : Bool) → h ≡ Inside.Of start n → c ≡ part v start n → r ≡ same c d → r ≡ holds v d (contentsAt g k v at end)
-  holds-same start n c r m f q = rw (← e, m) (q ∙ ap (λ (x : List ℕ). same x d) f)
+  pub contents-ends : (start n : ℕ) → h ≡ Inside.Of start n → end ≤ length v → start + n ≤ length v
+  contents-ends start n m l = let w = contents-within g k v at end start n (sym e ∙ m) in omega arith
+
+  pub contents-fits : (start n : ℕ) → h ≡ Inside.Of start n → end < 18446744073709551616 → start + n < 18446744073709551616
+  contents-fits start n m l = let w = contents-within g k v at end start n (sym e ∙ m) in omega arith
+
+  pub holds-same : (start n : ℕ) (r : Bool) → h ≡ Inside.Of start n → r ≡ same (part v start (start + n - start)) d → r ≡ holds v d (contentsAt g k v at end)
+  holds-same start n r m q =
+      let l : start + n - start ≡ n = omega arith in
+      q ∙ ap (λ (x : ℕ). same (part v start x) d) l ∙ sym (ap (holds v d) (sym e ∙ m))
 
 module _ (t s : List ℕ) (p : ℕ) (v : List ℕ) (at end pr : ℕ) (read : pr ≡ presenceAt t p) where
   pub stored-not : (pr ≡ 2 → ⊥) → false ≡ storedDefault t s p v at end
@@ -98,9 +124,9 @@ module _ (k : ℕ) (v : List ℕ) (before i next : ℕ) where
   unfolding neighbours
   order-any h = rw (eq-eqb k 14 h)
 
-  pub order-is : (a b : List ℕ) (r : Bool) → (k ≡ 14 → ⊥) → a ≡ part v before (i - before) → b ≡ part v i (next - i) → r ≡ notAbove a b → r ≡ neighbours k v before i next
+  pub order-is : (r : Bool) → (k ≡ 14 → ⊥) → r ≡ notAbove (part v before (i - before)) (part v i (next - i)) → r ≡ neighbours k v before i next
   unfolding neighbours
-  order-is a b r h e f q = rw (ne-eqb k 14 h) (q ∙ ap₂ notAbove e f)
+  order-is r h q = rw (ne-eqb k 14 h) q
 
 -- ---- contents of a basic kind
 module _ (stop : ℕ) (r x : Bool) (e : r ≡ x) where

@@ -7,11 +7,11 @@ use native.Mathlib.Omega.{arith}
 use borrow.Author.Tests.{not-false, eq-eqb, ne-eqb, eqb-true, eqb-false}
 use lib.ListN.{length}
 use lib.Dec.{eqb}
-use Rattle.octets.specs.Pick.{both, no}
+use Rattle.octets.specs.Pick.{no}
 use Rattle.octets.proofs.Laws.{both-true}
 use Rattle.rows.specs.Paper.{tableLimits}
 use Rattle.groups.proofs.Steps.{not-no}
-use Rattle.rows.specs.Row.{kindAt, typeRowAt, membersAt, modeAt, numberAt}
+use Rattle.rows.specs.Row.{typeRowAt, membersAt, modeAt, numberAt}
 use Rattle.words.specs.inner.Rows.{tableRows, placeAt, MemberRow, membersAfter, memberTypeAt, taggingAt, memberKindAt}
 use Rattle.words.specs.inner.Words.{how, Worded}
 use Rattle.value.specs.Decode.{alternativeFrom, decode}

@@ -12,10 +12,10 @@ use Rattle.octets.specs.Pick.{pick}
 use Rattle.octets.specs.Octets.{octet}
 use Rattle.octets.specs.Text.{within}
 use Rattle.octets.proofs.Laws.{both-true}
-use Rattle.der.specs.Tag.{class, number, context, tagOf, universalText, universal, ownOctet, implicitOctet, wrapperOctet}
+use Rattle.der.specs.Tag.{class, number, context, tagOf, universal, ownOctet, implicitOctet, wrapperOctet}
 use Rattle.der.specs.Kind.{isConstructed}
 use Rattle.der.specs.Contents.{legal}
-use Rattle.der.proofs.Laws.{tag-small}
+use Rattle.der.proofs.Laws.{tag-small, universal-most, universal-first}
 use Rattle.rows.specs.Row.{rowAt, kindAt, typeRowAt, isList, modeAt, numberAt, presenceAt, defaultAt}
 use Rattle.groups.specs.Clauses.{defaultAllowed, defaultLegal}
 use Rattle.table.specs.Types.{untagged, explicit, implicit, taggingOf, memberOf, Ty, Members, typed}
@@ -92,45 +92,31 @@ module _ (u o g : ℕ) (low : u % 32 < 31) where
       go false p true q h = let a = eqb-true (o / 64) 2 q in let b = in-context a in tagged (omega arith) (omega arith)
       go false p false q h = absurd (let b = in-neither (eqb-false (o / 64) 0 p) (eqb-false (o / 64) 2 q) in omega arith)
 
--- ---- first tag octets
-range : (k : ℕ) → (1 ≤ universal k) × (universal k ≤ 24)
-unfolding universal universalText
-range k =
-    low (eqb k 1) 1 _ (omega arith, omega arith)
-    (low (eqb k 2) 2 _ (omega arith, omega arith)
-    (low (eqb k 3) 10 _ (omega arith, omega arith)
-    (low (eqb k 4) 5 _ (omega arith, omega arith) (low (eqb k 5) 6 _ (omega arith, omega arith) (low (eqb k 6) 4 _ (omega arith, omega arith)
-    (low (eqb k 7) 3 _ (omega arith, omega arith)
-    (low (eqb k 8) 12 _ (omega arith, omega arith)
-    (low (eqb k 9) 19 _ (omega arith, omega arith)
-    (low (eqb k 10) 22 _ (omega arith, omega arith)
-    (low (eqb k 11) 24 _ (omega arith, omega arith) (low (eqb k 15) 17 16 (omega arith, omega arith) (omega arith, omega arith))))))))))))
-  where
-    low : (x : Bool) (a b : ℕ) → (1 ≤ a) × (a ≤ 24) → (1 ≤ b) × (b ≤ 24) → (1 ≤ pick x a b) × (pick x a b ≤ 24)
-    low true a b p q = p
-    low false a b p q = q
-
-pub own-opens : (k o : ℕ) → (eqb (ownOctet k) 0 ≡ false) × (sameTag (ownOctet k) o ≡ eqb (tagOf o) (universal k))
+-- ---- first tag octets: their numbers are used, and they stand for a tag
+own-opens : (k o : ℕ) → (ownOctet k % 32 < 31) × (sameTag (ownOctet k) o ≡ eqb (tagOf o) (universal k))
 unfolding ownOctet
 own-opens k o = go (isConstructed k)
   where
-    go : (x : Bool) → (eqb (pick x 32 0 + universal k) 0 ≡ false) × (sameTag (pick x 32 0 + universal k) o ≡ eqb (tagOf o) (universal k))
-    go true = let r =
-        range k in (ne-eqb (32 + universal k) 0 (λ z. omega arith), universal-same (32 + universal k) o (universal k) (omega arith) (omega arith) (omega arith))
-    go false = let r =
-        range k in (ne-eqb (0 + universal k) 0 (λ z. omega arith), universal-same (0 + universal k) o (universal k) (omega arith) (omega arith) (omega arith))
+    go : (x : Bool) → ((pick x 32 0 + universal k) % 32 < 31) × (sameTag (pick x 32 0 + universal k) o ≡ eqb (tagOf o) (universal k))
+    go true = let m = universal-most k in (omega arith, universal-same (32 + universal k) o (universal k) (omega arith) (omega arith) (omega arith))
+    go false = let m = universal-most k in (omega arith, universal-same (0 + universal k) o (universal k) (omega arith) (omega arith) (omega arith))
 
-pub wrapper-opens : (n o : ℕ) → n ≤ 30 → (eqb (wrapperOctet n) 0 ≡ false) × (sameTag (wrapperOctet n) o ≡ eqb (tagOf o) (context n))
+wrapper-opens : (n o : ℕ) → n ≤ 30 → (1 ≤ wrapperOctet n) × (wrapperOctet n % 32 < 31) × (sameTag (wrapperOctet n) o ≡ eqb (tagOf o) (context n))
 unfolding wrapperOctet
-wrapper-opens n o l = (ne-eqb (160 + n) 0 (λ z. omega arith), context-same (160 + n) o (context n) (omega arith) (omega arith) (omega arith))
+wrapper-opens n o l = (omega arith, omega arith, context-same (160 + n) o (context n) (omega arith) (omega arith) (omega arith))
 
-pub implicit-opens : (n k o : ℕ) → n ≤ 30 → (eqb (implicitOctet n k) 0 ≡ false) × (sameTag (implicitOctet n k) o ≡ eqb (tagOf o) (context n))
+implicit-opens : (n k o : ℕ) → n ≤ 30 → (1 ≤ implicitOctet n k) × (implicitOctet n k % 32 < 31) × (sameTag (implicitOctet n k) o ≡ eqb (tagOf o) (context n))
 unfolding implicitOctet
 implicit-opens n k o l = go (isConstructed k)
   where
-    go : (x : Bool) → (eqb (128 + pick x 32 0 + n) 0 ≡ false) × (sameTag (128 + pick x 32 0 + n) o ≡ eqb (tagOf o) (context n))
-    go true = (ne-eqb (128 + 32 + n) 0 (λ z. omega arith), context-same (128 + 32 + n) o (context n) (omega arith) (omega arith) (omega arith))
-    go false = (ne-eqb (128 + 0 + n) 0 (λ z. omega arith), context-same (128 + 0 + n) o (context n) (omega arith) (omega arith) (omega arith))
+    go : (x : Bool) → (1 ≤ 128 + pick x 32 0 + n) × ((128 + pick x 32 0 + n) % 32 < 31) × (sameTag (128 + pick x 32 0 + n) o ≡ eqb (tagOf o) (context n))
+    go true = (omega arith, omega arith, context-same (128 + 32 + n) o (context n) (omega arith) (omega arith) (omega arith))
+    go false = (omega arith, omega arith, context-same (128 + 0 + n) o (context n) (omega arith) (omega arith) (omega arith))
+
+-- the first three kinds have a tag octet
+own-first : (k : ℕ) → 1 ≤ k → k ≤ 3 → 1 ≤ ownOctet k
+unfolding ownOctet
+own-first k h g = let u = universal-first k h g in omega arith
 
 -- ---- a type that is no CHOICE begins with its kind's tag
 typed-begins : (k g : ℕ) (e : Ty) (ms : Members) → (k ≡ 13 → ⊥) → begins (typed k e ms) g ≡ eqb g (universal k)
@@ -153,48 +139,75 @@ module _ (t w : List ℕ) (row : ℕ) (ok : Worded t w) (here : row < length (ta
   abbrev k : ℕ
   k = memberKindAt t row
 
-  -- a default is one of a kind up to 3
-  pub default-small : presenceAt t p ≡ 2 → k ≤ 3
+  -- a default is one of the first three kinds
+  default-kind : presenceAt t p ≡ 2 → (1 ≤ k) × (k ≤ 3)
   unfolding defaultLegal defaultAllowed
-  default-small e =
+  default-kind e =
       let allowed = rw (member, e) at (ok .ready .sound .defaults row here) in
       let d = both-true (within 1 3 (memberKindAt t row)) (legal (memberKindAt t row) (defaultAt t (placeAt t row))) allowed in
       let b = both-true (leb 1 (memberKindAt t row)) (leb (memberKindAt t row) 3) (d .0) in
-      leb-true (memberKindAt t row) 3 (b .1)
+      (leb-true 1 (memberKindAt t row) (b .0), leb-true (memberKindAt t row) 3 (b .1))
 
-  set-here : k ≡ 13 → secondOf t (tableRows t) (ok .m) row ≡ rowAt (ok .m) (typeRowAt t p)
+  pub default-small : presenceAt t p ≡ 2 → k ≤ 3
+  default-small e = default-kind e .1
+
+  set-here : (presenceAt t p ≡ 2 → ⊥) → secondOf t (tableRows t) (ok .m) row ≡ rowAt (ok .m) (typeRowAt t p)
   unfolding secondOf
-  set-here h = rw (member, ne-eqb (presenceAt t p) 2 (λ z. let l = default-small z in omega arith))
+  set-here h = rw (member, ne-eqb (presenceAt t p) 2 h)
+
+  number-low : numberAt t p ≤ 30
+  number-low = ok .ready .number row here member
+
+  by-kind : (o : ℕ) → (k ≡ 13 → ⊥) → begins target (tagOf o) ≡ eqb (tagOf o) (universal k)
+  by-kind o h = ap (λ (x : Ty). begins x (tagOf o)) (ok .ready .sound .step (typeRowAt t p) (ok .ready .target row here member))
+      ∙ typed-begins k (tagOf o) _ _ h
+
+  -- the first tag octet of a type that is no CHOICE tells with which octets the member can begin
+  first-as : (o : ℕ) → (k ≡ 13 → ⊥) → (firstOctet (taggingOf (modeAt t p) (numberAt t p)) k % 32 < 31)
+      × (sameTag (firstOctet (taggingOf (modeAt t p) (numberAt t p)) k) o ≡ pick (eqb (modeAt t p) 0) (begins target (tagOf o)) (eqb (tagOf o) (context (numberAt t p))))
+  unfolding taggingOf firstOctet
+  first-as o h = go (eqb (modeAt t p) 0) (eqb (modeAt t p) 1)
+    where
+      go : (a b : Bool) → (firstOctet (pick a untagged (pick b (explicit (numberAt t p)) (implicit (numberAt t p)))) k % 32 < 31)
+          × (sameTag (firstOctet (pick a untagged (pick b (explicit (numberAt t p)) (implicit (numberAt t p)))) k) o ≡ pick a (begins target (tagOf o)) (eqb (tagOf o) (context (numberAt t p))))
+      go true b = rw (ne-eqb k 13 h) (let w = own-opens k o in (w .0, w .1 ∙ sym (by-kind o h)))
+      go false true = let w = wrapper-opens (numberAt t p) o number-low in (w .1, w .2)
+      go false false = let w = implicit-opens (numberAt t p) k o number-low in (w .1, w .2)
+
+  pub begins-same : (f o : ℕ) → f ≡ firstOctet (taggingOf (modeAt t p) (numberAt t p)) k → (k ≡ 13 → ⊥) → sameTag f o ≡ memberBegins (memberOf t row p) target (tagOf o)
+  unfolding memberBegins memberOf
+  begins-same f o e h = ap (λ (x : ℕ). sameTag x o) e ∙ first-as o h .1 ∙ sym (tagged-as (modeAt t p) (numberAt t p) (tagOf o) (begins target (tagOf o)))
+
+  pub first-usable : (o : ℕ) → o ≡ firstOctet (taggingOf (modeAt t p) (numberAt t p)) k → (k ≡ 13 → ⊥) → number o ≡ 31 → ⊥
+  unfolding number
+  first-usable o e h z = let w = first-as o h .0 in omega arith
 
   module _ (f y o : ℕ) (first : f ≡ firstOctet (taggingOf (modeAt t p) (numberAt t p)) k) (after : y ≡ getD w (2 * row + 1) 0) where
     abbrev g : ℕ
     g = tagOf o
 
-    by-set : k ≡ 13 → bitOf y g ≡ begins target g
+    by-set : (presenceAt t p ≡ 2 → ⊥) → bitOf y g ≡ begins target g
     by-set h = ap (λ (x : ℕ). bitOf x (tagOf o)) (after ∙ ok .filled .second row here ∙ set-here h)
         ∙ ok .ready .sound .masked .says (typeRowAt t p) (ok .ready .target row here member) (tagOf o) (tag-small o)
-
-    by-kind : (k ≡ 13 → ⊥) → begins target g ≡ eqb g (universal k)
-    by-kind h = ap (λ (x : Ty). begins x (tagOf o)) (ok .ready .sound .step (typeRowAt t p) (ok .ready .target row here member))
-        ∙ typed-begins k (tagOf o) _ _ h
 
     opens-as : opensBy (firstOctet (taggingOf (modeAt t p) (numberAt t p)) k) y o ≡ pick (eqb (modeAt t p) 0) (begins target g) (eqb g (context (numberAt t p)))
     unfolding taggingOf firstOctet opensBy
     opens-as = go (eqb (modeAt t p) 0) (eqb (modeAt t p) 1) (eqb k 13) refl
       where
-        low : numberAt t p ≤ 30
-        low = ok .ready .number row here member
+        by-octet : (u : ℕ) (z : Bool) → 1 ≤ u → sameTag u o ≡ z → pick (eqb u 0) (bitOf y (tagOf o)) (sameTag u o) ≡ z
+        by-octet u z h e = rw (ne-eqb u 0 (λ q. omega arith)) e
 
-        by-octet : (u : ℕ) (z : Bool) → (eqb u 0 ≡ false) × (sameTag u o ≡ z) → pick (eqb u 0) (bitOf y (tagOf o)) (sameTag u o) ≡ z
-        by-octet u z e = rw (e .0) (e .1)
+        own : (x : Bool) → eqb (ownOctet k) 0 ≡ x → (k ≡ 13 → ⊥) → pick x (bitOf y (tagOf o)) (sameTag (ownOctet k) o) ≡ begins target (tagOf o)
+        own true q h = by-set (λ z. let d = default-kind z in let u = own-first k (d .0) (d .1) in let e = eqb-true (ownOctet k) 0 q in omega arith)
+        own false q h = own-opens k o .1 ∙ sym (by-kind o h)
 
         go : (a b c : Bool) → eqb k 13 ≡ c
             → opensBy (firstOctet (pick a untagged (pick b (explicit (numberAt t p)) (implicit (numberAt t p)))) k) y o ≡ pick a (begins target (tagOf o))
             (eqb (tagOf o) (context (numberAt t p)))
-        go true b true e = rw e (by-set (eqb-true k 13 e))
-        go true b false e = rw e (by-octet (ownOctet k) (eqb (tagOf o) (universal k)) (own-opens k o) ∙ sym (by-kind (eqb-false k 13 e)))
-        go false true c e = by-octet (wrapperOctet (numberAt t p)) _ (wrapper-opens (numberAt t p) o low)
-        go false false c e = by-octet (implicitOctet (numberAt t p) k) _ (implicit-opens (numberAt t p) k o low)
+        go true b true e = rw e (by-set (λ z. let l = default-small z in let q = eqb-true k 13 e in omega arith))
+        go true b false e = rw e (own (eqb (ownOctet k) 0) refl (eqb-false k 13 e))
+        go false true c e = let w = wrapper-opens (numberAt t p) o number-low in by-octet (wrapperOctet (numberAt t p)) _ (w .0) (w .2)
+        go false false c e = let w = implicit-opens (numberAt t p) k o number-low in by-octet (implicitOctet (numberAt t p) k) _ (w .0) (w .2)
 
     pub begins-as : (r : Bool) → r ≡ opensBy f y o → r ≡ memberBegins (memberOf t row p) target (tagOf o)
     unfolding memberBegins memberOf
@@ -205,7 +218,6 @@ module _ (t w : List ℕ) (row : ℕ) (ok : Worded t w) (here : row < length (ta
     unfolding startsHere
     starts-past h = rw (le-ltb i stop h)
 
-    pub starts-is : (o : ℕ) (r : Bool) → i < stop → o ≡ octet v i → r ≡ memberBegins (memberOf t row p) target (tagOf o)
-        → r ≡ startsHere (memberOf t row p) target v stop i
+    pub starts-is : (r : Bool) → i < stop → r ≡ memberBegins (memberOf t row p) target (tagOf (octet v i)) → r ≡ startsHere (memberOf t row p) target v stop i
     unfolding startsHere
-    starts-is o r h e q = rw (lt-ltb i stop h) (q ∙ ap (λ (x : ℕ). memberBegins (memberOf t row p) target (tagOf x)) e)
+    starts-is r h q = rw (lt-ltb i stop h) q

@@ -8,7 +8,7 @@ ghost use Prim.Native.Nat.{_≤_, _<_, _+_, _-_};
 ghost use lib.ListN.{length};
 ghost use lib.Dec.{leb};
 ghost use Rattle.octets.specs.Pick.{isSome};
-ghost use Rattle.octets.specs.Octets.{part, same};
+ghost use Rattle.octets.specs.Octets.{octet, part, same};
 ghost use Rattle.der.specs.Kind.{generalizedTime};
 ghost use Rattle.der.specs.Tag.{tagOf};
 ghost use Rattle.der.specs.Contents.{legal};
@@ -16,7 +16,7 @@ ghost use Rattle.rows.specs.Row.{kindAt, elementAt, membersAt, isList, modeAt, 
 ghost use Rattle.table.specs.Types.{taggingOf};
 ghost use Rattle.table.specs.Begins.{memberBegins};
 ghost use Rattle.words.specs.inner.Rows.{tableRows, MemberRow, TypeRow, placeAt, typeAt, membersAfter, memberAt, taggingAt, memberTypeAt, memberKindAt};
-ghost use Rattle.words.specs.inner.Words.{how, Worded};
+ghost use Rattle.words.specs.inner.Words.{firstOctet, how, Worded};
 ghost use Rattle.value.specs.Decode.{tagOctet, startsHere, alternativeFrom, decode, storedValue};
 ghost use Rattle.value.specs.Paper.{valueLimits};
 ghost use Rattle.value.specs.Check.{report, valueFits, storage, valueReport};
@@ -144,12 +144,13 @@ fn member_starts(t: &[u8], w: &[u64; 256], v: &[u8], row: usize, stop: usize, i:
     requires worded { ⌜ Worded (now t) (now w) ⌝ }
     requires here { ⌜ row < length (tableRows (now t)) ⌝ }
     requires member { ⌜ MemberRow (now t) row ⌝ }
+    requires inside { ⌜ stop ≤ length (now v) ⌝ }
     ensures { λ r. ⌜ r ≡ startsHere (memberAt (now (t .entry)) row) (memberTypeAt (now (t .entry)) row) (now (v .entry)) stop i ⌝ }
 {
     if stop <= i {
         return false;
     }
-    begins_with(t, w, row, octets::octet(v, i))
+    begins_with(t, w, row, v[i])
 }
 
 // ---- members that are not there, and defaults
@@ -185,10 +186,12 @@ fn is_default(t: &[u8], w: &[u64; 256], row: usize, v: &[u8], start: usize, n: u
     requires worded { ⌜ Worded (now t) (now w) ⌝ }
     requires here { ⌜ row < length (tableRows (now t)) ⌝ }
     requires member { ⌜ MemberRow (now t) row ⌝ }
+    requires inside { ⌜ start + n ≤ length (now v) ⌝ }
     ensures { λ r. ⌜ r ≡ work.isDefaultAt (now (t .entry)) (placeAt (now (t .entry)) row) (now (v .entry)) start n ⌝ }
 {
     if words::presence(t, w, row) == 2 {
-        return equals_default(t, w, row, octets::part(v, start, n));
+        let stop = start + n;
+        return equals_default(t, w, row, &v[start..stop]);
     }
     false
 }
@@ -196,6 +199,8 @@ fn is_default(t: &[u8], w: &[u64; 256], row: usize, v: &[u8], start: usize, n: u
 // ---- values of one header
 // Contents of a basic kind, from start up to stop.
 fn check_basic(kind: u8, v: &[u8], start: usize, stop: usize) -> Checked
+    requires ordered { ⌜ start ≤ stop ⌝ }
+    requires inside { ⌜ stop ≤ length (now v) ⌝ }
     ensures { λ r. ⌜ r ≡ work.upTo stop (legal kind (part (now (v .entry)) start (stop - start))) ⌝ }
 {
     if der::legal(kind, v, start, stop) {
@@ -217,26 +222,30 @@ fn check_leaf(
     requires worded { ⌜ Worded (now t) (now w) ⌝ }
     requires here { ⌜ row < length (tableRows (now t)) ⌝ }
     requires basic { ⌜ kindAt (now t) (placeAt (now t) row) ≤ generalizedTime ⌝ }
+    requires inside { ⌜ end ≤ length (now v) ⌝ }
     ensures { λ r. ⌜ work.Answers (typeAt (now (t .entry)) row) (kindAt (now (t .entry)) (placeAt (now (t .entry)) row)) tag (now (v .entry)) at end r ⌝ }
 {
     let kind = words::kind(t, w, row);
-    let Inside::Of(start, n) = der::open(tag, v, at, end) else {
+    let Inside::Of(start, n) = der::open_within(tag, v, at, end) else {
         return Checked::Bad;
     };
     check_basic(kind, v, start, start + n)
 }
 
-// The plain member of a row, at a place where it is there: one header, contents of the kind, and not its default.
+// The plain member of a row, at a place where its tag octet was seen: one header, contents of the kind, and not its default.
 fn check_plain(t: &[u8], w: &[u64; 256], v: &[u8], row: usize, at: usize, end: usize) -> Checked
     requires worded { ⌜ Worded (now t) (now w) ⌝ }
     requires here { ⌜ row < length (tableRows (now t)) ⌝ }
     requires member { ⌜ MemberRow (now t) row ⌝ }
     requires plain { ⌜ how (memberKindAt (now t) row) (modeAt (now t) (placeAt (now t) row)) ≡ 0 ⌝ }
+    requires inside { ⌜ end ≤ length (now v) ⌝ }
+    requires before { ⌜ at < end ⌝ }
+    requires seen { ⌜ octet (now v) at ≡ firstOctet (taggingAt (now t) row) (memberKindAt (now t) row) ⌝ }
     ensures { λ r. ⌜ r
         ≡ work.plainChecked (now (t .entry)) (placeAt (now (t .entry)) row) (memberKindAt (now (t .entry)) row) (taggingAt (now (t .entry)) row)
         (now (v .entry)) at end ⌝ }
 {
-    let Inside::Of(start, n) = der::open(words::first(t, w, row), v, at, end) else {
+    let Inside::Of(start, n) = der::open_seen(v, at, end) else {
         return Checked::Bad;
     };
     if is_default(t, w, row, v, start, n) {
@@ -258,13 +267,14 @@ fn check_plain_member(
     requires here { ⌜ row < length (tableRows (now t)) ⌝ }
     requires member { ⌜ MemberRow (now t) row ⌝ }
     requires plain { ⌜ how (memberKindAt (now t) row) (modeAt (now t) (placeAt (now t) row)) ≡ 0 ⌝ }
+    requires inside { ⌜ stop ≤ length (now v) ⌝ }
     ensures { λ r. ⌜ r ≡ work.memberChecked (memberAt (now (t .entry)) row) (memberTypeAt (now (t .entry)) row) (now (v .entry)) stop i ⌝ }
 {
     if stop <= i {
         return absent(t, w, row, i);
     }
     let first = words::first(t, w, row);
-    let o = octets::wide(octets::octet(v, i));
+    let o = octets::wide(v[i]);
     if o == first {
         return check_plain(t, w, v, row, i, stop);
     }
@@ -281,12 +291,13 @@ fn wrapped_contents(t: &[u8], w: &[u64; 256], v: &[u8], row: usize, at: usize, e
     requires here { ⌜ row < length (tableRows (now t)) ⌝ }
     requires member { ⌜ MemberRow (now t) row ⌝ }
     requires explicit { ⌜ modeAt (now t) (placeAt (now t) row) ≡ 1 ⌝ }
+    requires inside { ⌜ end ≤ length (now v) ⌝ }
     ensures { λ r. ⌜ r ≡ work.contentsAt (taggingAt (now (t .entry)) row) (memberKindAt (now (t .entry)) row) (now (v .entry)) at end ⌝ }
 {
-    let Inside::Of(start, n) = der::open(words::first(t, w, row), v, at, end) else {
+    let Inside::Of(start, n) = der::open_within(words::first(t, w, row), v, at, end) else {
         return Inside::Misfit;
     };
-    der::open(
+    der::open_within(
         der::own_octet(words::kind_of_type(t, w, row)),
         v,
         start,
@@ -301,6 +312,7 @@ fn wrapped_default(t: &[u8], w: &[u64; 256], v: &[u8], row: usize, at: usize, en
     requires member { ⌜ MemberRow (now t) row ⌝ }
     requires explicit { ⌜ modeAt (now t) (placeAt (now t) row) ≡ 1 ⌝ }
     requires stored { ⌜ presenceAt (now t) (placeAt (now t) row) ≡ 2 ⌝ }
+    requires inside { ⌜ end ≤ length (now v) ⌝ }
     ensures { λ r. ⌜ r
         ≡ work.holds (now (v .entry)) (defaultAt (now (t .entry)) (placeAt (now (t .entry)) row))
         (work.contentsAt (taggingAt (now (t .entry)) row) (memberKindAt (now (t .entry)) row) (now (v .entry)) at end) ⌝ }
@@ -308,7 +320,8 @@ fn wrapped_default(t: &[u8], w: &[u64; 256], v: &[u8], row: usize, at: usize, en
     let Inside::Of(start, n) = wrapped_contents(t, w, v, row, at, end) else {
         return false;
     };
-    equals_default(t, w, row, octets::part(v, start, n))
+    let stop = start + n;
+    equals_default(t, w, row, &v[start..stop])
 }
 
 // Whether the default of the member of a row, which is not plain, stands at a place.
@@ -317,6 +330,7 @@ fn stored_default(t: &[u8], w: &[u64; 256], v: &[u8], row: usize, at: usize, end
     requires here { ⌜ row < length (tableRows (now t)) ⌝ }
     requires member { ⌜ MemberRow (now t) row ⌝ }
     requires other { ⌜ (how (memberKindAt (now t) row) (modeAt (now t) (placeAt (now t) row)) ≡ 0 → ⊥) ⌝ }
+    requires inside { ⌜ end ≤ length (now v) ⌝ }
     ensures { λ r. ⌜ r ≡ work.storedDefault (now (t .entry)) (tableRows (now (t .entry))) (placeAt (now (t .entry)) row) (now (v .entry)) at end ⌝ }
 {
     if words::presence(t, w, row) != 2 {
@@ -327,17 +341,15 @@ fn stored_default(t: &[u8], w: &[u64; 256], v: &[u8], row: usize, at: usize, end
 
 // Whether neighbours in a list are in order: those of a SET OF, each not above the next.
 fn in_order(kind: u8, v: &[u8], before: usize, i: usize, next: usize) -> bool
-    requires { ⌜ before ≤ i ⌝ }
-    requires { ⌜ i ≤ next ⌝ }
+    requires low { ⌜ before ≤ i ⌝ }
+    requires high { ⌜ i ≤ next ⌝ }
+    requires inside { ⌜ next ≤ length (now v) ⌝ }
     ensures { λ r. ⌜ r ≡ work.neighbours kind (now (v .entry)) before i next ⌝ }
 {
     if kind == Kind::SEQUENCE_OF {
         return true;
     }
-    der::not_above(
-        octets::part(v, before, i - before),
-        octets::part(v, i, next - i),
-    )
+    der::not_above(&v[before..i], &v[i..next])
 }
 
 // The first of n alternatives that can begin with the octet at a place; n where none can.
@@ -353,6 +365,7 @@ fn first_alternative(
     requires worded { ⌜ Worded (now t) (now w) ⌝ }
     requires here { ⌜ row < length (tableRows (now t)) ⌝ }
     requires count { ⌜ n ≤ membersAt (now t) (placeAt (now t) row) ⌝ }
+    requires inside { ⌜ end ≤ length (now v) ⌝ }
     ensures { λ r. ⌜ r ≡ work.first (work.startsOf (tableLimits .chain) (now (t .entry)) (tableRows (now (t .entry))) row (now (v .entry)) end at) n 0 ⌝ }
 {
     let mut j = 0;
@@ -382,6 +395,7 @@ fn is_nested(t: &[u8], w: &[u64; 256], row: usize) -> bool
 fn choose(t: &[u8], w: &[u64; 256], v: &[u8], row: usize, at: usize, end: usize) -> Alternative
     requires worded { ⌜ Worded (now t) (now w) ⌝ }
     requires here { ⌜ row < length (tableRows (now t)) ⌝ }
+    requires inside { ⌜ end ≤ length (now v) ⌝ }
     ensures { λ r. ⌜ work.Chooses (now (t .entry)) (now (v .entry)) row at end r ⌝ }
 {
     let n = words::members(t, w, row);
@@ -393,9 +407,17 @@ fn choose(t: &[u8], w: &[u64; 256], v: &[u8], row: usize, at: usize, end: usize)
 }
 
 // The same; where it is a CHOICE in no wrapper, the alternative of that one, in turn.
-fn choose_inner(t: &[u8], w: &[u64; 256], v: &[u8], row: usize, at: usize, end: usize) -> Alternative
+fn choose_inner(
+    t: &[u8],
+    w: &[u64; 256],
+    v: &[u8],
+    row: usize,
+    at: usize,
+    end: usize,
+) -> Alternative
     requires worded { ⌜ Worded (now t) (now w) ⌝ }
     requires here { ⌜ row < length (tableRows (now t)) ⌝ }
+    requires inside { ⌜ end ≤ length (now v) ⌝ }
     ensures { λ r. ⌜ work.Chooses (now (t .entry)) (now (v .entry)) row at end r ⌝ }
 {
     let mut choice = row;
@@ -435,6 +457,7 @@ fn check_leaves(
     requires list { ⌜ isList (kindAt (now t) (placeAt (now t) row)) ≡ true ⌝ }
     requires basic { ⌜ kindAt (now t) (placeAt (now t) (elementAt (now t) (placeAt (now t) row))) ≤ generalizedTime ⌝ }
     requires ordered { ⌜ start ≤ stop ⌝ }
+    requires inside { ⌜ stop ≤ length (now v) ⌝ }
     ensures { λ r. ⌜ r
         ≡ work.elementsChecked (kindAt (now (t .entry)) (placeAt (now (t .entry)) row))
         (typeAt (now (t .entry)) (elementAt (now (t .entry)) (placeAt (now (t .entry)) row))) (now (v .entry)) stop start ⌝ }
@@ -471,6 +494,7 @@ fn check_elements(
     requires here { ⌜ row < length (tableRows (now t)) ⌝ }
     requires list { ⌜ isList (kindAt (now t) (placeAt (now t) row)) ≡ true ⌝ }
     requires ordered { ⌜ start ≤ stop ⌝ }
+    requires inside { ⌜ stop ≤ length (now v) ⌝ }
     ensures { λ r. ⌜ r
         ≡ work.elementsChecked (kindAt (now (t .entry)) (placeAt (now (t .entry)) row))
         (typeAt (now (t .entry)) (elementAt (now (t .entry)) (placeAt (now (t .entry)) row))) (now (v .entry)) stop start ⌝ }
@@ -507,6 +531,7 @@ fn check_fields(
 ) -> Checked
     requires worded { ⌜ Worded (now t) (now w) ⌝ }
     requires here { ⌜ row < length (tableRows (now t)) ⌝ }
+    requires inside { ⌜ stop ≤ length (now v) ⌝ }
     ensures { λ r. ⌜ r ≡ work.fieldsChecked (membersAfter (now (t .entry)) row) (now (v .entry)) stop start ⌝ }
 {
     let n = words::members(t, w, row);
@@ -530,6 +555,7 @@ fn check_member(t: &[u8], w: &[u64; 256], v: &[u8], row: usize, i: usize, stop: 
     requires worded { ⌜ Worded (now t) (now w) ⌝ }
     requires here { ⌜ row < length (tableRows (now t)) ⌝ }
     requires member { ⌜ MemberRow (now t) row ⌝ }
+    requires inside { ⌜ stop ≤ length (now v) ⌝ }
     ensures { λ r. ⌜ r ≡ work.memberChecked (memberAt (now (t .entry)) row) (memberTypeAt (now (t .entry)) row) (now (v .entry)) stop i ⌝ }
 {
     if words::tagged(t, w, row) == 0 {
@@ -549,6 +575,7 @@ fn check_tagged(t: &[u8], w: &[u64; 256], v: &[u8], row: usize, at: usize, end: 
     requires worded { ⌜ Worded (now t) (now w) ⌝ }
     requires here { ⌜ row < length (tableRows (now t)) ⌝ }
     requires member { ⌜ MemberRow (now t) row ⌝ }
+    requires inside { ⌜ end ≤ length (now v) ⌝ }
     ensures { λ r. ⌜ r ≡ work.checked (decode (memberTypeAt (now (t .entry)) row) (taggingAt (now (t .entry)) row) (now (v .entry)) at end) ⌝ }
 {
     let target = words::type_row(t, w, row);
@@ -572,9 +599,10 @@ fn check_wrapped(
     requires worded { ⌜ Worded (now t) (now w) ⌝ }
     requires here { ⌜ row < length (tableRows (now t)) ⌝ }
     requires typed { ⌜ TypeRow (now t) row ⌝ }
+    requires inside { ⌜ end ≤ length (now v) ⌝ }
     ensures { λ r. ⌜ work.Wraps (typeAt (now (t .entry)) row) tag (now (v .entry)) at end r ⌝ }
 {
-    let Inside::Of(start, n) = der::open(tag, v, at, end) else {
+    let Inside::Of(start, n) = der::open_within(tag, v, at, end) else {
         return Checked::Bad;
     };
     let stop = start + n;
@@ -592,6 +620,7 @@ fn check_wrapped(
 fn check_choice(t: &[u8], w: &[u64; 256], v: &[u8], row: usize, at: usize, end: usize) -> Checked
     requires worded { ⌜ Worded (now t) (now w) ⌝ }
     requires here { ⌜ row < length (tableRows (now t)) ⌝ }
+    requires inside { ⌜ end ≤ length (now v) ⌝ }
     ensures { λ r. ⌜ r ≡ work.checked (alternativeFrom (membersAfter (now (t .entry)) row) (now (v .entry)) at end) ⌝ }
 {
     let Alternative::Of(member) = choose_inner(t, w, v, row, at, end) else {
@@ -612,13 +641,14 @@ fn check(
 ) -> Checked
     requires worded { ⌜ Worded (now t) (now w) ⌝ }
     requires here { ⌜ row < length (tableRows (now t)) ⌝ }
+    requires inside { ⌜ end ≤ length (now v) ⌝ }
     ensures { λ r. ⌜ work.Answers (typeAt (now (t .entry)) row) (kindAt (now (t .entry)) (placeAt (now (t .entry)) row)) tag (now (v .entry)) at end r ⌝ }
 {
     let kind = words::kind(t, w, row);
     if kind == Kind::CHOICE {
         return check_choice(t, w, v, row, at, end);
     }
-    let Inside::Of(start, n) = der::open(tag, v, at, end) else {
+    let Inside::Of(start, n) = der::open_within(tag, v, at, end) else {
         return Checked::Bad;
     };
     let stop = start + n;

@@ -1,7 +1,7 @@
 use Rattle.octets.proofs.Laws.{every-done, every-bad, every-more}
 use Rattle.der.specs.Contents.{isPrintable, legalPrintable}
 use Rattle.octets.specs.Octets.{every}
-use mathlib.Core.Path.{_≡_, refl}
+use mathlib.Core.Path.{_≡_}
 use Prim.Native.Nat.{_-_}
 use lib.ListN.{length, drop}
 use borrow.Author.Needs.{needs}
@@ -21,7 +21,8 @@ legal-printable-spec =
     (tie.spec
     Inv-loop
     μ-loop
-    (λ c. refl)  -- loop-holds
+    (λ c κs. search needs)  -- skip-printable-requires
+    (λ c. search needs)  -- loop-holds
     (λ c. search needs)  -- shared-slice-read-is-printable
     (λ c κs. search needs)  -- is-printable-requires
     (λ c. search every-bad)  -- returns

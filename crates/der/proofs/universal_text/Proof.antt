@@ -12,4 +12,6 @@ universal-text-spec =
     (λ c. search tests)  -- returns-3
     (λ c. search tests)  -- returns-4
     (λ c. search tests)  -- returns-5
-    (λ c. search tests))  -- returns-6
+    (λ c. search tests)  -- returns-6
+    (λ c. search tests)  -- returns-7
+    (λ c. search tests))  -- returns-8

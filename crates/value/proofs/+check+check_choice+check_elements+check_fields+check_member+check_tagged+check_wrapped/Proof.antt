@@ -1,14 +1,14 @@
 -- The check: each need is answered by one lemma.
 use Prim.Native.Nat.{_*_, _+_, _-_, _<_, ℕ}
-use Rattle.value.proofs.LeafSteps.{inside-fits}
-use Rattle.value.proofs.MemberSteps.{row-fits, member-fits, count-le, Fielded, field-falls, field-here, field-member, fields-again, fields-bad}
+use Rattle.value.proofs.LeafSteps.{inside-fits, inside-ends}
+use Rattle.value.proofs.MemberSteps.{row-fits, member-fits, Fielded, field-falls, field-here, field-member, fields-again, fields-bad}
 use Rattle.value.proofs.MemberSteps.{fields-done, fields-short, fields-start, member-absent, member-default, member-is}
 use Rattle.value.proofs.ModeSteps.{is-plain, is-other}
 use Rattle.value.proofs.CheckSteps.{falls-body, falls-tagged, falls-wrapped, falls-value, falls-inner, list-row, answer-choice, answer-misfit}
 use Rattle.value.proofs.CheckSteps.{answer-fields, answer-elements, answer-basic, wraps-misfit, wraps-inner, wraps-surplus, wraps-filled, target-here}
 use Rattle.value.proofs.CheckSteps.{target-typed, tagged-explicit, tagged-other}
 use Rattle.value.proofs.NestedSteps.{missing-is, row-here, row-member, row-falls, row-is}
-use Rattle.value.proofs.ElementSteps.{Listed, leaves-small, element-here, element-typed, element-falls, elements-bad, element-after, element-less}
+use Rattle.value.proofs.ElementSteps.{Listed, leaves-small, element-here, element-typed, element-falls, elements-bad, element-after, element-ends, element-less}
 use Rattle.value.proofs.ElementSteps.{elements-disorder}
 use Rattle.value.proofs.ElementSteps.{elements-again, elements-done, elements-start, listed-low}
 use borrow.Author.Needs.{needs}
@@ -39,7 +39,7 @@ use Rattle.value.proofs.+check+check_choice+check_elements+check_fields
 use Rattle.value.proofs.check_wrapped.Reads as check-wrapped
 use Rattle.value.proofs.check_wrapped.Kinds as check-wrapped-kinds
 use Rattle.value.proofs.+check+check_choice+check_elements+check_fields+check_member+check_tagged+check_wrapped.Lts-check_wrapped as check-wrapped-lts
-use Rattle.der.proofs.open.Reads as open-reads
+use Rattle.der.proofs.open_within.Reads as open-within-reads
 use Rattle.rows.proofs.is_list.Reads as is-list-reads
 use Rattle.value.proofs.absent.Reads as absent-reads
 use Rattle.value.proofs.check_basic.Reads as check-basic-reads
@@ -141,8 +141,8 @@ check-claims t = (
   kind-reads.Learnt,
   check-choice-below t,
   check-choice.Post,
-  open-reads.Asked,
-  open-reads.Learnt,
+  open-within-reads.Asked,
+  open-within-reads.Learnt,
   check-fields-below t,
   check-fields.Post,
   is-list-reads.Asked,
@@ -209,47 +209,47 @@ check-tagged-claims t = (
 )
 
 abbrev check-wrapped-claims : ℕ → check-wrapped-lts.Claims
-check-wrapped-claims t = (open-reads.Asked, open-reads.Learnt, own-first-reads.Asked, own-first-reads.Learnt, check-below t, check.Post)
+check-wrapped-claims t = (open-within-reads.Asked, open-within-reads.Learnt, own-first-reads.Asked, own-first-reads.Learnt, check-below t, check.Post)
 
 pub +check+check-choice+check-elements+check-fields+check-member+check-tagged+check-wrapped-spec : {M : Type 1} → statement M
 +check+check-choice+check-elements+check-fields+check-member+check-tagged+check-wrapped-spec =
     close μ-check μ-check-choice μ-check-elements μ-check-fields μ-check-member μ-check-tagged μ-check-wrapped
     (λ t. check-lts.spec (check-claims t) (check-at t) check.Post
     (λ c κs. search needs)  -- kind-requires
-    (λ c κs. (search falls-body, (search needs, search needs)))  -- check-choice-requires
+    (λ c κs. (search falls-body, (search needs, (search needs, search needs))))  -- check-choice-requires
     (λ c. search answer-choice)  -- returns
-    (λ c κs. search needs)  -- open-requires
+    (λ c κs. search needs)  -- open-within-requires
     (λ c. search needs)  -- enum-known-start
     (λ c. search needs)  -- enum-told
     (λ c. search answer-misfit)  -- returns-2
     (λ c. record { fits = search inside-fits })  -- add-stop
-    (λ c κs. (search falls-body, (search needs, search needs)))  -- check-fields-requires
+    (λ c κs. (search falls-body, (search needs, (search needs, search inside-ends))))  -- check-fields-requires
     (λ c. search answer-fields)  -- returns-3
     (λ c κs. search needs)  -- is-list-requires
-    (λ c κs. (search falls-body, (search needs, (search needs, (search list-row, search needs)))))  -- check-elements-requires
+    (λ c κs. (search falls-body, (search needs, (search needs, (search list-row, (search needs, search inside-ends))))))  -- check-elements-requires
     (λ c. search answer-elements)  -- returns-4
-    (λ c κs. search needs)  -- check-basic-requires
+    (λ c κs. (search needs, search inside-ends))  -- check-basic-requires
     (λ c. search answer-basic))  -- returns-5
     (λ t. check-choice-lts.spec (check-choice-claims t) (check-choice-at t) check-choice.Post
     (λ c κs. search needs)  -- choose-inner-requires
     (λ c. search needs)  -- enum-known-member
     (λ c. search needs)  -- enum-told
     (λ c. search missing-is)  -- returns
-    (λ c κs. (search row-falls, (search needs, (search row-here, search row-member))))  -- check-tagged-requires
+    (λ c κs. (search row-falls, (search needs, (search row-here, (search row-member, search needs)))))  -- check-tagged-requires
     (λ c. search row-is))  -- returns-2
     (λ t. check-elements-lts.spec (check-elements-claims t) (check-elements-at t) check-elements.Post check-elements-Inv-loop check-elements-μ-loop
     (λ c κs. search needs)  -- has-leaves-requires
-    (λ c κs. (search needs, (search needs, (search needs, (search leaves-small, search needs)))))  -- check-leaves-requires
+    (λ c κs. (search needs, (search needs, (search needs, (search leaves-small, (search needs, search needs))))))  -- check-leaves-requires
     (λ c. search needs)  -- returns
     (λ c κs. search needs)  -- kind-requires
     (λ c κs. search needs)  -- element-requires
     (λ c κs. (search needs, (search element-here, search element-typed)))  -- own-first-requires
     (λ c. search elements-start)  -- loop-holds
-    (λ c κs. (search element-falls, (search needs, search element-here)))  -- check-requires
+    (λ c κs. (search element-falls, (search needs, (search element-here, search needs))))  -- check-requires
     (λ c. search needs)  -- enum-known-next
     (λ c. search needs)  -- enum-told
     (λ c. search elements-bad)  -- returns-2
-    (λ c κs. (search listed-low, search element-after))  -- in-order-requires
+    (λ c κs. (search listed-low, (search element-after, search element-ends)))  -- in-order-requires
     (λ c. search elements-disorder)  -- returns-3
     (λ c. search element-less)  -- loop-less
     (λ c. search elements-again)  -- loop-again
@@ -259,7 +259,7 @@ pub +check+check-choice+check-elements+check-fields+check-member+check-tagged+ch
     (λ c. search fields-start)  -- loop-holds
     (λ c. record { fits = search row-fits })  -- add-check-member
     (λ c. record { fits = search member-fits })  -- add-check-member-2
-    (λ c κs. (search field-falls, (search needs, (search field-here, search field-member))))  -- check-member-requires
+    (λ c κs. (search field-falls, (search needs, (search field-here, (search field-member, search needs)))))  -- check-member-requires
     (λ c. search needs)  -- enum-known-next
     (λ c. search needs)  -- enum-told
     (λ c. search fields-bad)  -- returns
@@ -270,31 +270,31 @@ pub +check+check-choice+check-elements+check-fields+check-member+check-tagged+ch
     (λ c. search fields-done))  -- returns-3
     (λ t. check-member-lts.spec (check-member-claims t) (check-member-at t) check-member.Post
     (λ c κs. search needs)  -- tagged-requires
-    (λ c κs. (search needs, (search needs, (search needs, search is-plain))))  -- check-plain-member-requires
+    (λ c κs. (search needs, (search needs, (search needs, (search is-plain, search needs)))))  -- check-plain-member-requires
     (λ c. search needs)  -- returns
     (λ c κs. search needs)  -- member-starts-requires
     (λ c κs. search needs)  -- absent-requires
     (λ c. search member-absent)  -- returns-2
-    (λ c κs. (search needs, (search needs, (search needs, search is-other))))  -- stored-default-requires
+    (λ c κs. (search needs, (search needs, (search needs, (search is-other, search needs)))))  -- stored-default-requires
     (λ c. search member-default)  -- returns-3
-    (λ c κs. (search falls-tagged, (search needs, (search needs, search needs))))  -- check-tagged-requires
+    (λ c κs. (search falls-tagged, (search needs, (search needs, (search needs, search needs)))))  -- check-tagged-requires
     (λ c. search member-is))  -- returns-4
     (λ t. check-tagged-lts.spec (check-tagged-claims t) (check-tagged-at t) check-tagged.Post
     (λ c κs. search needs)  -- type-row-requires
     (λ c κs. search needs)  -- first-requires
     (λ c κs. search needs)  -- tagged-requires
-    (λ c κs. (search falls-wrapped, (search needs, (search target-here, search target-typed))))  -- check-wrapped-requires
+    (λ c κs. (search falls-wrapped, (search needs, (search target-here, (search target-typed, search needs)))))  -- check-wrapped-requires
     (λ c. search tagged-explicit)  -- returns
-    (λ c κs. (search falls-value, (search needs, search target-here)))  -- check-requires
+    (λ c κs. (search falls-value, (search needs, (search target-here, search needs))))  -- check-requires
     (λ c. search tagged-other))  -- returns-2
     (λ t. check-wrapped-lts.spec (check-wrapped-claims t) (check-wrapped-at t) check-wrapped.Post
-    (λ c κs. search needs)  -- open-requires
+    (λ c κs. search needs)  -- open-within-requires
     (λ c. search needs)  -- enum-known-start
     (λ c. search needs)  -- enum-told
     (λ c. search wraps-misfit)  -- returns
     (λ c. record { fits = search inside-fits })  -- add-stop
     (λ c κs. search needs)  -- own-first-requires
-    (λ c κs. (search falls-inner, (search needs, search needs)))  -- check-requires
+    (λ c κs. (search falls-inner, (search needs, (search needs, search inside-ends))))  -- check-requires
     (λ c. search needs)  -- enum-known-next
     (λ c. search needs)  -- enum-told-2
     (λ c. search wraps-inner)  -- returns-2

@@ -1,7 +1,7 @@
 use Prim.Native.Nat.{_-_}
 use Rattle.rows.specs.Paper.{tableLimits}
 use Rattle.words.specs.inner.Rows.{tableRows}
-use Rattle.value.proofs.ElementSteps.{Listed, element-here, element-typed, element-small, elements-bad, element-after, element-less}
+use Rattle.value.proofs.ElementSteps.{Listed, element-here, element-typed, element-small, elements-bad, element-after, element-ends, element-less}
 use Rattle.value.proofs.ElementSteps.{elements-disorder, elements-again, elements-done, elements-start, listed-low}
 use borrow.Author.Needs.{needs}
 use Rattle.value.proofs.check_leaves.Statement.{statement}
@@ -23,11 +23,11 @@ check-leaves-spec =
     (λ c κs. search needs)  -- element-requires
     (λ c κs. (search needs, (search element-here, search element-typed)))  -- own-first-requires
     (λ c. search elements-start)  -- loop-holds
-    (λ c κs. (search needs, (search element-here, search element-small)))  -- check-leaf-requires
+    (λ c κs. (search needs, (search element-here, (search element-small, search needs))))  -- check-leaf-requires
     (λ c. search needs)  -- enum-known-next
     (λ c. search needs)  -- enum-told
     (λ c. search elements-bad)  -- returns
-    (λ c κs. (search listed-low, search element-after))  -- in-order-requires
+    (λ c κs. (search listed-low, (search element-after, search element-ends)))  -- in-order-requires
     (λ c. search elements-disorder)  -- returns-2
     (λ c. search element-less)  -- loop-less
     (λ c. search elements-again)  -- loop-again

@@ -9,7 +9,7 @@ choose-spec =
     tie.close
     (tie.spec
     (λ c κs. search needs)  -- members-requires
-    (λ c κs. (search needs, (search needs, search count-le)))  -- first-alternative-requires
+    (λ c κs. (search needs, (search needs, (search count-le, search needs))))  -- first-alternative-requires
     (λ c. search choose-none)  -- returns
     (λ c. record { fits = search row-fits })  -- add-of
     (λ c. record { fits = search member-fits })  -- add-of-2

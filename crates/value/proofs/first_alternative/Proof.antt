@@ -27,7 +27,7 @@ first-alternative-spec =
     (λ c. (search needs, first-start _ _))  -- loop-holds
     (λ c. record { fits = search row-fits })  -- add-member-starts
     (λ c. record { fits = search alternative-fits })  -- add-member-starts-2
-    (λ c κs. (search needs, (search alternative-here, search alternative-member)))  -- member-starts-requires
+    (λ c κs. (search needs, (search alternative-here, (search alternative-member, search needs))))  -- member-starts-requires
     (λ c. search (first-found, starts-here))  -- returns
     (λ c. search needs)  -- add-j
     (λ c. search needs)  -- loop-less

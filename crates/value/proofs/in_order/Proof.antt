@@ -8,9 +8,11 @@ in-order-spec =
     tie.close
     (tie.spec
     (λ c. search order-any)  -- returns
-    (λ c. search needs)  -- sub-part
-    (λ c κs. search needs)  -- part-requires
-    (λ c. search needs)  -- sub-part-2
-    (λ c κs. search needs)  -- part-requires-2
+    (λ c. search needs)  -- sub-not-above
+    (λ c. search needs)  -- part-not-above-start
+    (λ c. search needs)  -- part-not-above-end
+    (λ c. search needs)  -- sub-not-above-2
+    (λ c. search needs)  -- part-not-above-start-2
+    (λ c. search needs)  -- part-not-above-end-2
     (λ c κs. search needs)  -- not-above-requires
     (λ c. search order-is))  -- returns-2

@@ -8,7 +8,7 @@ is-stored-spec =
     tie.close
     (tie.spec
     (λ c κs. (search needs, (search root-here, search root-typed)))  -- own-first-requires
-    (λ c κs. (search needs, search root-here))  -- check-requires
+    (λ c κs. (search needs, (search root-here, search needs)))  -- check-requires
     (λ c. search needs)  -- enum-known-next
     (λ c. search needs)  -- enum-told
     (λ c. search stored-bad)  -- returns

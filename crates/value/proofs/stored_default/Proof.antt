@@ -9,5 +9,5 @@ stored-default-spec =
     tie.close (tie.spec
     (λ c κs. search needs)  -- presence-requires
     (λ c. search stored-not)  -- returns
-    (λ c κs. (search needs, (search needs, (search needs, (search explicit-is, search presence-is)))))  -- wrapped-default-requires
+    (λ c κs. (search needs, (search needs, (search needs, (search explicit-is, (search presence-is, search needs))))))  -- wrapped-default-requires
     (λ c. search stored-told))  -- returns-2
