@@ -23,7 +23,7 @@ use Rattle.reference.specs.Reference.{Id, givenIds}
 use Rattle.reference.specs.Allowed.{allowed}
 use Rattle.reference.specs.Named.{named}
 use Rattle.reference.specs.Numbers.{Component}
-use Rattle.filter.specs.Filter.{Filter}
+use Rattle.filter.specs.Filter.{Item, Filter}
 use Rattle.filter.specs.Parse.{parse}
 use Rattle.trail.specs.Trail.{Trail, trail, hasMisfit, reached}
 use Rattle.trail.proofs.Agreeing.{trail-named, laid-reached}
@@ -142,7 +142,7 @@ refuses-listing t v given r defaults room l e =
 
 -- ---- a filter
 module _ (t v : List ℕ) (budget : ℕ) where
-  abbrev ByFilter : Bool → Bool → Bool → Option Filter → Report → Type 0
+  abbrev ByFilter : Bool → Bool → Bool → Option (Filter Item) → Report → Type 0
   ByFilter fits ok stored p r = AskRefusals (no fits) (no ok) (no (isSome p)) (no stored) (ofSome (over t v budget) p) (ofSome (misfits t v) p) r
 
   outcome-by : (o : Outcome) → AskRefusals false false false false (no (enough budget o)) (isMisfit o) (budgeted budget o)
@@ -158,7 +158,7 @@ module _ (t v : List ℕ) (budget : ℕ) where
       go true = record { number = refl; truth = refl; count = λ z. refl }
       go false = record { number = refl; truth = refl; count = λ z. refl }
 
-  filter-by : (p : Option Filter) → ByFilter true true (isSome (storedValue (typeAt (limits .table) t 0) v)) p (withFilter (typeAt (limits .table) t 0) v budget p)
+  filter-by : (p : Option (Filter Item)) → ByFilter true true (isSome (storedValue (typeAt (limits .table) t 0) v)) p (withFilter (typeAt (limits .table) t 0) v budget p)
   unfolding withFilter
   filter-by none = record { number = refl; truth = refl; count = λ z. refl }
   filter-by (some f) = go (isSome (storedValue (typeAt (limits .table) t 0) v))
@@ -167,7 +167,7 @@ module _ (t v : List ℕ) (budget : ℕ) where
       go true = outcome-by (evaluated (typeAt (limits .table) t 0) v f)
       go false = record { number = refl; truth = refl; count = λ z. refl }
 
-  ask-by : (fits ok : Bool) (p : Option Filter)
+  ask-by : (fits ok : Bool) (p : Option (Filter Item))
       → ByFilter fits ok (isSome (storedValue (typeAt (limits .table) t 0) v)) p (pick fits (pick ok (withFilter (typeAt (limits .table) t 0) v budget p) (refused 2)) (refused 1))
   ask-by false ok p = record { number = refl; truth = refl; count = λ z. refl }
   ask-by true false p = record { number = refl; truth = refl; count = λ z. refl }

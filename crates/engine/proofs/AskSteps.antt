@@ -23,7 +23,7 @@ use Rattle.value.specs.Decode.{storedValue}
 use Rattle.value.specs.Check.{valueFits}
 use Rattle.value.proofs.EntrySteps.{not-admitted, is-admitted, rows-are, stored-here}
 use Rattle.assertion.specs.Assertion.{Read}
-use Rattle.filter.specs.Filter.{Filter}
+use Rattle.filter.specs.Filter.{Item, Filter}
 use Rattle.filter.specs.Parse.{filterFits, filterAt, parse}
 use Rattle.filter.specs.Paper.{filterLimits}
 use Rattle.filter.specs.inner.Answers as filter
@@ -102,7 +102,7 @@ module _ (s : List ℕ) (r : Reading) (told : filter.report r ≡ filter.itemsOf
   is-malformed e = counted-none (parse filterLimits s) (sym (ap filter.report e) ∙ told)
 
   module _ (f : declared.Filter) (good : r ≡ Reading.Good f) where
-    the-filter : (g : Filter) × (parse filterLimits s ≡ some g)
+    the-filter : (g : Filter Item) × (parse filterLimits s ≡ some g)
     the-filter = let w = counted-some (parse filterLimits s) (f .items) (sym (ap filter.report good) ∙ told) in (w .0, w .1 .0)
 
     read-at : filterAt s 0 ≡ some (record { is = the-filter .0; after = length s })
@@ -123,7 +123,7 @@ module _ (ty : Ty) (v s : List ℕ) (budget : ℕ) (r : Reading) (told : filter.
 
     pub typed-judged : (a : Report) → not x ≡ false → a ≡ judgedReport (judgedText (outcome ty v) budget (filterAt s 0)) → a ≡ withFilter ty v budget (parse filterLimits s)
     unfolding withFilter judgedText evaluated
-    typed-judged a e q = q ∙ ap (λ (o : Option (Read Filter)). judgedReport (judgedText (outcome ty v) budget o)) (read-at s r told f good) ∙ budget-told budget (reading (outcome ty v) (the-filter s r told f good .0)) ∙ sym (rw (the-filter s r told f good .1, sym stored ∙ not-false x e) refl)
+    typed-judged a e q = q ∙ ap (λ (o : Option (Read (Filter Item))). judgedReport (judgedText (outcome ty v) budget o)) (read-at s r told f good) ∙ budget-told budget (reading (outcome ty v) (the-filter s r told f good .0)) ∙ sym (rw (the-filter s r told f good .1, sym stored ∙ not-false x e) refl)
 
 pub typed-ready : (t s m v : List ℕ) (x : Bool) → Sound (tableLimits .chain) t s m → NamesDiffer t s → 0 < length s → s ≡ tableRows t → length v ≤ 65536
     → x ≡ isSome (storedValue (words.typeAt t 0) v) → not x ≡ false → Ready (tableLimits .chain) t s m v

@@ -11,7 +11,7 @@ use Rattle.table.specs.Types.{Ty, typeAt}
 use Rattle.table.specs.Admitted.{admitted}
 use Rattle.value.specs.Decode.{storedValue}
 use Rattle.value.specs.Check.{valueFits}
-use Rattle.filter.specs.Filter.{Filter}
+use Rattle.filter.specs.Filter.{Item, Filter}
 use Rattle.filter.specs.Parse.{filterFits, parse}
 use Rattle.engine.specs.Limits.{Limits}
 use Rattle.judge.specs.Truth.{Truth, TRUE, FALSE, UNDEFINED}
@@ -41,11 +41,11 @@ unfoldable pub questionFits : Limits → List ℕ → List ℕ → List ℕ → 
 questionFits l t v s budget = both (tableFits (l .table) t) (both (valueFits (l .value) v) (both (filterFits (l .filter) s) (leb budget (l .budget))))
 
 -- a filter that has been read, put to a value of a type
-unfoldable pub evaluated : Ty → List ℕ → Filter → Outcome
+unfoldable pub evaluated : Ty → List ℕ → Filter Item → Outcome
 evaluated ty v f = reading (outcome ty v) f
 
 -- 3: "filter not of the form above, or over depth or items"; then 4: "value not as above", by the type of row 0
-unfoldable pub withFilter : Ty → List ℕ → ℕ → Option Filter → Report
+unfoldable pub withFilter : Ty → List ℕ → ℕ → Option (Filter Item) → Report
 withFilter ty v budget none = refused 3
 withFilter ty v budget (some f) = pick (isSome (storedValue ty v)) (budgeted budget (evaluated ty v f)) (refused 4)
 

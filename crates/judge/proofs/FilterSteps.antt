@@ -104,13 +104,13 @@ made-is : {A B : Type 0} (f : A → B) (x : Option (Read A)) → isSome (made f 
 made-is f none e = e
 made-is f (some r) e = refl
 
-list-judged : (says : Item → Outcome) (j : filter.Join) (live : Bool) (budget n : ℕ) (x : Option (Read Filters)) → judgedFilters says j (begun live) budget n x ≡ judgedFilter says live budget n (made (list j) x)
+list-judged : (says : Item → Outcome) (j : filter.Join) (live : Bool) (budget n : ℕ) (x : Option (Read (Filters Item))) → judgedFilters says j (begun live) budget n x ≡ judgedFilter says live budget n (made (list j) x)
 unfolding judgedFilter judgedFilters reading
 list-judged says j live budget n none = refl
 list-judged says j true budget n (some r) = refl
 list-judged says j false budget n (some r) = refl
 
-not-judged : (says : Item → Outcome) (live : Bool) (budget n : ℕ) (x : Option (Read Filter)) → inverse (judgedFilter says live budget n x) ≡ judgedFilter says live budget n (made invert x)
+not-judged : (says : Item → Outcome) (live : Bool) (budget n : ℕ) (x : Option (Read (Filter Item))) → inverse (judgedFilter says live budget n x) ≡ judgedFilter says live budget n (made invert x)
 unfolding judgedFilter reading
 not-judged says live budget n none = refl
 not-judged says live budget n (some r) = inverse-judged live budget n (reading says (r .is)) (r .after)
@@ -157,17 +157,17 @@ abbrev TurnSays : (Item → Outcome) → List ℕ → filter.Join → Progress �
 TurnSays says f j p budget k i (Turn.Goes q c a) = (isSome (filtersAt f a) ≡ true) × (c ≤ budget) × (length f - a < length f - i) × (judgedFilters says j q budget c (filtersAt f a) ≡ judgedFilters says j p budget k (filtersAt f i))
 TurnSays says f j p budget k i (Turn.Ends y) = y ≡ judgedFilters says j p budget k (filtersAt f i)
 
-module _ (says : Item → Outcome) (f : List ℕ) (j : filter.Join) (p : Progress) (budget k i : ℕ) (r : Read Filters) (read : filtersAt f i ≡ some r) (h : k ≤ budget) where
-  module _ (x : Read Filter) (first : filterAt f i ≡ some x) where
+module _ (says : Item → Outcome) (f : List ℕ) (j : filter.Join) (p : Progress) (budget k i : ℕ) (r : Read (Filters Item)) (read : filtersAt f i ≡ some r) (h : k ≤ budget) where
+  module _ (x : Read (Filter Item)) (first : filterAt f i ≡ some x) where
     abbrev o : Outcome
     o = reading says (x .is)
 
     -- the first filter and the others
-    list-is : (fs : Filters) (z : ℕ) → next (x .is) fs ≡ r .is → z ≡ r .after → judgedRest j p budget k (andThen j o (readingIn says j fs)) z ≡ judgedFilters says j p budget k (filtersAt f i)
+    list-is : (fs : Filters Item) (z : ℕ) → next (x .is) fs ≡ r .is → z ≡ r .after → judgedRest j p budget k (andThen j o (readingIn says j fs)) z ≡ judgedFilters says j p budget k (filtersAt f i)
     unfolding judgedFilters reading
-    list-is fs z q e = ap (λ (y : Filters). judgedRest j p budget k (readingIn says j y) z) q ∙ ap (λ (y : ℕ). judgedRest j p budget k (readingIn says j (r .is)) y) e ∙ ap (judgedFilters says j p budget k) (sym read)
+    list-is fs z q e = ap (λ (y : Filters Item). judgedRest j p budget k (readingIn says j y) z) q ∙ ap (λ (y : ℕ). judgedRest j p budget k (readingIn says j (r .is)) y) e ∙ ap (judgedFilters says j p budget k) (sym read)
 
-    shape : (t : Tail) → tailAt f (x .after) ≡ t → (fs : Filters) × (next (x .is) fs ≡ r .is)
+    shape : (t : Tail) → tailAt f (x .after) ≡ t → (fs : Filters Item) × (next (x .is) fs ≡ r .is)
     shape (another a) e = let l = read-another f i r x read first a e in (l .0 .is, l .1 .1 .0)
     shape (closed a) e = let l = read-closed f i r x read first a e in (endFilters, l .0)
     shape noTail e = absurd (read-tail f i r x read first e)
@@ -219,7 +219,7 @@ module _ (ty : Ty) (v f : List ℕ) (j : filter.Join) (live : Bool) (budget n at
     pub list-lower : (t : ℕ) → 2 * (length f - at) + 1 ≡ t → 2 * (length f - i) < t
     list-lower t m = let a = inv .on in omega arith
 
-    rest : (r : Read Filters) × (filtersAt f i ≡ some r)
+    rest : (r : Read (Filters Item)) × (filtersAt f i ≡ some r)
     rest = some-there (filtersAt f i) (inv .read)
 
     pub list-filter : isSome (filterAt f i) ≡ true
@@ -248,7 +248,7 @@ module _ (ty : Ty) (v f : List ℕ) (j : filter.Join) (live : Bool) (budget n at
         list-again = record { read = goes .0; within = goes .1; on = let d = goes .2 in let e = inv .on in omega arith; same = goes .3 ∙ inv .same }
 
 -- ---- the whole text
-text-judged : (says : Item → Outcome) (budget : ℕ) (x : Option (Read Filter)) (j : Judged) (after : ℕ) → placed after j ≡ judgedFilter says true budget 0 x → isSome x ≡ true → j ≡ judgedText says budget x
+text-judged : (says : Item → Outcome) (budget : ℕ) (x : Option (Read (Filter Item))) (j : Judged) (after : ℕ) → placed after j ≡ judgedFilter says true budget 0 x → isSome x ≡ true → j ≡ judgedText says budget x
 unfolding judgedFilter judgedText
 text-judged says budget none j after e h = absurd (false≢true h)
 text-judged says budget (some r) j after e h = go j (charged budget 0 (reading says (r .is))) e

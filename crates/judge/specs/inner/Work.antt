@@ -101,7 +101,7 @@ inverse Judging.Over = Judging.Over
 inverse Judging.Misfit = Judging.Misfit
 
 -- a filter that was read
-unfoldable pub judgedFilter : (Item → Outcome) → Bool → ℕ → ℕ → Option (Read Filter) → Judging
+unfoldable pub judgedFilter : (Item → Outcome) → Bool → ℕ → ℕ → Option (Read (Filter Item)) → Judging
 judgedFilter says live budget n none = Judging.Misfit
 judgedFilter says live budget n (some r) = judgedIf live budget n (reading says (r .is)) (r .after)
 
@@ -118,7 +118,7 @@ judgedRest j Progress.Unsure budget n o after = placed after (charged budget n (
 judgedRest j Progress.Stopped budget n o after = Judging.At (verdictOf (opposite (ofNone j))) n after
 judgedRest j Progress.Passed budget n o after = Judging.At Verdict.Undefined n after
 
-unfoldable pub judgedFilters : (Item → Outcome) → Join → Progress → ℕ → ℕ → Option (Read Filters) → Judging
+unfoldable pub judgedFilters : (Item → Outcome) → Join → Progress → ℕ → ℕ → Option (Read (Filters Item)) → Judging
 judgedFilters says j p budget n none = Judging.Misfit
 judgedFilters says j p budget n (some r) = judgedRest j p budget n (readingIn says j (r .is)) (r .after)
 
@@ -176,6 +176,6 @@ turned s j p Judging.Over = Turn.Ends Judging.Over
 turned s j p Judging.Misfit = Turn.Ends Judging.Misfit
 
 -- ---- the filter of a whole text
-unfoldable pub judgedText : (Item → Outcome) → ℕ → Option (Read Filter) → Judged
+unfoldable pub judgedText : (Item → Outcome) → ℕ → Option (Read (Filter Item)) → Judged
 judgedText says budget none = Judged.Misfit
 judgedText says budget (some r) = charged budget 0 (reading says (r .is))
