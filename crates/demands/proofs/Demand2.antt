@@ -15,6 +15,7 @@ use Rattle.value.specs.Value.{Value}
 use Rattle.value.specs.Decode.{storedValue}
 use Rattle.reference.specs.Named.{Held, named}
 use Rattle.reference.specs.Numbers.{Component, component}
+use Rattle.rules.specs.Rule.{knownRules}
 use Rattle.rules.specs.Accepts.{accepts}
 use Rattle.filter.specs.Filter.{Item, Join, and, or, Filter, Filters, item, list, items}
 use Rattle.filter.specs.Parse.{parse}
@@ -47,11 +48,11 @@ tested-named f hs = let e : 0 + needed f (map component hs) ≡ needed f (map co
 
 module _ (ty : Ty) (v : List ℕ) (x : Value) (decodes : storedValue ty v ≡ some x) where
   abbrev says : Item → Outcome
-  says i = settled (itemTruth ty x i) (itemTests ty x i)
+  says i = settled (itemTruth knownRules ty x i) (itemTests knownRules ty x i)
 
-  outcome-named : (i : Item) → outcome ty v i ≡ says i
+  outcome-named : (i : Item) → outcome knownRules ty v i ≡ says i
   unfolding outcome
-  outcome-named i = go (asked ty i)
+  outcome-named i = go (asked knownRules ty i)
     where
       go : (o : Option Asked) → outcomeOf ty v i o ≡ settled (truthFor x i o) (testsFor x i o)
       go none = refl
@@ -73,18 +74,18 @@ settles budget (misfitAfter k) u n e = absurd (go (leb k budget) e)
 
 module _ (ty : Ty) (v : List ℕ) (budget : ℕ) (u : Truth) (n : ℕ) where
   abbrev Read : Option (Filter Item) → Type 0
-  Read p = (f : Filter Item) × (p ≡ some f) × (x : Value) × (storedValue ty v ≡ some x) × (reading (outcome ty v) f ≡ settled u n)
+  Read p = (f : Filter Item) × (p ≡ some f) × (x : Value) × (storedValue ty v ≡ some x) × (reading (outcome knownRules ty v) f ≡ settled u n)
 
-  filter-view : (p : Option (Filter Item)) → withFilter ty v budget p ≡ answers u n → Read p
+  filter-view : (p : Option (Filter Item)) → withFilter knownRules ty v budget p ≡ answers u n → Read p
   unfolding withFilter evaluated
   filter-view none e = absurd (let z : _≡_ {A = ℕ} 3 0 = ap (λ (r : Report). r .refusal) e in omega arith)
   filter-view (some f) e = go (storedValue ty v) refl e
     where
-      go : (o : Option Value) → storedValue ty v ≡ o → pick (isSome o) (budgeted budget (reading (outcome ty v) f)) (refused 4) ≡ answers u n → Read (some f)
+      go : (o : Option Value) → storedValue ty v ≡ o → pick (isSome o) (budgeted budget (reading (outcome knownRules ty v) f)) (refused 4) ≡ answers u n → Read (some f)
       go none q w = absurd (let z : _≡_ {A = ℕ} 4 0 = ap (λ (r : Report). r .refusal) w in omega arith)
-      go (some x) q w = (f, refl, x, q, settles budget (reading (outcome ty v) f) u n w)
+      go (some x) q w = (f, refl, x, q, settles budget (reading (outcome knownRules ty v) f) u n w)
 
-  view : (fits ok : Bool) (p : Option (Filter Item)) → pick fits (pick ok (withFilter ty v budget p) (refused 2)) (refused 1) ≡ answers u n → Read p
+  view : (fits ok : Bool) (p : Option (Filter Item)) → pick fits (pick ok (withFilter knownRules ty v budget p) (refused 2)) (refused 1) ≡ answers u n → Read p
   view true true p e = filter-view p e
   view true false p e = absurd (let z : _≡_ {A = ℕ} 2 0 = ap (λ (r : Report). r .refusal) e in omega arith)
   view false ok p e = absurd (let z : _≡_ {A = ℕ} 1 0 = ap (λ (r : Report). r .refusal) e in omega arith)
@@ -93,29 +94,29 @@ module _ (t v : List ℕ) where
   abbrev ty : Ty
   ty = typeAt (limits .table) t 0
 
-  answer-view : (s : List ℕ) (budget : ℕ) (u : Truth) (n : ℕ) → askReport limits t v s budget ≡ answers u n → Read ty v budget u n (parse (limits .filter) s)
+  answer-view : (s : List ℕ) (budget : ℕ) (u : Truth) (n : ℕ) → askReport limits knownRules t v s budget ≡ answers u n → Read ty v budget u n (parse (limits .filter) s)
   unfolding askReport questionOf
   answer-view s budget u n e = view ty v budget u n (questionFits limits t v s budget) (admitted (limits .table) t) (parse (limits .filter) s) e
 
   module _ (x : Value) (decodes : storedValue ty v ≡ some x) where
     -- the engine's truth for a filter of one item is the item's own
-    alone-is : (u : Truth) (i : Item) → Alone t v u i → u ≡ itemTruth ty x i
+    alone-is : (u : Truth) (i : Item) → Alone t v u i → u ≡ itemTruth knownRules ty x i
     unfolding reading
     alone-is u i a =
         let w = answer-view (a .text) (a .budget) u (a .tests) (a .answered) in
         let same : _≡_ {A = Option (Filter Item)} (some (item i)) (some (w .0)) = sym (a .parses) ∙ w .1 in
         let is : item i ≡ w .0 = cc in
-        let read : outcome ty v i ≡ settled u (a .tests) = ap (reading (outcome ty v)) is ∙ w .4 in
+        let read : outcome knownRules ty v i ≡ settled u (a .tests) = ap (reading (outcome knownRules ty v)) is ∙ w .4 in
         ap truthOf (sym read ∙ outcome-named ty v x decodes i)
 
-    module _ (s : List ℕ) (f : Filter Item) (u : Truth) (n : ℕ) (read : reading (outcome ty v) f ≡ settled u n) where
+    module _ (s : List ℕ) (f : Filter Item) (u : Truth) (n : ℕ) (read : reading (outcome knownRules ty v) f ≡ settled u n) where
       read-named : reading (says ty v x decodes) f ≡ settled u n
-      read-named = sym (reading-alike (outcome ty v) (says ty v x decodes) f (each-of-all (outcome-named ty v x decodes) f)) ∙ read
+      read-named = sym (reading-alike (outcome knownRules ty v) (says ty v x decodes) f (each-of-all (outcome-named ty v x decodes) f)) ∙ read
 
-      is-truth : u ≡ truth (itemTruth ty x) f
+      is-truth : u ≡ truth (itemTruth knownRules ty x) f
       is-truth = go (reading (says ty v x decodes) f) read-named (reading-truth f (says ty v x decodes))
         where
-          go : (o : Outcome) → o ≡ settled u n → Settles o (truth (itemTruth ty x) f) → u ≡ truth (itemTruth ty x) f
+          go : (o : Outcome) → o ≡ settled u n → Settles o (truth (itemTruth knownRules ty x) f) → u ≡ truth (itemTruth knownRules ty x) f
           go (settled w k) e h = let a : w ≡ u = cc in sym a ∙ h
           go (misfitAfter k) e h = absurd (let z : _≡_ {A = ℕ} 0 1 = cc in omega arith)
 
@@ -124,10 +125,10 @@ module _ (t v : List ℕ) where
         truth = is-truth;
         tests = read-named;
         few = subst (λ (o : Outcome). testsOf o ≤ length (items f) * (length v / 2)) read (tests-few ty v x f decodes);
-        larger = λ alone w. is-truth ∙ sym (truth-alike alone (itemTruth ty x) f (each-so (λ i. alone-is (alone i) i) f w));
+        larger = λ alone w. is-truth ∙ sym (truth-alike alone (itemTruth knownRules ty x) f (each-so (λ i. alone-is (alone i) i) f w));
       }
 
-pub answered-truly : (t v s : List ℕ) (budget : ℕ) (r : Report) → r ≡ askReport limits t v s budget → AnswersTruly t v s r
+pub answered-truly : (t v s : List ℕ) (budget : ℕ) (r : Report) → r ≡ askReport limits knownRules t v s budget → AnswersTruly t v s r
 answered-truly t v s budget r e = record { answered = go }
   where
     go : (u : Truth) (n : ℕ) → r ≡ answers u n → Answered t v s u n

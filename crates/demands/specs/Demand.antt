@@ -14,7 +14,7 @@ use Rattle.value.specs.Decode.{storedValue}
 use Rattle.reference.specs.Reference.{Id, givenIds}
 use Rattle.reference.specs.Allowed as reference
 use Rattle.reference.specs.Numbers.{Component, threes}
-use Rattle.rules.specs.Rule.{Rule}
+use Rattle.rules.specs.Rule.{Rule, knownRules}
 use Rattle.rules.specs.RuleFor as rules
 use Rattle.rules.specs.Accepts.{accepts}
 use Rattle.filter.specs.Filter.{Item, item}
@@ -62,7 +62,7 @@ pub record Put (given : Bool) (r : List ℕ) (defaults : Bool) (s : List ℕ) (i
 
 -- its rule, where document 01 doesn't make it Undefined: the rule is known, for the target, and the value text conforms
 abbrev pub ruleFor : reference.Target → Item → Option Rule
-ruleFor target i = rules.ruleFor target (i .rule) (i .value)
+ruleFor target i = rules.ruleFor knownRules target (i .rule) (i .value)
 
 pub record Asserted (i : Item) (budget : ℕ) (target : reference.Target) (cs : List Component) (b : answer.Report) : Type 0 where
   -- where document 01 makes it Undefined

@@ -8,6 +8,7 @@ use lib.ListN.{length}
 use Rattle.table.specs.Types.{typeAt}
 use Rattle.value.specs.Value.{Value}
 use Rattle.value.specs.Decode.{storedValue}
+use Rattle.rules.specs.Rule.{knownRules}
 use Rattle.filter.specs.Filter.{Item, Filter, item, items, Each}
 use Rattle.filter.specs.Parse.{parse}
 use Rattle.judge.specs.Truth as logic
@@ -24,14 +25,14 @@ pub record Alone (t v : List ℕ) (u : Truth) (i : Item) : Type 0 where
   pub budget : ℕ
   pub tests : ℕ
   pub parses : parse (limits .filter) text ≡ some (item i)
-  pub answered : askReport limits t v text budget ≡ answers u tests
+  pub answered : askReport limits knownRules t v text budget ≡ answers u tests
 
 -- an answer with truth u and n tests to the filter f, for the stored value that decodes to x
 pub record Answers (t v s : List ℕ) (f : Filter Item) (x : Value) (u : Truth) (n : ℕ) : Type 0 where
   -- what RFC 3687 section 4 makes of the items' truths, each by what its reference names in the decoded value
-  pub truth : u ≡ logic.truth (itemTruth (typeAt (limits .table) t 0) x) f
+  pub truth : u ≡ logic.truth (itemTruth knownRules (typeAt (limits .table) t 0) x) f
   -- the tests of the reading from left to right, with its stops
-  pub tests : left-to-right.reading (λ i. settled (itemTruth (typeAt (limits .table) t 0) x i) (itemTests (typeAt (limits .table) t 0) x i)) f ≡ settled u n
+  pub tests : left-to-right.reading (λ i. settled (itemTruth knownRules (typeAt (limits .table) t 0) x i) (itemTests knownRules (typeAt (limits .table) t 0) x i)) f ≡ settled u n
   -- "The count is at most items times half the value's length, rounded down."
   pub few : n ≤ length (items f) * (length v / 2)
   -- "a larger filter's, where it isn't refused, nor any of its items alone with budget enough for it, is what its lists and `not` make of these"

@@ -17,6 +17,7 @@ use Rattle.reference.specs.Numbers.{Component, component}
 use Rattle.trail.specs.Trail.{trail}
 use Rattle.trail.proofs.Agreeing.{laid, trail-named}
 use Rattle.trail.proofs.Spreading.{named-spread, spread-few}
+use Rattle.rules.specs.Rule.{knownRules}
 use Rattle.rules.specs.Accepts.{accepts}
 use Rattle.filter.specs.Filter.{Item, Join, Filter, Filters, item, list, inverse, endFilters, next, items, itemsIn}
 use Rattle.judge.specs.Truth.{Truth, TRUE}
@@ -50,9 +51,9 @@ module _ (ty : Ty) (v : List ℕ) (x : Value) (stored : storedValue ty v ≡ som
       let c : testsOf (testing f 0 (laid (named defaults is x))) ≤ length v / 2 = omega arith in
       subst (λ (o : Outcome). testsOf o ≤ length v / 2) (sym (ap (testing f 0) z)) c
 
-  pub outcome-few : (i : Item) → testsOf (outcome ty v i) ≤ length v / 2
+  pub outcome-few : (i : Item) → testsOf (outcome knownRules ty v i) ≤ length v / 2
   unfolding outcome
-  outcome-few i = go (asked ty i)
+  outcome-few i = go (asked knownRules ty i)
     where
       go : (o : Option Asked) → testsOf (outcomeOf ty v i o) ≤ length v / 2
       go none = omega arith
@@ -94,5 +95,5 @@ mutual
       omega arith
 
 -- the tests that a filter needs over a stored value
-pub tests-few : (ty : Ty) (v : List ℕ) (x : Value) (f : Filter Item) → storedValue ty v ≡ some x → testsOf (reading (outcome ty v) f) ≤ length (items f) * (length v / 2)
-tests-few ty v x f stored = reading-few f (outcome ty v) (length v / 2) (outcome-few ty v x stored)
+pub tests-few : (ty : Ty) (v : List ℕ) (x : Value) (f : Filter Item) → storedValue ty v ≡ some x → testsOf (reading (outcome knownRules ty v) f) ≤ length (items f) * (length v / 2)
+tests-few ty v x f stored = reading-few f (outcome knownRules ty v) (length v / 2) (outcome-few ty v x stored)

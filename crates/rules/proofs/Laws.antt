@@ -22,7 +22,7 @@ use Rattle.table.specs.Types.{untagged, explicit, implicit, Ty, basic, sequence
 use Rattle.table.specs.inner.Work.{Sound}
 use Rattle.table.proofs.TypeCases.{tagging-cases, member-tagging, members-none, members-more}
 use Rattle.reference.specs.Allowed.{Target, ofType}
-use Rattle.rules.specs.Rule.{Syntax, booleans, integers, objectIdentifiers, octetStrings, bitStrings, strings, times, Rule, present, equal, less, ruleOf}
+use Rattle.rules.specs.Rule.{Syntax, booleans, integers, objectIdentifiers, octetStrings, bitStrings, strings, times, Rule, present, equal, less, Known, ruleOf}
 use Rattle.rules.specs.Suits.{suitsKind, isUntagged, isStringType, allStrings, suitsTarget, suits}
 use Rattle.rules.specs.Asserted.{conformsTo, conforms}
 use Rattle.rules.specs.RuleFor.{ifFor, ruleFor}
@@ -205,9 +205,9 @@ module _ (t c : List ℕ) where
   read-choice (less x) ms h = choice-read x (both-true (suitsKind x 8) (allStrings ms) h .0)
 
 -- ---- the rule of an assertion is for the target, and the value text conforms
-pub rule-for-view : (g : Target) (rule value : List ℕ) (r : Rule) → ruleFor g rule value ≡ some r → (suits r g ≡ true) × (conforms r value ≡ true)
+pub rule-for-view : (ks : List Known) (g : Target) (rule value : List ℕ) (r : Rule) → ruleFor ks g rule value ≡ some r → (suits r g ≡ true) × (conforms r value ≡ true)
 unfolding ruleFor
-rule-for-view g rule value r = go (ruleOf rule)
+rule-for-view ks g rule value r = go (ruleOf ks rule)
   where
     fitting : (x : Rule) (b : Bool) → both (suits x g) (conforms x value) ≡ b → pick b (some x) none ≡ some r → (suits r g ≡ true) × (conforms r value ≡ true)
     fitting x true e q = let z : x ≡ r = cc in both-true (suits r g) (conforms r value) (subst (λ (y : Rule). both (suits y g) (conforms y value) ≡ true) z e)

@@ -1,7 +1,7 @@
 -- The definitions of this crate and those below, as one name for the `unfolding` line of a computed example.
 use Prim.Native.Nat.{ℕ}
 use Rattle.reference.specs.Computing.{referenceComputes}
-use Rattle.rules.specs.Rule.{sameName, ruleIn, ruleOf}
+use Rattle.rules.specs.Rule.{knownRules, sameName, ruleOf}
 use Rattle.rules.specs.Suits.{allStrings, suitsTarget, suits}
 use Rattle.integers.specs.Asserted.{isInteger, assertedInteger}
 use Rattle.binary.specs.Asserted.{inQuotes, isHexString, isBitText, isOctets, assertedOctets, isBits, hexBits, textBits, assertedBits}
@@ -13,7 +13,7 @@ use Rattle.rules.specs.RuleFor.{ruleFor}
 use Rattle.rules.specs.Accepts.{isEqual, isLess, acceptsContents, acceptsCount, accepts}
 
 unfoldable pub rulesCompute : ℕ
-unfolding referenceComputes sameName ruleIn ruleOf allStrings suitsTarget suits
+unfolding referenceComputes knownRules sameName ruleOf allStrings suitsTarget suits
     squeezed folded prepared isTruth isInteger assertedInteger inQuotes isHexString isBitText isOctets assertedOctets
     isBits hexBits textBits assertedBits isText assertedText isTime
     conformsTo conforms ruleFor isEqual isLess acceptsContents acceptsCount accepts

@@ -10,6 +10,7 @@ use Rattle.octets.specs.Octets.{bytes, hex}
 use Rattle.table.specs.Types.{Tagging, untagged, explicit, mandatory, Ty, basic, sequence, choice, noMore, more}
 use Rattle.reference.specs.Allowed.{Target, ofType, ofCount}
 use Rattle.reference.specs.Numbers.{Component, stored, byCount}
+use Rattle.rules.specs.Rule.{knownRules}
 use Rattle.rules.specs.RuleFor.{ruleFor}
 use Rattle.strings.specs.Prepared.{prepared}
 use Rattle.rules.specs.Accepts.{accepts}
@@ -17,7 +18,7 @@ use Rattle.rules.specs.Computing.{rulesCompute}
 
 -- a rule's answer for one component of a target; none where it is Undefined
 test : Target → String → Component → String → Option Bool
-test g rule c value = bind (ruleFor g (bytes rule) (bytes value)) (λ r. some (accepts r (bytes value) c))
+test g rule c value = bind (ruleFor knownRules g (bytes rule) (bytes value)) (λ r. some (accepts r (bytes value) c))
 
 abbrev contents : List ℕ → Component
 contents c = stored (record { place = 0; size = 0; contents = c })

@@ -9,7 +9,7 @@ ghost use Rattle.octets.specs.Text.{lower};
 ghost use Rattle.der.specs.Kind.{isString};
 ghost use Rattle.der.specs.Meaning.{booleanOf};
 ghost use Rattle.reference.specs.Allowed.{ofCount};
-ghost use Rattle.rules.specs.Rule.{sameName, knownRules, ruleIn, ruleOf};
+ghost use Rattle.rules.specs.Rule.{sameName, knownRules, ruleOf};
 ghost use Rattle.rules.specs.Suits as suiting;
 ghost use Rattle.rules.specs.Asserted as asserted;
 ghost use Rattle.rules.specs.Accepts as accepting;
@@ -77,7 +77,7 @@ fn is_called(t: &[u8], name: &[u8], oid: &[u8]) -> bool
 
 // The rule of a name or dotted OID, from a row of the table on: here from the 11th.
 fn time_rule(t: &[u8]) -> Named
-    ensures { λ r. ⌜ answers.reportRule r ≡ ruleIn (drop 10 knownRules) (now (t .entry)) ⌝ }
+    ensures { λ r. ⌜ answers.reportRule r ≡ ruleOf (drop 10 knownRules) (now (t .entry)) ⌝ }
 {
     if is_called(t, b"generalizedTimeMatch", b"2.5.13.27") {
         return Named::Known(Rule::Equal(Syntax::Times));
@@ -90,7 +90,7 @@ fn time_rule(t: &[u8]) -> Named
 
 // From the 8th row on.
 fn text_rule(t: &[u8]) -> Named
-    ensures { λ r. ⌜ answers.reportRule r ≡ ruleIn (drop 7 knownRules) (now (t .entry)) ⌝ }
+    ensures { λ r. ⌜ answers.reportRule r ≡ ruleOf (drop 7 knownRules) (now (t .entry)) ⌝ }
 {
     if is_called(t, b"bitStringMatch", b"2.5.13.16") {
         return Named::Known(Rule::Equal(Syntax::BitStrings));
@@ -106,7 +106,7 @@ fn text_rule(t: &[u8]) -> Named
 
 // From the 5th row on.
 fn octet_rule(t: &[u8]) -> Named
-    ensures { λ r. ⌜ answers.reportRule r ≡ ruleIn (drop 4 knownRules) (now (t .entry)) ⌝ }
+    ensures { λ r. ⌜ answers.reportRule r ≡ ruleOf (drop 4 knownRules) (now (t .entry)) ⌝ }
 {
     if is_called(t, b"objectIdentifierMatch", b"2.5.13.0") {
         return Named::Known(Rule::Equal(Syntax::ObjectIdentifiers));
@@ -122,7 +122,7 @@ fn octet_rule(t: &[u8]) -> Named
 
 // The rule of a name or dotted OID: the first row of the table that has it.
 pub fn rule_of(t: &[u8]) -> Named
-    ensures { λ r. ⌜ answers.reportRule r ≡ ruleOf (now (t .entry)) ⌝ }
+    ensures { λ r. ⌜ answers.reportRule r ≡ ruleOf knownRules (now (t .entry)) ⌝ }
 {
     if is_called(t, b"presentMatch", b"1.2.36.79672281.1.13.5") {
         return Named::Known(Rule::Present);

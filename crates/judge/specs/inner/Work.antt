@@ -14,7 +14,7 @@ use Rattle.table.specs.Types.{unfilled, typeFrom}
 use Rattle.table.specs.inner.Work.{Sound}
 use Rattle.value.specs.Decode.{storedValue}
 use Rattle.reference.specs.Allowed.{Target}
-use Rattle.rules.specs.Rule.{Rule}
+use Rattle.rules.specs.Rule.{Rule, Known}
 use Rattle.rules.specs.Suits.{suits}
 use Rattle.rules.specs.RuleFor.{ruleFor}
 use Rattle.assertion.specs.Assertion.{Read}
@@ -59,8 +59,8 @@ abbrev pub suitsAny : Rule → Option Target → Bool
 suitsAny r none = false
 suitsAny r (some g) = suits r g
 
-unfoldable pub askedRule : Option Target → List ℕ → List ℕ → Option Rule
-askedRule g rule value = bind g (λ target. ruleFor target rule value)
+unfoldable pub askedRule : List Known → Option Target → List ℕ → List ℕ → Option Rule
+askedRule ks g rule value = bind g (λ target. ruleFor ks target rule value)
 
 -- an assertion by its parts; its reference is r where one is given
 abbrev pub itemGiven : Bool → List ℕ → Bool → List ℕ → List ℕ → Item
