@@ -56,7 +56,7 @@ module _ (ty : Ty) (v : List ℕ) (x : Value) (decodes : storedValue ty v ≡ so
     where
       go : (o : Option Asked) → outcomeOf ty v i o ≡ settled (truthFor x i o) (testsFor x i o)
       go none = refl
-      go (some a) = ap (testing (accepts (a .rule) (i .value)) 0) (trail-named (i .defaults) (a .ids) ty v x decodes) ∙ tested-named (accepts (a .rule) (i .value)) (named (i .defaults) (a .ids) x)
+      go (some a) = ap (testing (accepts (a .rule) (a .asserted)) 0) (trail-named (i .defaults) (a .ids) ty v x decodes) ∙ tested-named (accepts (a .rule) (a .asserted)) (named (i .defaults) (a .ids) x)
 
 -- ---- a report with a truth: what was read, and what it comes to
 settles : (budget : ℕ) (o : Outcome) (u : Truth) (n : ℕ) → budgeted budget o ≡ answers u n → o ≡ settled u n

@@ -17,7 +17,8 @@ use Rattle.value.specs.Decode.{storedValue}
 use Rattle.reference.specs.Reference.{Id, identifiers, givenIds}
 use Rattle.reference.specs.Allowed as reference
 use Rattle.reference.specs.Named.{named}
-use Rattle.rules.specs.Rule.{Rule, knownRules}
+use Rattle.rules.specs.Rule.{knownRules}
+use Rattle.rules.specs.RuleFor.{Comparison}
 use Rattle.rules.specs.Accepts.{accepts}
 use Rattle.filter.specs.Filter.{Item}
 use Rattle.trail.specs.Trail.{trail}
@@ -73,14 +74,14 @@ module _ (t v : List ℕ) (given : Bool) (r : List ℕ) (x : Value) (is : List I
         go true = refl
         go false = refl
 
-    asks-by : asked knownRules ty i ≡ bind (ruleFor target i) (λ u. some (record { ids = is; rule = u }))
+    asks-by : asked knownRules ty i ≡ bind (ruleFor target i) (λ u. some (record { ids = is; rule = u .rule; asserted = u .asserted }))
     unfolding asked
     asks-by = rw (the-ids, w .allowed)
 
     asks-none : ruleFor target i ≡ none → asked knownRules ty i ≡ none
     asks-none e = asks-by ∙ rw e
 
-    asks-some : (u : Rule) → ruleFor target i ≡ some u → asked knownRules ty i ≡ some (record { ids = is; rule = u })
+    asks-some : (u : Comparison) → ruleFor target i ≡ some u → asked knownRules ty i ≡ some (record { ids = is; rule = u .rule; asserted = u .asserted })
     asks-some u e = asks-by ∙ rw e
 
     report-by : askReport limits knownRules t v s budget ≡ budgeted budget (outcomeOf ty v i (asked knownRules ty i))
@@ -91,7 +92,7 @@ module _ (t v : List ℕ) (given : Bool) (r : List ℕ) (x : Value) (is : List I
     unfolding budgeted
     asserts-demanded b q = record {
       undefined = λ e. q ∙ report-by ∙ rw (asks-none e, le-leb 0 budget (omega arith));
-      defined = λ u e h. q ∙ report-by ∙ rw (asks-some u e, p .same-choice, the-trail, tested-named (accepts u (i .value)) (named defaults is x), le-leb (needed (accepts u (i .value)) (components defaults is x)) budget h);
+      defined = λ u e h. q ∙ report-by ∙ rw (asks-some u e, p .same-choice, the-trail, tested-named (accepts (u .rule) (u .asserted)) (named defaults is x), le-leb (needed (accepts (u .rule) (u .asserted)) (components defaults is x)) budget h);
     }
 
 pub demanded : (t v : List ℕ) (given : Bool) (r : List ℕ) (defaults : Bool) (room s : List ℕ) (budget : ℕ) (l : Listing) (b : Report)

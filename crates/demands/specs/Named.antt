@@ -37,11 +37,11 @@ truthBy accepted cs = pick (acceptsOne accepted cs) TRUE FALSE
 -- ---- an assertion about a decoded value, by what it asks of the type: nothing where document 01 makes it Undefined; ks are the known rules
 abbrev pub truthFor : Value → Item → Option Asked → Truth
 truthFor x i none = UNDEFINED
-truthFor x i (some a) = truthBy (accepts (a .rule) (i .value)) (components (i .defaults) (a .ids) x)
+truthFor x i (some a) = truthBy (accepts (a .rule) (a .asserted)) (components (i .defaults) (a .ids) x)
 
 abbrev pub testsFor : Value → Item → Option Asked → ℕ
 testsFor x i none = 0
-testsFor x i (some a) = needed (accepts (a .rule) (i .value)) (components (i .defaults) (a .ids) x)
+testsFor x i (some a) = needed (accepts (a .rule) (a .asserted)) (components (i .defaults) (a .ids) x)
 
 abbrev pub itemTruth : List Known → Ty → Value → Item → Truth
 itemTruth ks ty x i = truthFor x i (asked ks ty i)

@@ -57,7 +57,7 @@ module _ (ty : Ty) (v : List ℕ) (x : Value) (stored : storedValue ty v ≡ som
     where
       go : (o : Option Asked) → testsOf (outcomeOf ty v i o) ≤ length v / 2
       go none = omega arith
-      go (some a) = walk-few (accepts (a .rule) (i .value)) (i .defaults) (a .ids)
+      go (some a) = walk-few (accepts (a .rule) (a .asserted)) (i .defaults) (a .ids)
 
 -- ---- a filter: so many for each of its items
 added-tests : (j : Join) (t : Truth) (n : ℕ) (r : Outcome) → testsOf (added j t n r) ≡ n + testsOf r

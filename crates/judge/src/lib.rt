@@ -20,8 +20,7 @@ ghost use Rattle.table.specs.inner.Work.{Sound};
 ghost use Rattle.reference.specs.Reference.{givenIds};
 ghost use Rattle.reference.specs.inner.Work as reference;
 ghost use Rattle.rules.specs.Rule.{knownRules};
-ghost use Rattle.rules.specs.Asserted.{conforms};
-ghost use Rattle.rules.specs.inner.Answers.{meant, reportRule};
+ghost use Rattle.rules.specs.inner.Answers.{meant, reportRule, conforms};
 ghost use Rattle.assertion.specs.Assertion.{assertionAt};
 ghost use Rattle.assertion.specs.inner.Places.{itemOf};
 ghost use Rattle.filter.specs.Filter.{item};
@@ -118,7 +117,8 @@ fn asked_rule(
     requires sound { ⌜ Sound (tableLimits .chain) (now t) (now s) (now m) ⌝ }
     requires rows { ⌜ 0 < length (now s) ⌝ }
     ensures { λ w. ⌜ reportRule w
-        ≡ work.askedRule knownRules (reference.leadsTo given (now (r .entry)) (rowType (now (t .entry)) (now (s .entry)) 0)) (now (name .entry)) (now (text .entry)) ⌝ }
+        ≡ work.askedRule knownRules (reference.leadsTo given (now (r .entry)) (rowType (now (t .entry)) (now (s .entry)) 0))
+        (now (name .entry)) (now (text .entry)) ⌝ }
 {
     let Named::Known(rule) = rules::rule_of(name) else {
         return Named::Unknown;
@@ -238,7 +238,8 @@ fn judge_parts(
 ) -> Judged
     requires ready { ⌜ work.Ready (tableLimits .chain) (now t) (now s) (now m) (now v) ⌝ }
     requires within { ⌜ n ≤ budget ⌝ }
-    ensures { λ w. ⌜ w ≡ work.charged budget n (outcome knownRules (rowType (now (t .entry)) (now (s .entry)) 0) (now (v .entry)) (itemOf (now (f .entry)) p)) ⌝ }
+    ensures { λ w. ⌜ w
+        ≡ work.charged budget n (outcome knownRules (rowType (now (t .entry)) (now (s .entry)) 0) (now (v .entry)) (itemOf (now (f .entry)) p)) ⌝ }
 {
     let name = octets::between(f, p.rule, p.rule_end);
     let text = octets::between(f, p.value, p.value_end);
@@ -449,7 +450,8 @@ fn judge_filter(
     requires read { ⌜ isSome (parsing.filterAt (now f) at) ≡ true ⌝ }
     requires within { ⌜ n ≤ budget ⌝ }
     ensures { λ w. ⌜ w
-        ≡ work.judgedFilter (outcome knownRules (rowType (now (t .entry)) (now (s .entry)) 0) (now (v .entry))) live budget n (parsing.filterAt (now (f .entry)) at) ⌝ }
+        ≡ work.judgedFilter (outcome knownRules (rowType (now (t .entry)) (now (s .entry)) 0) (now (v .entry))) live budget n
+        (parsing.filterAt (now (f .entry)) at) ⌝ }
 {
     match filter::read_head(f, at) {
         Head::Assertion(p) => judge_assertion(t, s, m, v, f, p, live, budget, n),

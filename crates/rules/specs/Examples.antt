@@ -18,7 +18,7 @@ use Rattle.rules.specs.Computing.{rulesCompute}
 
 -- a rule's answer for one component of a target; none where it is Undefined
 test : Target → String → Component → String → Option Bool
-test g rule c value = bind (ruleFor knownRules g (bytes rule) (bytes value)) (λ r. some (accepts r (bytes value) c))
+test g rule c value = bind (ruleFor knownRules g (bytes rule) (bytes value)) (λ x. some (accepts (x .rule) (x .asserted) c))
 
 abbrev contents : List ℕ → Component
 contents c = stored (record { place = 0; size = 0; contents = c })

@@ -11,8 +11,7 @@ ghost use Rattle.der.specs.Meaning.{booleanOf};
 ghost use Rattle.reference.specs.Allowed.{ofCount};
 ghost use Rattle.rules.specs.Rule.{sameName, knownRules, ruleOf};
 ghost use Rattle.rules.specs.Suits as suiting;
-ghost use Rattle.rules.specs.Asserted as asserted;
-ghost use Rattle.rules.specs.Accepts as accepting;
+ghost use Rattle.rules.specs.Asserted.{isTruth};
 ghost use Rattle.rules.specs.inner.Answers as answers;
 
 // What a rule compares; strings with A..Z folded, or exactly.
@@ -141,7 +140,7 @@ pub fn rule_of(t: &[u8]) -> Named
 
 // ---- conforming
 fn is_truth(t: &[u8]) -> bool
-    ensures { λ r. ⌜ r ≡ asserted.isTruth (now (t .entry)) ⌝ }
+    ensures { λ r. ⌜ r ≡ isTruth (now (t .entry)) ⌝ }
 {
     if octets::same(t, b"TRUE") {
         return true;
@@ -150,7 +149,7 @@ fn is_truth(t: &[u8]) -> bool
 }
 
 fn conforms_to(x: Syntax, t: &[u8]) -> bool
-    ensures { λ r. ⌜ r ≡ asserted.conformsTo (answers.syntaxOf x) (now (t .entry)) ⌝ }
+    ensures { λ r. ⌜ r ≡ answers.conformsTo (answers.syntaxOf x) (now (t .entry)) ⌝ }
 {
     match x {
         Syntax::Booleans => is_truth(t),
@@ -165,7 +164,7 @@ fn conforms_to(x: Syntax, t: &[u8]) -> bool
 
 // Whether a value text conforms to what a rule asserts.
 pub fn conforms(rule: Rule, t: &[u8]) -> bool
-    ensures { λ r. ⌜ r ≡ asserted.conforms (answers.meant rule) (now (t .entry)) ⌝ }
+    ensures { λ r. ⌜ r ≡ answers.conforms (answers.meant rule) (now (t .entry)) ⌝ }
 {
     match rule {
         Rule::Present => octets::same(t, b"NULL"),
@@ -225,7 +224,7 @@ pub fn accepts_contents(rule: Rule, t: &[u8], c: &[u8]) -> bool
 
 // Whether a rule accepts a count.
 pub fn accepts_count(rule: Rule, t: &[u8], n: u64) -> bool
-    ensures { λ r. ⌜ r ≡ accepting.acceptsCount (answers.meant rule) (now (t .entry)) n ⌝ }
+    ensures { λ r. ⌜ r ≡ answers.acceptsCountRead (answers.meant rule) (now (t .entry)) n ⌝ }
 {
     match rule {
         Rule::Present => true,

@@ -16,7 +16,7 @@ use Rattle.value.specs.Decode.{storedValue}
 use Rattle.reference.specs.Allowed.{Target}
 use Rattle.rules.specs.Rule.{Rule, Known}
 use Rattle.rules.specs.Suits.{suits}
-use Rattle.rules.specs.RuleFor.{ruleFor}
+use Rattle.rules.specs.RuleFor.{Comparison, ruleFor}
 use Rattle.assertion.specs.Assertion.{Read}
 use Rattle.assertion.specs.inner.Places.{componentOf}
 use Rattle.assertion.specs.declared.Component.{Component}
@@ -59,8 +59,12 @@ abbrev pub suitsAny : Rule → Option Target → Bool
 suitsAny r none = false
 suitsAny r (some g) = suits r g
 
+abbrev pub ruleAlone : Option Comparison → Option Rule
+ruleAlone none = none
+ruleAlone (some x) = some (x .rule)
+
 unfoldable pub askedRule : List Known → Option Target → List ℕ → List ℕ → Option Rule
-askedRule ks g rule value = bind g (λ target. ruleFor ks target rule value)
+askedRule ks g rule value = bind g (λ target. ruleAlone (ruleFor ks target rule value))
 
 -- an assertion by its parts; its reference is r where one is given
 abbrev pub itemGiven : Bool → List ℕ → Bool → List ℕ → List ℕ → Item
