@@ -21,7 +21,7 @@ preparing : prepared true (bytes "  Foo   BAR ") ∷ prepared false (bytes "  Fo
 unfolding octetsCompute charactersIn folded image images joined prepared
 preparing = refl
 
--- characters of one, two, three and four octets
-apart : charactersIn (hex "41C389E282ACF09F988020") ≡ hex "41" ∷ hex "C389" ∷ hex "E282AC" ∷ hex "F09F9880" ∷ hex "20" ∷ []
+-- characters of one, two, three and four octets; the first and last tails
+apart : charactersIn (hex "7FC280C3BFE282ACF09F988020") ≡ hex "7F" ∷ hex "C280" ∷ hex "C3BF" ∷ hex "E282AC" ∷ hex "F09F9880" ∷ hex "20" ∷ []
 unfolding octetsCompute charactersIn
 apart = refl
