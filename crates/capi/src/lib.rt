@@ -8,6 +8,7 @@ ghost use mathlib.Core.Path.{_≡_};
 ghost use Rattle.table.specs.Check as tables;
 ghost use Rattle.value.specs.Check as values;
 ghost use Rattle.value.specs.Part.{partReport};
+ghost use Rattle.rules.specs.Rule.{knownRules};
 ghost use Rattle.quote.specs.Quote.{quotedReport};
 ghost use Rattle.engine.specs.Answer as answer;
 ghost use Rattle.engine.specs.Listing as listing;
@@ -122,7 +123,7 @@ pub extern "C" fn tezqulom_list(
 
 #[no_mangle]
 pub extern "C" fn tezqulom_ask(table: &[u8], value: &[u8], filter: &[u8], budget: u64) -> CAnswer
-    ensures { λ r. ⌜ r ≡ ofReport (answer.askReport limits (now (table .entry)) (now (value .entry)) (now (filter .entry)) budget) ⌝ }
+    ensures { λ r. ⌜ r ≡ ofReport (answer.askReport limits knownRules (now (table .entry)) (now (value .entry)) (now (filter .entry)) budget) ⌝ }
 {
     of_answer(engine::ask(table, value, filter, budget))
 }

@@ -23,10 +23,11 @@ use Rattle.reference.specs.Reference.{Id, givenIds}
 use Rattle.reference.specs.Allowed.{allowed}
 use Rattle.reference.specs.Named.{named}
 use Rattle.reference.specs.Numbers.{Component}
-use Rattle.filter.specs.Filter.{Filter}
+use Rattle.filter.specs.Filter.{Item, Filter}
 use Rattle.filter.specs.Parse.{parse}
 use Rattle.trail.specs.Trail.{Trail, trail, hasMisfit, reached}
 use Rattle.trail.proofs.Agreeing.{trail-named, laid-reached}
+use Rattle.rules.specs.Rule.{knownRules}
 use Rattle.judge.specs.Reading.{Outcome, settled, misfitAfter}
 use Rattle.engine.specs.Paper.{limits}
 use Rattle.engine.specs.Answer.{Report, refused, answers, budgeted, questionFits, evaluated, withFilter, questionOf, askReport}
@@ -142,7 +143,7 @@ refuses-listing t v given r defaults room l e =
 
 -- ---- a filter
 module _ (t v : List ℕ) (budget : ℕ) where
-  abbrev ByFilter : Bool → Bool → Bool → Option Filter → Report → Type 0
+  abbrev ByFilter : Bool → Bool → Bool → Option (Filter Item) → Report → Type 0
   ByFilter fits ok stored p r = AskRefusals (no fits) (no ok) (no (isSome p)) (no stored) (ofSome (over t v budget) p) (ofSome (misfits t v) p) r
 
   outcome-by : (o : Outcome) → AskRefusals false false false false (no (enough budget o)) (isMisfit o) (budgeted budget o)
@@ -158,22 +159,22 @@ module _ (t v : List ℕ) (budget : ℕ) where
       go true = record { number = refl; truth = refl; count = λ z. refl }
       go false = record { number = refl; truth = refl; count = λ z. refl }
 
-  filter-by : (p : Option Filter) → ByFilter true true (isSome (storedValue (typeAt (limits .table) t 0) v)) p (withFilter (typeAt (limits .table) t 0) v budget p)
+  filter-by : (p : Option (Filter Item)) → ByFilter true true (isSome (storedValue (typeAt (limits .table) t 0) v)) p (withFilter knownRules (typeAt (limits .table) t 0) v budget p)
   unfolding withFilter
   filter-by none = record { number = refl; truth = refl; count = λ z. refl }
   filter-by (some f) = go (isSome (storedValue (typeAt (limits .table) t 0) v))
     where
-      go : (b : Bool) → ByFilter true true b (some f) (pick b (budgeted budget (evaluated (typeAt (limits .table) t 0) v f)) (refused 4))
-      go true = outcome-by (evaluated (typeAt (limits .table) t 0) v f)
+      go : (b : Bool) → ByFilter true true b (some f) (pick b (budgeted budget (evaluated knownRules (typeAt (limits .table) t 0) v f)) (refused 4))
+      go true = outcome-by (evaluated knownRules (typeAt (limits .table) t 0) v f)
       go false = record { number = refl; truth = refl; count = λ z. refl }
 
-  ask-by : (fits ok : Bool) (p : Option Filter)
-      → ByFilter fits ok (isSome (storedValue (typeAt (limits .table) t 0) v)) p (pick fits (pick ok (withFilter (typeAt (limits .table) t 0) v budget p) (refused 2)) (refused 1))
+  ask-by : (fits ok : Bool) (p : Option (Filter Item))
+      → ByFilter fits ok (isSome (storedValue (typeAt (limits .table) t 0) v)) p (pick fits (pick ok (withFilter knownRules (typeAt (limits .table) t 0) v budget p) (refused 2)) (refused 1))
   ask-by false ok p = record { number = refl; truth = refl; count = λ z. refl }
   ask-by true false p = record { number = refl; truth = refl; count = λ z. refl }
   ask-by true true p = filter-by p
 
-pub refuses-filter : (t v s : List ℕ) (budget : ℕ) (r : Report) → r ≡ askReport limits t v s budget → RefusesFilter t v s budget r
+pub refuses-filter : (t v s : List ℕ) (budget : ℕ) (r : Report) → r ≡ askReport limits knownRules t v s budget → RefusesFilter t v s budget r
 unfolding askReport questionOf isStored
 refuses-filter t v s budget r e =
     subst (λ (y : Report). RefusesFilter t v s budget y) (sym e) (ask-by t v budget (questionFits limits t v s budget) (admitted (limits .table) t) (parse (limits .filter) s))

@@ -15,19 +15,21 @@ use Rattle.value.specs.Value.{Value}
 use Rattle.value.specs.Decode.{storedValue}
 use Rattle.reference.specs.Named.{Held, named}
 use Rattle.reference.specs.Numbers.{Component, component}
+use Rattle.rules.specs.Rule.{knownRules}
 use Rattle.rules.specs.Accepts.{accepts}
-use Rattle.filter.specs.Filter.{Item, Join, and, or, Filter, Filters, item, list, inverse, endFilters, next, items}
+use Rattle.filter.specs.Filter.{Item, Join, and, or, Filter, Filters, item, list, items}
 use Rattle.filter.specs.Parse.{parse}
 use Rattle.trail.proofs.Agreeing.{laid, trail-named}
-use Rattle.judge.specs.Truth.{Truth, TRUE, FALSE, UNDEFINED, everyTruth, anyTruth, conjunction, disjunction, joined, opposite, truth, truths, isTrue, isFalse}
-use Rattle.judge.specs.Reading.{Outcome, settled, misfitAfter, andThen, inverted, reading, readingIn}
+use Rattle.judge.specs.Truth.{Truth, TRUE, FALSE, UNDEFINED, everyTruth, anyTruth, conjunction, disjunction, truth, truths, isTrue, isFalse}
+use Rattle.judge.specs.Reading.{Outcome, settled, misfitAfter, reading}
 use Rattle.judge.specs.Assertion.{Asked, asked, testing, outcomeOf, outcome}
 use Rattle.judge.proofs.Laws.{truthOf, Settles, reading-truth}
 use Rattle.judge.proofs.Few.{testsOf, tests-few}
+use Rattle.judge.proofs.Same.{reading-alike, truth-alike, each-so, each-of-all}
 use Rattle.engine.specs.Paper.{limits}
 use Rattle.engine.specs.Answer.{Report, refused, answers, budgeted, questionFits, evaluated, withFilter, questionOf, askReport}
 use Rattle.demands.specs.Named.{acceptsOne, needed, truthBy, itemTruth, itemTests, truthFor, testsFor}
-use Rattle.demands.specs.Truths.{EachItem, EachItems, Alone, Answers, Answered, AnswersTruly}
+use Rattle.demands.specs.Truths.{Alone, Answers, Answered, AnswersTruly}
 use Rattle.demands.specs.Order.{Reordered, none, keeps, swaps, then}
 
 -- ---- an assertion, by what its reference names
@@ -46,27 +48,15 @@ tested-named f hs = let e : 0 + needed f (map component hs) ≡ needed f (map co
 
 module _ (ty : Ty) (v : List ℕ) (x : Value) (decodes : storedValue ty v ≡ some x) where
   abbrev says : Item → Outcome
-  says i = settled (itemTruth ty x i) (itemTests ty x i)
+  says i = settled (itemTruth knownRules ty x i) (itemTests knownRules ty x i)
 
-  outcome-named : (i : Item) → outcome ty v i ≡ says i
+  outcome-named : (i : Item) → outcome knownRules ty v i ≡ says i
   unfolding outcome
-  outcome-named i = go (asked ty i)
+  outcome-named i = go (asked knownRules ty i)
     where
       go : (o : Option Asked) → outcomeOf ty v i o ≡ settled (truthFor x i o) (testsFor x i o)
       go none = refl
-      go (some a) = ap (testing (accepts (a .rule) (i .value)) 0) (trail-named (i .defaults) (a .ids) ty v x decodes) ∙ tested-named (accepts (a .rule) (i .value)) (named (i .defaults) (a .ids) x)
-
-mutual
-  unfolding reading
-
-  reading-same : (f g : Item → Outcome) → ((i : Item) → f i ≡ g i) → (x : Filter) → reading f x ≡ reading g x
-  reading-same f g h (item i) = h i
-  reading-same f g h (list j xs) = readings-same f g h j xs
-  reading-same f g h (inverse x) = ap inverted (reading-same f g h x)
-
-  readings-same : (f g : Item → Outcome) → ((i : Item) → f i ≡ g i) → (j : Join) (xs : Filters) → readingIn f j xs ≡ readingIn g j xs
-  readings-same f g h j endFilters = refl
-  readings-same f g h j (next x xs) = ap₂ (andThen j) (reading-same f g h x) (readings-same f g h j xs)
+      go (some a) = ap (testing (accepts (a .rule) (a .asserted)) 0) (trail-named (i .defaults) (a .ids) ty v x decodes) ∙ tested-named (accepts (a .rule) (a .asserted)) (named (i .defaults) (a .ids) x)
 
 -- ---- a report with a truth: what was read, and what it comes to
 settles : (budget : ℕ) (o : Outcome) (u : Truth) (n : ℕ) → budgeted budget o ≡ answers u n → o ≡ settled u n
@@ -83,19 +73,19 @@ settles budget (misfitAfter k) u n e = absurd (go (leb k budget) e)
     go false q = let z : _≡_ {A = ℕ} 5 0 = ap (λ (r : Report). r .refusal) q in omega arith
 
 module _ (ty : Ty) (v : List ℕ) (budget : ℕ) (u : Truth) (n : ℕ) where
-  abbrev Read : Option Filter → Type 0
-  Read p = (f : Filter) × (p ≡ some f) × (x : Value) × (storedValue ty v ≡ some x) × (reading (outcome ty v) f ≡ settled u n)
+  abbrev Read : Option (Filter Item) → Type 0
+  Read p = (f : Filter Item) × (p ≡ some f) × (x : Value) × (storedValue ty v ≡ some x) × (reading (outcome knownRules ty v) f ≡ settled u n)
 
-  filter-view : (p : Option Filter) → withFilter ty v budget p ≡ answers u n → Read p
+  filter-view : (p : Option (Filter Item)) → withFilter knownRules ty v budget p ≡ answers u n → Read p
   unfolding withFilter evaluated
   filter-view none e = absurd (let z : _≡_ {A = ℕ} 3 0 = ap (λ (r : Report). r .refusal) e in omega arith)
   filter-view (some f) e = go (storedValue ty v) refl e
     where
-      go : (o : Option Value) → storedValue ty v ≡ o → pick (isSome o) (budgeted budget (reading (outcome ty v) f)) (refused 4) ≡ answers u n → Read (some f)
+      go : (o : Option Value) → storedValue ty v ≡ o → pick (isSome o) (budgeted budget (reading (outcome knownRules ty v) f)) (refused 4) ≡ answers u n → Read (some f)
       go none q w = absurd (let z : _≡_ {A = ℕ} 4 0 = ap (λ (r : Report). r .refusal) w in omega arith)
-      go (some x) q w = (f, refl, x, q, settles budget (reading (outcome ty v) f) u n w)
+      go (some x) q w = (f, refl, x, q, settles budget (reading (outcome knownRules ty v) f) u n w)
 
-  view : (fits ok : Bool) (p : Option Filter) → pick fits (pick ok (withFilter ty v budget p) (refused 2)) (refused 1) ≡ answers u n → Read p
+  view : (fits ok : Bool) (p : Option (Filter Item)) → pick fits (pick ok (withFilter knownRules ty v budget p) (refused 2)) (refused 1) ≡ answers u n → Read p
   view true true p e = filter-view p e
   view true false p e = absurd (let z : _≡_ {A = ℕ} 2 0 = ap (λ (r : Report). r .refusal) e in omega arith)
   view false ok p e = absurd (let z : _≡_ {A = ℕ} 1 0 = ap (λ (r : Report). r .refusal) e in omega arith)
@@ -104,41 +94,29 @@ module _ (t v : List ℕ) where
   abbrev ty : Ty
   ty = typeAt (limits .table) t 0
 
-  answer-view : (s : List ℕ) (budget : ℕ) (u : Truth) (n : ℕ) → askReport limits t v s budget ≡ answers u n → Read ty v budget u n (parse (limits .filter) s)
+  answer-view : (s : List ℕ) (budget : ℕ) (u : Truth) (n : ℕ) → askReport limits knownRules t v s budget ≡ answers u n → Read ty v budget u n (parse (limits .filter) s)
   unfolding askReport questionOf
   answer-view s budget u n e = view ty v budget u n (questionFits limits t v s budget) (admitted (limits .table) t) (parse (limits .filter) s) e
 
   module _ (x : Value) (decodes : storedValue ty v ≡ some x) where
     -- the engine's truth for a filter of one item is the item's own
-    alone-is : (u : Truth) (i : Item) → Alone t v u i → u ≡ itemTruth ty x i
+    alone-is : (u : Truth) (i : Item) → Alone t v u i → u ≡ itemTruth knownRules ty x i
     unfolding reading
     alone-is u i a =
         let w = answer-view (a .text) (a .budget) u (a .tests) (a .answered) in
-        let same : _≡_ {A = Option Filter} (some (item i)) (some (w .0)) = sym (a .parses) ∙ w .1 in
+        let same : _≡_ {A = Option (Filter Item)} (some (item i)) (some (w .0)) = sym (a .parses) ∙ w .1 in
         let is : item i ≡ w .0 = cc in
-        let read : outcome ty v i ≡ settled u (a .tests) = ap (reading (outcome ty v)) is ∙ w .4 in
+        let read : outcome knownRules ty v i ≡ settled u (a .tests) = ap (reading (outcome knownRules ty v)) is ∙ w .4 in
         ap truthOf (sym read ∙ outcome-named ty v x decodes i)
 
-    mutual
-      unfolding EachItem truth
-
-      truth-alone : (alone : Item → Truth) (f : Filter) → EachItem (λ i. Alone t v (alone i) i) f → truth alone f ≡ truth (itemTruth ty x) f
-      truth-alone alone (item i) w = alone-is (alone i) i w
-      truth-alone alone (list j fs) w = ap (joined j) (truths-alone alone fs w)
-      truth-alone alone (inverse f) w = ap opposite (truth-alone alone f w)
-
-      truths-alone : (alone : Item → Truth) (fs : Filters) → EachItems (λ i. Alone t v (alone i) i) fs → truths alone fs ≡ truths (itemTruth ty x) fs
-      truths-alone alone endFilters w = refl
-      truths-alone alone (next f fs) w = ap₂ (λ (u : Truth) (us : List Truth). u ∷ us) (truth-alone alone f (w .0)) (truths-alone alone fs (w .1))
-
-    module _ (s : List ℕ) (f : Filter) (u : Truth) (n : ℕ) (read : reading (outcome ty v) f ≡ settled u n) where
+    module _ (s : List ℕ) (f : Filter Item) (u : Truth) (n : ℕ) (read : reading (outcome knownRules ty v) f ≡ settled u n) where
       read-named : reading (says ty v x decodes) f ≡ settled u n
-      read-named = sym (reading-same (outcome ty v) (says ty v x decodes) (outcome-named ty v x decodes) f) ∙ read
+      read-named = sym (reading-alike (outcome knownRules ty v) (says ty v x decodes) f (each-of-all (outcome-named ty v x decodes) f)) ∙ read
 
-      is-truth : u ≡ truth (itemTruth ty x) f
+      is-truth : u ≡ truth (itemTruth knownRules ty x) f
       is-truth = go (reading (says ty v x decodes) f) read-named (reading-truth f (says ty v x decodes))
         where
-          go : (o : Outcome) → o ≡ settled u n → Settles o (truth (itemTruth ty x) f) → u ≡ truth (itemTruth ty x) f
+          go : (o : Outcome) → o ≡ settled u n → Settles o (truth (itemTruth knownRules ty x) f) → u ≡ truth (itemTruth knownRules ty x) f
           go (settled w k) e h = let a : w ≡ u = cc in sym a ∙ h
           go (misfitAfter k) e h = absurd (let z : _≡_ {A = ℕ} 0 1 = cc in omega arith)
 
@@ -146,11 +124,11 @@ module _ (t v : List ℕ) where
       answers-truly = record {
         truth = is-truth;
         tests = read-named;
-        few = subst (λ (o : Outcome). testsOf o ≤ items f * (length v / 2)) read (tests-few ty v x f decodes);
-        larger = λ alone w. is-truth ∙ sym (truth-alone alone f w);
+        few = subst (λ (o : Outcome). testsOf o ≤ length (items f) * (length v / 2)) read (tests-few ty v x f decodes);
+        larger = λ alone w. is-truth ∙ sym (truth-alike alone (itemTruth knownRules ty x) f (each-so (λ i. alone-is (alone i) i) f w));
       }
 
-pub answered-truly : (t v s : List ℕ) (budget : ℕ) (r : Report) → r ≡ askReport limits t v s budget → AnswersTruly t v s r
+pub answered-truly : (t v s : List ℕ) (budget : ℕ) (r : Report) → r ≡ askReport limits knownRules t v s budget → AnswersTruly t v s r
 answered-truly t v s budget r e = record { answered = go }
   where
     go : (u : Truth) (n : ℕ) → r ≡ answers u n → Answered t v s u n
@@ -171,22 +149,22 @@ swap-either true false c = refl
 swap-either false true c = refl
 swap-either false false c = refl
 
-module _ (says : Item → Truth) (test : Truth → Bool) where
-  every-order : {fs gs : Filters} → Reordered fs gs → everyTruth test (truths says fs) ≡ everyTruth test (truths says gs)
+module _ {A : Type 0} (says : A → Truth) (test : Truth → Bool) where
+  every-order : {fs gs : Filters A} → Reordered fs gs → everyTruth test (truths says fs) ≡ everyTruth test (truths says gs)
   unfolding truths everyTruth
   every-order none = refl
   every-order (keeps {f = f} w) = ap (both (test (truth says f))) (every-order w)
   every-order (swaps {f = f} {g = g} {fs = fs}) = swap-both (test (truth says f)) (test (truth says g)) (everyTruth test (truths says fs))
   every-order (then w u) = every-order w ∙ every-order u
 
-  any-order : {fs gs : Filters} → Reordered fs gs → anyTruth test (truths says fs) ≡ anyTruth test (truths says gs)
+  any-order : {fs gs : Filters A} → Reordered fs gs → anyTruth test (truths says fs) ≡ anyTruth test (truths says gs)
   unfolding truths anyTruth
   any-order none = refl
   any-order (keeps {f = f} w) = ap (either (test (truth says f))) (any-order w)
   any-order (swaps {f = f} {g = g} {fs = fs}) = swap-either (test (truth says f)) (test (truth says g)) (anyTruth test (truths says fs))
   any-order (then w u) = any-order w ∙ any-order u
 
-pub order-free : (says : Item → Truth) (j : Join) {fs gs : Filters} → Reordered fs gs → truth says (list j fs) ≡ truth says (list j gs)
+pub order-free : {A : Type 0} (says : A → Truth) (j : Join) {fs gs : Filters A} → Reordered fs gs → truth says (list j fs) ≡ truth says (list j gs)
 unfolding truth conjunction disjunction
 order-free says and w = ap₂ (λ (a b : Bool). pick a TRUE (pick b FALSE UNDEFINED)) (every-order says isTrue w) (any-order says isFalse w)
 order-free says or w = ap₂ (λ (a b : Bool). pick a FALSE (pick b TRUE UNDEFINED)) (every-order says isFalse w) (any-order says isTrue w)

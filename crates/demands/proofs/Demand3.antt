@@ -17,7 +17,8 @@ use Rattle.value.specs.Decode.{storedValue}
 use Rattle.reference.specs.Reference.{Id, identifiers, givenIds}
 use Rattle.reference.specs.Allowed as reference
 use Rattle.reference.specs.Named.{named}
-use Rattle.rules.specs.Rule.{Rule}
+use Rattle.rules.specs.Rule.{knownRules}
+use Rattle.rules.specs.RuleFor.{Comparison}
 use Rattle.rules.specs.Accepts.{accepts}
 use Rattle.filter.specs.Filter.{Item}
 use Rattle.trail.specs.Trail.{trail}
@@ -73,29 +74,29 @@ module _ (t v : List ℕ) (given : Bool) (r : List ℕ) (x : Value) (is : List I
         go true = refl
         go false = refl
 
-    asks-by : asked ty i ≡ bind (ruleFor target i) (λ u. some (record { ids = is; rule = u }))
+    asks-by : asked knownRules ty i ≡ bind (ruleFor target i) (λ u. some (record { ids = is; rule = u .rule; asserted = u .asserted }))
     unfolding asked
     asks-by = rw (the-ids, w .allowed)
 
-    asks-none : ruleFor target i ≡ none → asked ty i ≡ none
+    asks-none : ruleFor target i ≡ none → asked knownRules ty i ≡ none
     asks-none e = asks-by ∙ rw e
 
-    asks-some : (u : Rule) → ruleFor target i ≡ some u → asked ty i ≡ some (record { ids = is; rule = u })
+    asks-some : (u : Comparison) → ruleFor target i ≡ some u → asked knownRules ty i ≡ some (record { ids = is; rule = u .rule; asserted = u .asserted })
     asks-some u e = asks-by ∙ rw e
 
-    report-by : askReport limits t v s budget ≡ budgeted budget (outcomeOf ty v i (asked ty i))
+    report-by : askReport limits knownRules t v s budget ≡ budgeted budget (outcomeOf ty v i (asked knownRules ty i))
     unfolding askReport questionOf withFilter evaluated reading outcome
     report-by = rw (fits, w .admitted, p .parses, stored)
 
-    asserts-demanded : (b : Report) → b ≡ askReport limits t v s budget → Asserted i budget target (components defaults is x) b
+    asserts-demanded : (b : Report) → b ≡ askReport limits knownRules t v s budget → Asserted i budget target (components defaults is x) b
     unfolding budgeted
     asserts-demanded b q = record {
       undefined = λ e. q ∙ report-by ∙ rw (asks-none e, le-leb 0 budget (omega arith));
-      defined = λ u e h. q ∙ report-by ∙ rw (asks-some u e, p .same-choice, the-trail, tested-named (accepts u (i .value)) (named defaults is x), le-leb (needed (accepts u (i .value)) (components defaults is x)) budget h);
+      defined = λ u e h. q ∙ report-by ∙ rw (asks-some u e, p .same-choice, the-trail, tested-named (accepts (u .rule) (u .asserted)) (named defaults is x), le-leb (needed (accepts (u .rule) (u .asserted)) (components defaults is x)) budget h);
     }
 
 pub demanded : (t v : List ℕ) (given : Bool) (r : List ℕ) (defaults : Bool) (room s : List ℕ) (budget : ℕ) (l : Listing) (b : Report)
-    → l ≡ listReport limits t v given r defaults room → b ≡ askReport limits t v s budget → Demanded t v given r defaults room s budget l b
+    → l ≡ listReport limits t v given r defaults room → b ≡ askReport limits knownRules t v s budget → Demanded t v given r defaults room s budget l b
 demanded t v given r defaults room s budget l b lists asks = record {
   listed = λ x is target w. lists-demanded t v given r x is target w defaults room l lists;
   asserted = λ x is target w i p. asserts-demanded t v given r x is target w defaults s i budget p b asks;

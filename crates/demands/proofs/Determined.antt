@@ -245,5 +245,5 @@ named-determined l t v x e defaults is =
       each = back;
       all = each-map (readBack l t v) (components defaults is x) back;
       listed = each-listed l t v (components defaults is x) back;
-      acceptance = λ u text. each-accepted (accepts u text) (readBack l t v) (components defaults is x) back;
+      acceptance = λ u a. each-accepted (accepts u a) (readBack l t v) (components defaults is x) back;
     }

@@ -14,8 +14,9 @@ use Rattle.value.specs.Decode.{storedValue}
 use Rattle.reference.specs.Reference.{Id, givenIds}
 use Rattle.reference.specs.Allowed as reference
 use Rattle.reference.specs.Numbers.{Component, threes}
-use Rattle.rules.specs.Rule.{Rule}
+use Rattle.rules.specs.Rule.{knownRules}
 use Rattle.rules.specs.RuleFor as rules
+use Rattle.rules.specs.RuleFor.{Comparison}
 use Rattle.rules.specs.Accepts.{accepts}
 use Rattle.filter.specs.Filter.{Item, item}
 use Rattle.filter.specs.Parse.{filterFits, parse}
@@ -60,16 +61,16 @@ pub record Put (given : Bool) (r : List ℕ) (defaults : Bool) (s : List ℕ) (i
   pub same-reference : i .component ≡ pick given (some r) none
   pub same-choice : i .defaults ≡ defaults
 
--- its rule, where document 01 doesn't make it Undefined: the rule is known, for the target, and the value text conforms
-abbrev pub ruleFor : reference.Target → Item → Option Rule
-ruleFor target i = rules.ruleFor target (i .rule) (i .value)
+-- its rule with what it asserts, where document 01 doesn't make it Undefined: the rule is known, for the target, and the value text conforms
+abbrev pub ruleFor : reference.Target → Item → Option Comparison
+ruleFor target i = rules.ruleFor knownRules target (i .rule) (i .value)
 
 pub record Asserted (i : Item) (budget : ℕ) (target : reference.Target) (cs : List Component) (b : answer.Report) : Type 0 where
   -- where document 01 makes it Undefined
   pub undefined : ruleFor target i ≡ none → b ≡ answer.answers UNDEFINED 0
   -- "with .. budget enough, if document 01 .. doesn't make it Undefined, it is TRUE if its rule accepts at least one value on that list, else FALSE"
-  pub defined : (u : Rule) → ruleFor target i ≡ some u → needed (accepts u (i .value)) cs ≤ budget
-      → b ≡ answer.answers (truthBy (accepts u (i .value)) cs) (needed (accepts u (i .value)) cs)
+  pub defined : (u : Comparison) → ruleFor target i ≡ some u → needed (accepts (u .rule) (u .asserted)) cs ≤ budget
+      → b ≡ answer.answers (truthBy (accepts (u .rule) (u .asserted)) cs) (needed (accepts (u .rule) (u .asserted)) cs)
 
 -- ---- in one piece: a listing l with its memory and a filter's report b
 pub record Demanded (t v : List ℕ) (given : Bool) (r : List ℕ) (defaults : Bool) (room s : List ℕ) (budget : ℕ) (l : Listing) (b : answer.Report) : Type 0 where

@@ -8,6 +8,7 @@ use lib.ListN.{replicate}
 use Rattle.octets.specs.Octets.{bytes, hex}
 use Rattle.table.specs.Paper.{licence}
 use Rattle.value.specs.Paper.{licenceRecord}
+use Rattle.rules.specs.Rule.{knownRules}
 use Rattle.engine.specs.Paper.{limits}
 use Rattle.judge.specs.Truth.{Truth, TRUE, FALSE, UNDEFINED}
 use Rattle.engine.specs.Answer as answer
@@ -40,7 +41,7 @@ noRoom n size = listed (listing.refusedList n (replicate size 99))
 
 -- what the definitions say of the licence table and a record; a room is lent full of the number 99
 unfoldable pub replyFor : List ℕ → Question → Reply
-replyFor v (asks f budget) = answered (answer.askReport limits licence v f budget)
+replyFor v (asks f budget) = answered (answer.askReport limits knownRules licence v f budget)
 replyFor v (lists r n) = listed (listing.listReport limits licence v true (bytes r) true (replicate n 99))
 
 pub record Row : Type 0 where

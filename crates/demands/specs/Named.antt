@@ -10,6 +10,7 @@ use Rattle.value.specs.Value.{Value}
 use Rattle.reference.specs.Reference.{Id}
 use Rattle.reference.specs.Named.{named}
 use Rattle.reference.specs.Numbers.{Component, component}
+use Rattle.rules.specs.Rule.{Known}
 use Rattle.rules.specs.Accepts.{accepts}
 use Rattle.filter.specs.Filter.{Item}
 use Rattle.judge.specs.Truth.{Truth, TRUE, FALSE, UNDEFINED}
@@ -33,17 +34,17 @@ needed accepted (c ∷ cs) = let more = suc (needed accepted cs) in pick (accept
 abbrev pub truthBy : (Component → Bool) → List Component → Truth
 truthBy accepted cs = pick (acceptsOne accepted cs) TRUE FALSE
 
--- ---- an assertion about a decoded value, by what it asks of the type: nothing where document 01 makes it Undefined
+-- ---- an assertion about a decoded value, by what it asks of the type: nothing where document 01 makes it Undefined; ks are the known rules
 abbrev pub truthFor : Value → Item → Option Asked → Truth
 truthFor x i none = UNDEFINED
-truthFor x i (some a) = truthBy (accepts (a .rule) (i .value)) (components (i .defaults) (a .ids) x)
+truthFor x i (some a) = truthBy (accepts (a .rule) (a .asserted)) (components (i .defaults) (a .ids) x)
 
 abbrev pub testsFor : Value → Item → Option Asked → ℕ
 testsFor x i none = 0
-testsFor x i (some a) = needed (accepts (a .rule) (i .value)) (components (i .defaults) (a .ids) x)
+testsFor x i (some a) = needed (accepts (a .rule) (a .asserted)) (components (i .defaults) (a .ids) x)
 
-abbrev pub itemTruth : Ty → Value → Item → Truth
-itemTruth ty x i = truthFor x i (asked ty i)
+abbrev pub itemTruth : List Known → Ty → Value → Item → Truth
+itemTruth ks ty x i = truthFor x i (asked ks ty i)
 
-abbrev pub itemTests : Ty → Value → Item → ℕ
-itemTests ty x i = testsFor x i (asked ty i)
+abbrev pub itemTests : List Known → Ty → Value → Item → ℕ
+itemTests ks ty x i = testsFor x i (asked ks ty i)

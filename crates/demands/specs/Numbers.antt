@@ -11,6 +11,7 @@ use Rattle.table.specs.Types.{memberOf}
 use Rattle.reader.specs.There.{contentsThere}
 use Rattle.reference.specs.Numbers.{Component, stored, byDefault, byCount, Numbers, numbersOf, threes}
 use Rattle.rules.specs.Rule.{Rule}
+use Rattle.rules.specs.Asserted.{Asserted}
 use Rattle.rules.specs.Accepts.{accepts}
 use Rattle.demands.specs.Named.{acceptsOne}
 
@@ -51,4 +52,4 @@ pub record Determined (l : Limits) (t v : List ℕ) (cs : List Component) : Type
   pub each : Each (λ c. readBack l t v c ≡ c) cs
   pub all : map (readBack l t v) cs ≡ cs
   pub listed : componentsBy l t v (threes cs) ≡ cs
-  pub acceptance : (u : Rule) (text : List ℕ) → acceptsOne (accepts u text) cs ≡ acceptsOne (λ c. accepts u text (readBack l t v c)) cs
+  pub acceptance : (u : Rule) (a : Asserted) → acceptsOne (accepts u a) cs ≡ acceptsOne (λ c. accepts u a (readBack l t v c)) cs

@@ -17,9 +17,10 @@ use Rattle.value.specs.Check.{ValueReport, valueFits, isStored}
 use Rattle.reference.specs.Reference.{givenIds}
 use Rattle.reference.specs.Allowed.{allowed}
 use Rattle.reference.specs.Numbers.{Component}
-use Rattle.filter.specs.Filter.{Filter}
+use Rattle.filter.specs.Filter.{Item, Filter}
 use Rattle.filter.specs.Parse.{parse}
 use Rattle.trail.specs.Trail.{trail, hasMisfit}
+use Rattle.rules.specs.Rule.{knownRules}
 use Rattle.judge.specs.Reading.{Outcome, settled, misfitAfter}
 use Rattle.engine.specs.Paper.{limits}
 use Rattle.engine.specs.Answer.{Report, questionFits, evaluated}
@@ -104,12 +105,12 @@ isMisfit (settled u n) = Bool.false
 isMisfit (misfitAfter n) = Bool.true
 
 -- 5: "tests needed exceed the budget", counted up to a header that doesn't fit where one is reached
-abbrev pub over : List ℕ → List ℕ → ℕ → Filter → Bool
-over t v budget f = no (enough budget (evaluated (typeAt (limits .table) t 0) v f))
+abbrev pub over : List ℕ → List ℕ → ℕ → Filter Item → Bool
+over t v budget f = no (enough budget (evaluated knownRules (typeAt (limits .table) t 0) v f))
 
 -- 7: such a header is reached
-abbrev pub misfits : List ℕ → List ℕ → Filter → Bool
-misfits t v f = isMisfit (evaluated (typeAt (limits .table) t 0) v f)
+abbrev pub misfits : List ℕ → List ℕ → Filter Item → Bool
+misfits t v f = isMisfit (evaluated knownRules (typeAt (limits .table) t 0) v f)
 
 abbrev pub RefusesFilter : List ℕ → List ℕ → List ℕ → ℕ → Report → Type 0
 RefusesFilter t v s budget r =

@@ -6,6 +6,7 @@ use Prim.Native.Nat.{ℕ}
 use Prim.Native.String.{String}
 use Rattle.octets.specs.Octets.{bytes, hex}
 use Rattle.table.specs.Paper.{memberRow}
+use Rattle.rules.specs.Rule.{knownRules}
 use Rattle.engine.specs.Paper.{limits}
 use Rattle.judge.specs.Truth.{TRUE, FALSE, UNDEFINED}
 use Rattle.engine.specs.Answer.{Report, answers, askReport}
@@ -60,7 +61,7 @@ unfolding engineComputes
 descriptions-good = refl
 
 unfoldable pub answerOf : List ℕ → List ℕ → Report
-answerOf f v = askReport limits objectClassDescription v f 65535
+answerOf f v = askReport limits knownRules objectClassDescription v f 65535
 
 unfoldable pub asked : String → List Report
 asked f = map (answerOf (bytes f)) described

@@ -14,6 +14,7 @@ use Rattle.table.specs.Check as table
 use Rattle.value.specs.Paper.{valueLimits}
 use Rattle.value.specs.Check as value
 use Rattle.value.specs.Part as part
+use Rattle.rules.specs.Rule.{knownRules}
 use Rattle.engine.specs.Paper.{limits}
 use Rattle.judge.specs.Truth.{Truth, TRUE, FALSE, UNDEFINED}
 use Rattle.engine.specs.Answer as answer
@@ -58,7 +59,7 @@ abbrev pub showAnswer : answer.Report → List ℕ
 showAnswer r = answered (r .refusal) (truthNumber (r .truth) ∷ r .tests ∷ [])
 
 abbrev pub shownAsk : List ℕ → List ℕ → List ℕ → ℕ → List ℕ
-shownAsk t v f budget = showAnswer (answer.askReport limits t v f budget)
+shownAsk t v f budget = showAnswer (answer.askReport limits knownRules t v f budget)
 
 -- then the number of values and their numbers
 abbrev pub showListing : listing.Listing → List ℕ

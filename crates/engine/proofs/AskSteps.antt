@@ -22,8 +22,9 @@ use Rattle.value.specs.Paper.{valueLimits}
 use Rattle.value.specs.Decode.{storedValue}
 use Rattle.value.specs.Check.{valueFits}
 use Rattle.value.proofs.EntrySteps.{not-admitted, is-admitted, rows-are, stored-here}
+use Rattle.rules.specs.Rule.{knownRules}
 use Rattle.assertion.specs.Assertion.{Read}
-use Rattle.filter.specs.Filter.{Filter}
+use Rattle.filter.specs.Filter.{Item, Filter}
 use Rattle.filter.specs.Parse.{filterFits, filterAt, parse}
 use Rattle.filter.specs.Paper.{filterLimits}
 use Rattle.filter.specs.inner.Answers as filter
@@ -102,7 +103,7 @@ module _ (s : List ℕ) (r : Reading) (told : filter.report r ≡ filter.itemsOf
   is-malformed e = counted-none (parse filterLimits s) (sym (ap filter.report e) ∙ told)
 
   module _ (f : declared.Filter) (good : r ≡ Reading.Good f) where
-    the-filter : (g : Filter) × (parse filterLimits s ≡ some g)
+    the-filter : (g : Filter Item) × (parse filterLimits s ≡ some g)
     the-filter = let w = counted-some (parse filterLimits s) (f .items) (sym (ap filter.report good) ∙ told) in (w .0, w .1 .0)
 
     read-at : filterAt s 0 ≡ some (record { is = the-filter .0; after = length s })
@@ -112,18 +113,18 @@ module _ (s : List ℕ) (r : Reading) (told : filter.report r ≡ filter.itemsOf
     typed-read = ap isSome read-at
 
 module _ (ty : Ty) (v s : List ℕ) (budget : ℕ) (r : Reading) (told : filter.report r ≡ filter.itemsOf (parse filterLimits s)) where
-  pub typed-malformed : r ≡ Reading.Bad → refused 3 ≡ withFilter ty v budget (parse filterLimits s)
+  pub typed-malformed : r ≡ Reading.Bad → refused 3 ≡ withFilter knownRules ty v budget (parse filterLimits s)
   unfolding withFilter
   typed-malformed e = rw (is-malformed s r told e)
 
   module _ (f : declared.Filter) (good : r ≡ Reading.Good f) (x : Bool) (stored : x ≡ isSome (storedValue ty v)) where
-    pub typed-bad : not x ≡ true → refused 4 ≡ withFilter ty v budget (parse filterLimits s)
+    pub typed-bad : not x ≡ true → refused 4 ≡ withFilter knownRules ty v budget (parse filterLimits s)
     unfolding withFilter
     typed-bad e = rw (the-filter s r told f good .1, sym stored ∙ not-true x e)
 
-    pub typed-judged : (a : Report) → not x ≡ false → a ≡ judgedReport (judgedText (outcome ty v) budget (filterAt s 0)) → a ≡ withFilter ty v budget (parse filterLimits s)
+    pub typed-judged : (a : Report) → not x ≡ false → a ≡ judgedReport (judgedText (outcome knownRules ty v) budget (filterAt s 0)) → a ≡ withFilter knownRules ty v budget (parse filterLimits s)
     unfolding withFilter judgedText evaluated
-    typed-judged a e q = q ∙ ap (λ (o : Option (Read Filter)). judgedReport (judgedText (outcome ty v) budget o)) (read-at s r told f good) ∙ budget-told budget (reading (outcome ty v) (the-filter s r told f good .0)) ∙ sym (rw (the-filter s r told f good .1, sym stored ∙ not-false x e) refl)
+    typed-judged a e q = q ∙ ap (λ (o : Option (Read (Filter Item))). judgedReport (judgedText (outcome knownRules ty v) budget o)) (read-at s r told f good) ∙ budget-told budget (reading (outcome knownRules ty v) (the-filter s r told f good .0)) ∙ sym (rw (the-filter s r told f good .1, sym stored ∙ not-false x e) refl)
 
 pub typed-ready : (t s m v : List ℕ) (x : Bool) → Sound (tableLimits .chain) t s m → NamesDiffer t s → 0 < length s → s ≡ tableRows t → length v ≤ 65536
     → x ≡ isSome (storedValue (words.typeAt t 0) v) → not x ≡ false → Ready (tableLimits .chain) t s m v
@@ -132,7 +133,7 @@ typed-ready t s m v x sound names here places short stored e =
 
 -- ---- 2, then the others
 module _ (t v s : List ℕ) (budget n : ℕ) (count : n ≡ rowCount tableLimits t) where
-  pub admitted-not : n ≡ 0 → refused 2 ≡ questionOf limits t v s budget
+  pub admitted-not : n ≡ 0 → refused 2 ≡ questionOf limits knownRules t v s budget
   unfolding questionOf
   admitted-not z = rw (not-admitted tableLimits t [] [] n count z)
 
@@ -143,19 +144,19 @@ module _ (t v s : List ℕ) (budget n : ℕ) (count : n ≡ rowCount tableLimits
     pub names-here : NamesDiffer t (take n starts)
     names-here = subst (λ (s : List ℕ). NamesDiffer t s) (sym the-rows) (names-apart tableLimits t (is-admitted tableLimits t starts masks n count z) refl)
 
-    pub admitted-is : (a : Answer) → report a ≡ withFilter (typeFrom (tableLimits .chain) t (take n starts) 0) v budget (parse filterLimits s) → report a ≡ questionOf limits t v s budget
+    pub admitted-is : (a : Answer) → report a ≡ withFilter knownRules (typeFrom (tableLimits .chain) t (take n starts) 0) v budget (parse filterLimits s) → report a ≡ questionOf limits knownRules t v s budget
     unfolding questionOf typeAt
     admitted-is a told =
-        told ∙ ap (λ (y : List ℕ). withFilter (typeFrom (tableLimits .chain) t y 0) v budget (parse filterLimits s)) the-rows
+        told ∙ ap (λ (y : List ℕ). withFilter knownRules (typeFrom (tableLimits .chain) t y 0) v budget (parse filterLimits s)) the-rows
         ∙ rw (is-admitted tableLimits t starts masks n count z)
 
 -- ---- 1, then the others
 module _ (t v s : List ℕ) (budget : ℕ) (b : Bool) (fits : b ≡ questionFits limits t v s budget) where
-  pub sizes-not : not b ≡ true → refused 1 ≡ askReport limits t v s budget
+  pub sizes-not : not b ≡ true → refused 1 ≡ askReport limits knownRules t v s budget
   unfolding askReport
   sizes-not e = rw (sym fits ∙ not-true b e)
 
-  pub sizes-are : (a : Answer) → not b ≡ false → report a ≡ questionOf limits t v s budget → report a ≡ askReport limits t v s budget
+  pub sizes-are : (a : Answer) → not b ≡ false → report a ≡ questionOf limits knownRules t v s budget → report a ≡ askReport limits knownRules t v s budget
   unfolding askReport
   sizes-are a e q = rw (sym fits ∙ not-false b e) q
 

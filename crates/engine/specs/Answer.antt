@@ -11,7 +11,8 @@ use Rattle.table.specs.Types.{Ty, typeAt}
 use Rattle.table.specs.Admitted.{admitted}
 use Rattle.value.specs.Decode.{storedValue}
 use Rattle.value.specs.Check.{valueFits}
-use Rattle.filter.specs.Filter.{Filter}
+use Rattle.rules.specs.Rule.{Known}
+use Rattle.filter.specs.Filter.{Item, Filter}
 use Rattle.filter.specs.Parse.{filterFits, parse}
 use Rattle.engine.specs.Limits.{Limits}
 use Rattle.judge.specs.Truth.{Truth, TRUE, FALSE, UNDEFINED}
@@ -40,22 +41,22 @@ budgeted budget (misfitAfter n) = pick (leb n budget) (refused 7) (refused 5)
 unfoldable pub questionFits : Limits → List ℕ → List ℕ → List ℕ → ℕ → Bool
 questionFits l t v s budget = both (tableFits (l .table) t) (both (valueFits (l .value) v) (both (filterFits (l .filter) s) (leb budget (l .budget))))
 
--- a filter that has been read, put to a value of a type
-unfoldable pub evaluated : Ty → List ℕ → Filter → Outcome
-evaluated ty v f = reading (outcome ty v) f
+-- a filter that has been read, put to a value of a type; ks are the known rules
+unfoldable pub evaluated : List Known → Ty → List ℕ → Filter Item → Outcome
+evaluated ks ty v f = reading (outcome ks ty v) f
 
 -- 3: "filter not of the form above, or over depth or items"; then 4: "value not as above", by the type of row 0
-unfoldable pub withFilter : Ty → List ℕ → ℕ → Option Filter → Report
-withFilter ty v budget none = refused 3
-withFilter ty v budget (some f) = pick (isSome (storedValue ty v)) (budgeted budget (evaluated ty v f)) (refused 4)
+unfoldable pub withFilter : List Known → Ty → List ℕ → ℕ → Option (Filter Item) → Report
+withFilter ks ty v budget none = refused 3
+withFilter ks ty v budget (some f) = pick (isSome (storedValue ty v)) (budgeted budget (evaluated ks ty v f)) (refused 4)
 
 -- 2, then 3 and the others
-unfoldable pub questionOf : Limits → List ℕ → List ℕ → List ℕ → ℕ → Report
-questionOf l t v s budget = pick (admitted (l .table) t) (withFilter (typeAt (l .table) t 0) v budget (parse (l .filter) s)) (refused 2)
+unfoldable pub questionOf : Limits → List Known → List ℕ → List ℕ → List ℕ → ℕ → Report
+questionOf l ks t v s budget = pick (admitted (l .table) t) (withFilter ks (typeAt (l .table) t 0) v budget (parse (l .filter) s)) (refused 2)
 
 -- 1, then the others
-unfoldable pub askReport : Limits → List ℕ → List ℕ → List ℕ → ℕ → Report
-askReport l t v s budget = pick (questionFits l t v s budget) (questionOf l t v s budget) (refused 1)
+unfoldable pub askReport : Limits → List Known → List ℕ → List ℕ → List ℕ → ℕ → Report
+askReport l ks t v s budget = pick (questionFits l t v s budget) (questionOf l ks t v s budget) (refused 1)
 
 -- ---- what the code's answer says
 abbrev pub report : Answer → Report

@@ -15,6 +15,7 @@ use Rattle.reference.specs.Numbers.{threes}
 use Rattle.judge.specs.Truth.{TRUE, FALSE, UNDEFINED}
 use Rattle.judge.specs.Reading.{settled, misfitAfter}
 use Rattle.trail.specs.Trail.{Trail, trail, hasMisfit, reached}
+use Rattle.rules.specs.Rule.{knownRules}
 use Rattle.engine.specs.Answer as answer
 use Rattle.engine.specs.Answer.{budgeted, askReport}
 use Rattle.engine.specs.Listing.{Listing, listReport, refusedList, lists}
@@ -28,7 +29,7 @@ budgets = refl
 
 -- ---- the licence record
 ask : String → answer.Report
-ask s = askReport limits licence licenceRecord (bytes s) 65535
+ask s = askReport limits knownRules licence licenceRecord (bytes s) 65535
 
 -- Undefined: malformed or unknown reference; unknown rule; a rule not for the type; a value text that doesn't conform. FALSE: nothing is named
 assertions : map ask ("item:{component \"\",rule presentMatch,value NULL}" ∷ "item:{component \"seat\",rule presentMatch,value NULL}" ∷ "item:{component \"seats\",rule noSuchMatch,value 1}"
@@ -43,9 +44,9 @@ assertions = refl
 abbrev bad : List ℕ
 bad = hex "3000"
 
-refusals : askReport limits [] bad (bytes "x") 65536 ∷ askReport limits licence [] (bytes "x") 0 ∷ askReport limits licence licenceRecord [] 0 ∷ askReport limits licence bad (bytes "x") 65536
-    ∷ askReport limits (0 ∷ []) bad (bytes "x") 0 ∷ askReport limits licence bad (bytes "x") 0 ∷ askReport limits licence bad (bytes "item:{component \"seats\",rule presentMatch,value NULL}") 0
-    ∷ askReport limits licence licenceRecord (bytes "item:{component \"seats\",rule presentMatch,value NULL}") 0 ∷ []
+refusals : askReport limits knownRules [] bad (bytes "x") 65536 ∷ askReport limits knownRules licence [] (bytes "x") 0 ∷ askReport limits knownRules licence licenceRecord [] 0 ∷ askReport limits knownRules licence bad (bytes "x") 65536
+    ∷ askReport limits knownRules (0 ∷ []) bad (bytes "x") 0 ∷ askReport limits knownRules licence bad (bytes "x") 0 ∷ askReport limits knownRules licence bad (bytes "item:{component \"seats\",rule presentMatch,value NULL}") 0
+    ∷ askReport limits knownRules licence licenceRecord (bytes "item:{component \"seats\",rule presentMatch,value NULL}") 0 ∷ []
     ≡ answer.refused 1 ∷ answer.refused 1 ∷ answer.refused 1 ∷ answer.refused 1 ∷ answer.refused 2 ∷ answer.refused 3 ∷ answer.refused 4 ∷ answer.refused 5 ∷ []
 unfolding engineComputes
 refusals = refl

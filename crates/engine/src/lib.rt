@@ -29,6 +29,7 @@ ghost use Rattle.engine.specs.Listing.{report, lists, walked, referenceF
 ghost use Rattle.engine.specs.Paper.{limits};
 ghost use Rattle.rows.specs.Paper.{tableLimits};
 ghost use Rattle.table.specs.inner.Rows.{rowType};
+ghost use Rattle.rules.specs.Rule.{knownRules};
 ghost use Rattle.words.specs.inner.Rows.{tableRows};
 ghost use Rattle.words.specs.inner.Words.{Worded};
 
@@ -260,7 +261,7 @@ fn ask_judged(t: &[u8], s: &[usize], m: &[u64], v: &[u8], filter: &[u8], budget:
     requires ready { ⌜ Ready (tableLimits .chain) (now t) (now s) (now m) (now v) ⌝ }
     requires read { ⌜ isSome (filterAt (now filter) 0) ≡ true ⌝ }
     ensures { λ a. ⌜ answer.report a
-        ≡ judgedReport (judgedText (outcome (rowType (now (t .entry)) (now (s .entry)) 0) (now (v .entry))) budget
+        ≡ judgedReport (judgedText (outcome knownRules (rowType (now (t .entry)) (now (s .entry)) 0) (now (v .entry))) budget
         (filterAt (now (filter .entry)) 0)) ⌝ }
 {
     match judge::judge(t, s, m, v, filter, budget) {
@@ -287,7 +288,7 @@ fn ask_typed(
     requires worded { ⌜ Worded (now t) (now w) ⌝ }
     requires short { ⌜ length (now v) ≤ 65536 ⌝ }
     ensures { λ a. ⌜ answer.report a
-        ≡ answer.withFilter (rowType (now (t .entry)) (now (s .entry)) 0) (now (v .entry)) budget (parse filterLimits (now (filter .entry))) ⌝ }
+        ≡ answer.withFilter knownRules (rowType (now (t .entry)) (now (s .entry)) 0) (now (v .entry)) budget (parse filterLimits (now (filter .entry))) ⌝ }
 {
     let Reading::Good(_) = filter::read(filter) else {
         return Answer::Refused(3);
@@ -301,7 +302,7 @@ fn ask_typed(
 // The answer where sizes and budget are within limits.
 fn ask_admitted(table: &[u8], value: &[u8], filter: &[u8], budget: usize) -> Answer
     requires short { ⌜ length (now value) ≤ 65536 ⌝ }
-    ensures { λ a. ⌜ answer.report a ≡ answer.questionOf limits (now (table .entry)) (now (value .entry)) (now (filter .entry)) budget ⌝ }
+    ensures { λ a. ⌜ answer.report a ≡ answer.questionOf limits knownRules (now (table .entry)) (now (value .entry)) (now (filter .entry)) budget ⌝ }
 {
     let mut starts = [0usize; Table::MAX_ROWS];
     let mut masks = [0u64; Table::MAX_ROWS];
@@ -316,7 +317,7 @@ fn ask_admitted(table: &[u8], value: &[u8], filter: &[u8], budget: usize) -> Ans
 
 // The answer to a filter over a value: any octets for table, value and filter, any budget.
 pub fn ask(table: &[u8], value: &[u8], filter: &[u8], budget: u64) -> Answer
-    ensures { λ a. ⌜ answer.report a ≡ answer.askReport limits (now (table .entry)) (now (value .entry)) (now (filter .entry)) budget ⌝ }
+    ensures { λ a. ⌜ answer.report a ≡ answer.askReport limits knownRules (now (table .entry)) (now (value .entry)) (now (filter .entry)) budget ⌝ }
 {
     if !question_fits(table, value, filter, budget) {
         return Answer::Refused(1);

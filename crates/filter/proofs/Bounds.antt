@@ -8,12 +8,12 @@ use native.Mathlib.Omega.{arith}
 use native.Mathlib.Nat.{sub-zero}
 use borrow.Author.Tests.{le-leb, lt-leb, leb-true, leb-false}
 use lib.Dec.{leb}
+use lib.ListN.{length, length-append}
 use Rattle.octets.specs.Pick.{pick, both, bind}
 use Rattle.octets.specs.Octets.{larger}
 use Rattle.octets.proofs.TextLaws.{larger-least, larger-most}
-use Rattle.assertion.specs.Item.{Item}
 use Rattle.assertion.specs.Assertion.{Read, readTo}
-use Rattle.filter.specs.Filter.{Join, Filter, Filters, item, list, inverse, endFilters, next, depth, depthIn, items, itemsIn}
+use Rattle.filter.specs.Filter.{Item, Join, Filter, Filters, item, list, inverse, endFilters, next, depth, depthIn, items, itemsIn}
 use Rattle.filter.specs.Parse.{made, byTail, another, closed, noTail, Tail, afterFirst, tailAt}
 use Rattle.filter.specs.inner.Answers.{fitting, bounded, boundedIn}
 use Rattle.filter.specs.declared.Span.{Span}
@@ -72,13 +72,18 @@ fit-deeper d room deep used end h =
     rw a
 
 -- ---- filters
-depth-positive : (f : Filter) → 1 ≤ depth f
+-- the items of a list are those of its first filter and those of the rest
+more-items : (f : Filter Item) (fs : Filters Item) → length (items f) + length (itemsIn fs) ≡ length (itemsIn (next f fs))
+unfolding items
+more-items f fs = sym (length-append (items f) (itemsIn fs))
+
+depth-positive : (f : Filter Item) → 1 ≤ depth f
 unfolding depth
 depth-positive (item i) = omega arith
 depth-positive (list j fs) = omega arith
 depth-positive (inverse f) = omega arith
 
-pub bounded-none : (d room : ℕ) (x : Option (Read Filter)) → d ≡ 0 → Span.Bad ≡ bounded d room x
+pub bounded-none : (d room : ℕ) (x : Option (Read (Filter Item))) → d ≡ 0 → Span.Bad ≡ bounded d room x
 unfolding bounded
 bounded-none d room none e = refl
 bounded-none d room (some r) e = let h : d < depth (r .is) = omega (arith, depth-positive (r .is)) in rw (lt-leb (depth (r .is)) d h)
@@ -93,52 +98,57 @@ module _ (d room : ℕ) (h : 0 < d) where
   unfolding bounded depth items
   bounded-empty j p = let g : 0 ≤ room = omega arith in rw (le-leb 1 d h, le-leb 0 room g, sub-zero)
 
-  pub bounded-list : (j : Join) (x : Option (Read Filters)) → boundedIn (d - 1) room x ≡ bounded d room (made (list j) x)
+  pub bounded-list : (j : Join) (x : Option (Read (Filters Item))) → boundedIn (d - 1) room x ≡ bounded d room (made (list j) x)
   unfolding bounded boundedIn depth items
   bounded-list j none = refl
-  bounded-list j (some r) = fit-deeper d room (depthIn (r .is)) (itemsIn (r .is)) (r .after) h
+  bounded-list j (some r) = fit-deeper d room (depthIn (r .is)) (length (itemsIn (r .is))) (r .after) h
 
-  pub bounded-negation : (x : Option (Read Filter)) → bounded (d - 1) room x ≡ bounded d room (made inverse x)
+  pub bounded-negation : (x : Option (Read (Filter Item))) → bounded (d - 1) room x ≡ bounded d room (made inverse x)
   unfolding bounded depth items
   bounded-negation none = refl
-  bounded-negation (some r) = fit-deeper d room (depth (r .is)) (items (r .is)) (r .after) h
+  bounded-negation (some r) = fit-deeper d room (depth (r .is)) (length (items (r .is))) (r .after) h
 
 -- ---- lists: the first filter was read, and left so many items
 module _ (d room : ℕ) where
-  pub bounded-of : (x : Option (Read Filter)) (q rest : ℕ) → Span.Of q rest ≡ bounded d room x
-      → (r : Read Filter) × ((x ≡ some r) × (((depth (r .is) ≤ d) × (items (r .is) ≤ room)) × ((q ≡ r .after) × (rest ≡ room - items (r .is)))))
+  pub bounded-of : (x : Option (Read (Filter Item))) (q rest : ℕ) → Span.Of q rest ≡ bounded d room x
+      → (r : Read (Filter Item)) × ((x ≡ some r) × (((depth (r .is) ≤ d) × (length (items (r .is)) ≤ room)) × ((q ≡ r .after) × (rest ≡ room - length (items (r .is))))))
   unfolding bounded
   bounded-of none q rest e = let z : _≡_ {A = ℕ} 0 1 = cc in absurd (omega arith)
-  bounded-of (some r) q rest e = (r, (refl, of-fits d room (depth (r .is)) (items (r .is)) (r .after) q rest e))
+  bounded-of (some r) q rest e = (r, (refl, of-fits d room (depth (r .is)) (length (items (r .is))) (r .after) q rest e))
 
-  bad-tail : (f : Read Filter) (lists : ℕ → Option (Read Filters)) (t : Tail) → Span.Bad ≡ bounded d room (some f) → Span.Bad ≡ boundedIn d room (byTail lists (f .is) t)
+  bad-tail : (f : Read (Filter Item)) (lists : ℕ → Option (Read (Filters Item))) (t : Tail) → Span.Bad ≡ bounded d room (some f) → Span.Bad ≡ boundedIn d room (byTail lists (f .is) t)
   unfolding bounded boundedIn depth items
   bad-tail f lists (another p) e = go (lists p)
     where
-      go : (x : Option (Read Filters)) → Span.Bad ≡ boundedIn d room (made (next (f .is)) x)
+      go : (x : Option (Read (Filters Item))) → Span.Bad ≡ boundedIn d room (made (next (f .is)) x)
       go none = refl
       go (some l) =
-          bad-fits d room (depth (f .is)) (items (f .is)) (f .after) (larger (depth (f .is)) (depthIn (l .is))) (items (f .is) + itemsIn (l .is)) (l .after)
+          let more = more-items (f .is) (l .is) in
+          bad-fits d room (depth (f .is)) (length (items (f .is))) (f .after) (larger (depth (f .is)) (depthIn (l .is))) (length (itemsIn (next (f .is) (l .is)))) (l .after)
           (larger-least (depth (f .is)) (depthIn (l .is)) .0) (omega arith) e
   bad-tail f lists (closed p) e =
-      bad-fits d room (depth (f .is)) (items (f .is)) (f .after) (larger (depth (f .is)) 0) (items (f .is) + 0) p (larger-least (depth (f .is)) 0 .0) (omega arith) e
+      let more = more-items (f .is) endFilters in
+      bad-fits d room (depth (f .is)) (length (items (f .is))) (f .after) (larger (depth (f .is)) 0) (length (itemsIn (next (f .is) endFilters))) p (larger-least (depth (f .is)) 0 .0) (omega arith) e
   bad-tail f lists noTail e = refl
 
-  pub bad-first : (s : List ℕ) (lists : ℕ → Option (Read Filters)) (x : Option (Read Filter)) → Span.Bad ≡ bounded d room x → Span.Bad ≡ boundedIn d room (bind x (afterFirst s lists))
+  pub bad-first : (s : List ℕ) (lists : ℕ → Option (Read (Filters Item))) (x : Option (Read (Filter Item))) → Span.Bad ≡ bounded d room x → Span.Bad ≡ boundedIn d room (bind x (afterFirst s lists))
   unfolding boundedIn
   bad-first s lists none e = refl
   bad-first s lists (some f) e = bad-tail f lists (tailAt s (f .after)) e
 
-  module _ (f : Filter) (h : depth f ≤ d) (g : items f ≤ room) where
-    pub bounded-more : (x : Option (Read Filters)) → boundedIn d (room - items f) x ≡ boundedIn d room (made (next f) x)
+  module _ (f : Filter Item) (h : depth f ≤ d) (g : length (items f) ≤ room) where
+    pub bounded-more : (x : Option (Read (Filters Item))) → boundedIn d (room - length (items f)) x ≡ boundedIn d room (made (next f) x)
     unfolding boundedIn depth items
     bounded-more none = refl
-    bounded-more (some l) = fit-both d room (depth f) (items f) (itemsIn (l .is)) (depthIn (l .is)) (l .after) h g
+    bounded-more (some l) =
+        fit-both d room (depth f) (length (items f)) (length (itemsIn (l .is))) (depthIn (l .is)) (l .after) h g
+        ∙ ap (λ (n : ℕ). fitting d room (larger (depth f) (depthIn (l .is))) n (l .after)) (more-items f (l .is))
 
-    pub bounded-last : (p : ℕ) → Span.Of p (room - items f) ≡ boundedIn d room (readTo (next f endFilters) p)
+    pub bounded-last : (p : ℕ) → Span.Of p (room - length (items f)) ≡ boundedIn d room (readTo (next f endFilters) p)
     unfolding boundedIn depth items
     bounded-last p =
         let a : larger (depth f) 0 ≤ d = larger-most (depth f) 0 d h (omega arith) in
-        let b : items f + 0 ≤ room = omega arith in
-        let e : room - items f ≡ room - (items f + 0) = omega arith in
-        ap (Span.Of p) e ∙ sym (fit-is d room (larger (depth f) 0) (items f + 0) p a b)
+        let more = more-items f endFilters in
+        let b : length (itemsIn (next f endFilters)) ≤ room = omega arith in
+        let e : room - length (items f) ≡ room - length (itemsIn (next f endFilters)) = omega arith in
+        ap (Span.Of p) e ∙ sym (fit-is d room (larger (depth f) 0) (length (itemsIn (next f endFilters))) p a b)

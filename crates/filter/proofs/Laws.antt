@@ -16,7 +16,7 @@ use Rattle.assertion.specs.Assertion.{Read, readTo}
 use Rattle.assertion.proofs.Laws.{some-is, none-not, if-some, bind-some}
 use Rattle.assertion.proofs.Progress.{Further}
 use Rattle.filter.specs.Limits.{Limits}
-use Rattle.filter.specs.Filter.{Filter, Filters, endFilters, next, depth, items}
+use Rattle.filter.specs.Filter.{Item, Filter, Filters, endFilters, next, depth, items}
 use Rattle.filter.specs.Parse.{Head, headAt, Tail, another, closed, noTail, tailAt, made, byHead, byTail, afterFirst, filterFrom, filtersFrom, filterAt, ifWhole, withinLimits, whole, parse, parseWithin}
 use Rattle.filter.specs.inner.Answers.{filtersAt}
 use Rattle.filter.specs.inner.Answers.{itemsOf}
@@ -44,7 +44,7 @@ filters-step s at =
 
 -- ---- progress
 module _ (s : List ℕ) (at : ℕ) where
-  pub filter-further : (r : Read Filter) → filterAt s at ≡ some r → Further (length s) at (r .after)
+  pub filter-further : (r : Read (Filter Item)) → filterAt s at ≡ some r → Further (length s) at (r .after)
   unfolding filterAt
   filter-further r e = read-on (length s) at (filterAt s at) r (from-on (length s + 1) s at) e
 
@@ -60,30 +60,30 @@ made-some f (some a) r e = (a, (refl, (ap (λ (q : Read _). q .is) (some-is e), 
 
 -- ---- the filters of a list by the first of them, and by what follows it
 module _ (s : List ℕ) (at : ℕ) where
-  pub filters-by : (f : Read Filter) {t : Tail} → filterAt s at ≡ some f → tailAt s (f .after) ≡ t → filtersAt s at ≡ byTail (filtersAt s) (f .is) t
-  filters-by f e q = filters-step s at ∙ ap (λ (x : Option (Read Filter)). bind x (afterFirst s (filtersAt s))) e ∙ ap (byTail (filtersAt s) (f .is)) q
+  pub filters-by : (f : Read (Filter Item)) {t : Tail} → filterAt s at ≡ some f → tailAt s (f .after) ≡ t → filtersAt s at ≡ byTail (filtersAt s) (f .is) t
+  filters-by f e q = filters-step s at ∙ ap (λ (x : Option (Read (Filter Item))). bind x (afterFirst s (filtersAt s))) e ∙ ap (byTail (filtersAt s) (f .is)) q
 
-  pub read-first : (r : Read Filters) → filtersAt s at ≡ some r → (f : Read Filter) × ((filterAt s at ≡ some f) × (byTail (filtersAt s) (f .is) (tailAt s (f .after)) ≡ some r))
+  pub read-first : (r : Read (Filters Item)) → filtersAt s at ≡ some r → (f : Read (Filter Item)) × ((filterAt s at ≡ some f) × (byTail (filtersAt s) (f .is) (tailAt s (f .after)) ≡ some r))
   read-first r e = bind-some (filterAt s at) (afterFirst s (filtersAt s)) r (sym (filters-step s at) ∙ e)
 
-module _ (s : List ℕ) (at : ℕ) (r : Read Filters) (f : Read Filter) (read : filtersAt s at ≡ some r) (first : filterAt s at ≡ some f) where
-  pub read-another : (p : ℕ) → tailAt s (f .after) ≡ another p → (l : Read Filters) × ((filtersAt s p ≡ some l) × ((next (f .is) (l .is) ≡ r .is) × (l .after ≡ r .after)))
+module _ (s : List ℕ) (at : ℕ) (r : Read (Filters Item)) (f : Read (Filter Item)) (read : filtersAt s at ≡ some r) (first : filterAt s at ≡ some f) where
+  pub read-another : (p : ℕ) → tailAt s (f .after) ≡ another p → (l : Read (Filters Item)) × ((filtersAt s p ≡ some l) × ((next (f .is) (l .is) ≡ r .is) × (l .after ≡ r .after)))
   read-another p e = made-some (next (f .is)) (filtersAt s p) r (sym (filters-by s at f first e) ∙ read)
 
   pub read-closed : (p : ℕ) → tailAt s (f .after) ≡ closed p → (next (f .is) endFilters ≡ r .is) × (p ≡ r .after)
   read-closed p e =
       let z = some-is (sym (filters-by s at f first e) ∙ read) in
-      (ap (λ (q : Read Filters). q .is) z, ap (λ (q : Read Filters). q .after) z)
+      (ap (λ (q : Read (Filters Item)). q .is) z, ap (λ (q : Read (Filters Item)). q .after) z)
 
   pub read-tail : tailAt s (f .after) ≡ noTail → ⊥
   read-tail e = none-not (sym (filters-by s at f first e) ∙ read)
 
 -- ---- a parsed text
-pub whole-read : (s : List ℕ) (f : Filter) → whole s ≡ some f → (utf8 s ≡ true) × (filterAt s 0 ≡ readTo f (length s))
+pub whole-read : (s : List ℕ) (f : Filter Item) → whole s ≡ some f → (utf8 s ≡ true) × (filterAt s 0 ≡ readTo f (length s))
 unfolding whole
 whole-read s f e = go (utf8 s) refl e
   where
-    ends : (r : Read Filter) → filterAt s 0 ≡ some r → ifWhole s r ≡ some f → filterAt s 0 ≡ readTo f (length s)
+    ends : (r : Read (Filter Item)) → filterAt s 0 ≡ some r → ifWhole s r ≡ some f → filterAt s 0 ≡ readTo f (length s)
     ends r q e =
         let z = if-some (eqb (r .after) (length s)) (r .is) f e in
         let h : r .after ≡ length s = eqb-true (r .after) (length s) (z .0) in
@@ -93,20 +93,20 @@ whole-read s f e = go (utf8 s) refl e
     go true u e = let z = bind-some (filterAt s 0) (ifWhole s) f e in (u, ends (z .0) (z .1 .0) (z .1 .1))
     go false u e = absurd (none-not e)
 
-pub parse-read : (l : Limits) (s : List ℕ) (f : Filter) → parse l s ≡ some f → ((utf8 s ≡ true) × (filterAt s 0 ≡ readTo f (length s))) × ((depth f ≤ l .depth) × (items f ≤ l .items))
+pub parse-read : (l : Limits) (s : List ℕ) (f : Filter Item) → parse l s ≡ some f → ((utf8 s ≡ true) × (filterAt s 0 ≡ readTo f (length s))) × ((depth f ≤ l .depth) × (length (items f) ≤ l .items))
 unfolding parseWithin
 parse-read l s f e =
     let z = bind-some (whole s) (withinLimits (l .depth) (l .items)) f e in
     let g = z .0 in
-    let y = if-some (both (leb (depth g) (l .depth)) (leb (items g) (l .items))) g f (z .1 .1) in
-    let t = both-true (leb (depth g) (l .depth)) (leb (items g) (l .items)) (y .0) in
+    let y = if-some (both (leb (depth g) (l .depth)) (leb (length (items g)) (l .items))) g f (z .1 .1) in
+    let t = both-true (leb (depth g) (l .depth)) (leb (length (items g)) (l .items)) (y .0) in
     (whole-read s f (z .1 .0 ∙ ap some (y .1)), rw (← y .1) (leb-true _ _ (t .0), leb-true _ _ (t .1)))
 
 -- the items that were counted are those of the filter that was parsed
-pub counted-some : (x : Option Filter) (k : ℕ) → some k ≡ itemsOf x → (f : Filter) × ((x ≡ some f) × (k ≡ items f))
+pub counted-some : (x : Option (Filter Item)) (k : ℕ) → some k ≡ itemsOf x → (f : Filter Item) × ((x ≡ some f) × (k ≡ length (items f)))
 counted-some none k e = absurd (none-not (sym e))
 counted-some (some f) k e = (f, (refl, some-is e))
 
-pub counted-none : (x : Option Filter) → none ≡ itemsOf x → x ≡ none
+pub counted-none : (x : Option (Filter Item)) → none ≡ itemsOf x → x ≡ none
 counted-none none e = refl
 counted-none (some f) e = absurd (none-not e)

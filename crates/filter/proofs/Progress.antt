@@ -17,7 +17,7 @@ use Rattle.assertion.specs.Spaces.{markAt, comma, openBrace, closeBrace}
 use Rattle.assertion.specs.Assertion.{Read, assertionAt}
 use Rattle.assertion.proofs.Laws.{some-is, none-not, starts-fits}
 use Rattle.assertion.proofs.Progress.{Further, skip-from, mark-further, assertion-further}
-use Rattle.filter.specs.Filter.{Join, and, or, Filter, Filters, item, list, inverse, next}
+use Rattle.filter.specs.Filter.{Item, Join, and, or, Filter, Filters, item, list, inverse, next}
 use Rattle.filter.specs.Parse.{Head, assertion, emptyList, openList, negation, noHead, inBraces, headAt, Tail, another, closed, noTail, orClosed, tailAt, made, byHead, byTail, afterFirst, filterFrom, filtersFrom}
 
 -- ---- heads and tails
@@ -89,20 +89,20 @@ made-on : {A B : Type 0} (n at : ℕ) (f : A → B) (p : ℕ) → at ≤ p → (
 made-on n at f p h none g = tt
 made-on n at f p h (some r) g = (omega arith, omega arith)
 
-module _ (s : List ℕ) (at : ℕ) (lists : ℕ → Option (Read Filters)) (on : (p : ℕ) → ReadOn (length s) p (lists p)) where
-  by-head-on : (filters : ℕ → Option (Read Filter)) → ((p : ℕ) → ReadOn (length s) p (filters p)) → (h : Head) → HeadOn (length s) at h → ReadOn (length s) at (byHead s lists filters h)
+module _ (s : List ℕ) (at : ℕ) (lists : ℕ → Option (Read (Filters Item))) (on : (p : ℕ) → ReadOn (length s) p (lists p)) where
+  by-head-on : (filters : ℕ → Option (Read (Filter Item))) → ((p : ℕ) → ReadOn (length s) p (filters p)) → (h : Head) → HeadOn (length s) at h → ReadOn (length s) at (byHead s lists filters h)
   by-head-on filters f (assertion p) h = made-on (length s) at item p (omega arith) (assertionAt s p) (assertion-on s p)
   by-head-on filters f (emptyList j p) h = h
   by-head-on filters f (openList j p) h = made-on (length s) at (list j) p (omega arith) (lists p) (on p)
   by-head-on filters f (negation p) h = made-on (length s) at inverse p (omega arith) (filters p) (f p)
   by-head-on filters f noHead h = tt
 
-  by-tail-on : (f : Filter) (q : ℕ) → at < q → (t : Tail) → TailOn (length s) q t → ReadOn (length s) at (byTail lists f t)
+  by-tail-on : (f : Filter Item) (q : ℕ) → at < q → (t : Tail) → TailOn (length s) q t → ReadOn (length s) at (byTail lists f t)
   by-tail-on f q e (another p) h = made-on (length s) at (next f) p (omega arith) (lists p) (on p)
   by-tail-on f q e (closed p) h = (omega arith, h .1)
   by-tail-on f q e noTail h = tt
 
-  first-on : (x : Option (Read Filter)) → ReadOn (length s) at x → ReadOn (length s) at (bind x (afterFirst s lists))
+  first-on : (x : Option (Read (Filter Item))) → ReadOn (length s) at x → ReadOn (length s) at (bind x (afterFirst s lists))
   first-on none h = tt
   first-on (some r) h = by-tail-on (r .is) (r .after) (h .0) (tailAt s (r .after)) (tail-on s (r .after))
 
@@ -118,8 +118,8 @@ mutual
   list-on (suc n) s at = first-on s at (filtersFrom n s) (λ p. list-on n s p) (filterFrom n s at) (from-on n s at)
 
 -- ---- the number that bounds the calls
-module _ (s : List ℕ) (at : ℕ) (l m : ℕ → Option (Read Filters)) where
-  pub same-head : (f g : ℕ → Option (Read Filter)) → ((p : ℕ) → at + 2 ≤ p → p ≤ length s → l p ≡ m p) → ((p : ℕ) → Further (length s) at p → f p ≡ g p)
+module _ (s : List ℕ) (at : ℕ) (l m : ℕ → Option (Read (Filters Item))) where
+  pub same-head : (f g : ℕ → Option (Read (Filter Item))) → ((p : ℕ) → at + 2 ≤ p → p ≤ length s → l p ≡ m p) → ((p : ℕ) → Further (length s) at p → f p ≡ g p)
       → (h : Head) → HeadOn (length s) at h → byHead s l f h ≡ byHead s m g h
   same-head f g i j (assertion p) h = refl
   same-head f g i j (emptyList k p) h = refl
@@ -128,12 +128,12 @@ module _ (s : List ℕ) (at : ℕ) (l m : ℕ → Option (Read Filters)) where
   same-head f g i j noHead h = refl
 
   module _ (i : (p : ℕ) → Further (length s) at p → l p ≡ m p) where
-    same-tail : (f : Filter) (q : ℕ) → at < q → (t : Tail) → TailOn (length s) q t → byTail l f t ≡ byTail m f t
+    same-tail : (f : Filter Item) (q : ℕ) → at < q → (t : Tail) → TailOn (length s) q t → byTail l f t ≡ byTail m f t
     same-tail f q e (another p) h = ap (made (next f)) (i p (omega arith, h .1))
     same-tail f q e (closed p) h = refl
     same-tail f q e noTail h = refl
 
-    pub same-first : (x : Option (Read Filter)) → ReadOn (length s) at x → bind x (afterFirst s l) ≡ bind x (afterFirst s m)
+    pub same-first : (x : Option (Read (Filter Item))) → ReadOn (length s) at x → bind x (afterFirst s l) ≡ bind x (afterFirst s m)
     same-first none h = refl
     same-first (some r) h = same-tail (r .is) (r .after) (h .0) (tailAt s (r .after)) (tail-on s (r .after))
 
@@ -160,5 +160,5 @@ mutual
   same-filters zero m s at e f = absurd (omega arith)
   same-filters (suc n) zero s at e f = absurd (omega arith)
   same-filters (suc n) (suc m) s at e f =
-      ap (λ (x : Option (Read Filter)). bind x (afterFirst s (filtersFrom n s))) (same-filter n m s at (omega arith) (omega arith))
+      ap (λ (x : Option (Read (Filter Item))). bind x (afterFirst s (filtersFrom n s))) (same-filter n m s at (omega arith) (omega arith))
       ∙ same-first s at (filtersFrom n s) (filtersFrom m s) (λ p h. same-filters n m s p (omega arith) (omega arith)) (filterFrom m s at) (from-on m s at)

@@ -22,7 +22,7 @@ use Rattle.assertion.specs.declared.Assertion.{Assertion}
 use Rattle.assertion.specs.declared.Parts.{Parts}
 use Rattle.assertion.proofs.Laws.{at-place, at-none, word-there, word-not}
 use Rattle.filter.specs.Filter as filter
-use Rattle.filter.specs.Filter.{Filter, item, depth, items}
+use Rattle.filter.specs.Filter.{Item, Filter, item, depth, items}
 use Rattle.filter.specs.Parse.{inBraces, headAt, tailAt, made, byTail, filterAt, ifWhole, withinLimits, whole, parse, parseWithin, assertion, emptyList, openList, negation, noHead, another, closed, noTail}
 use Rattle.filter.specs.inner.Answers.{filtersAt}
 use Rattle.filter.specs.Limits.{Limits}
@@ -155,7 +155,7 @@ module _ (s : List ℕ) (at d room i left : ℕ) (inv : Listed s at d room i lef
   list-stop q = bad-first d left s (filtersAt s) (filterAt s i) (sym q ∙ e) ∙ ap (boundedIn d left) (sym (filters-step s i)) ∙ inv
 
   module _ (q rest : ℕ) (o : x ≡ Span.Of q rest) (t : Tail) (g : reportTail t ≡ tailAt s q) where
-    first : (f : Read Filter) × ((filterAt s i ≡ some f) × (((depth (f .is) ≤ d) × (items (f .is) ≤ left)) × ((q ≡ f .after) × (rest ≡ left - items (f .is)))))
+    first : (f : Read (Filter Item)) × ((filterAt s i ≡ some f) × (((depth (f .is) ≤ d) × (length (items (f .is)) ≤ left)) × ((q ≡ f .after) × (rest ≡ left - length (items (f .is))))))
     first = bounded-of d left (filterAt s i) q rest (sym o ∙ e)
 
     follows : tailAt s (first .0 .after) ≡ reportTail t
@@ -191,27 +191,27 @@ module _ (s : List ℕ) (at d room i left : ℕ) (inv : Listed s at d room i lef
 
 -- ---- the whole text
 -- of a filter that was read at the start of a text, what is one of the whole text and within the limits
-abbrev ofWhole : List ℕ → Limits → Option (Read Filter) → Option Filter
+abbrev ofWhole : List ℕ → Limits → Option (Read (Filter Item)) → Option (Filter Item)
 ofWhole s l x = bind (bind x (ifWhole s)) (withinLimits (l .depth) (l .items))
 
-whole-bad : (s : List ℕ) (l : Limits) (x : Option (Read Filter)) → Span.Bad ≡ bounded (l .depth) (l .items) x → none ≡ itemsOf (ofWhole s l x)
+whole-bad : (s : List ℕ) (l : Limits) (x : Option (Read (Filter Item))) → Span.Bad ≡ bounded (l .depth) (l .items) x → none ≡ itemsOf (ofWhole s l x)
 unfolding bounded
 whole-bad s l none e = refl
 whole-bad s l (some r) e = whole (eqb (r .after) (length s))
   where
-    fits : (a b : Bool) → Span.Bad ≡ pick (both a b) (Span.Of (r .after) (l .items - items (r .is))) Span.Bad → none ≡ itemsOf (pick (both a b) (some (r .is)) none)
+    fits : (a b : Bool) → Span.Bad ≡ pick (both a b) (Span.Of (r .after) (l .items - length (items (r .is)))) Span.Bad → none ≡ itemsOf (pick (both a b) (some (r .is)) none)
     fits true true e = let z : _≡_ {A = ℕ} 0 1 = cc in absurd (omega arith)
     fits true false e = refl
     fits false b e = refl
 
     whole : (t : Bool) → none ≡ itemsOf (bind (pick t (some (r .is)) none) (withinLimits (l .depth) (l .items)))
-    whole true = fits (leb (depth (r .is)) (l .depth)) (leb (items (r .is)) (l .items)) e
+    whole true = fits (leb (depth (r .is)) (l .depth)) (leb (length (items (r .is))) (l .items)) e
     whole false = refl
 
-pub read-left : (d room : ℕ) (x : Option (Read Filter)) (y : Span) (end left : ℕ) → y ≡ bounded d room x → y ≡ Span.Of end left → left ≤ room
+pub read-left : (d room : ℕ) (x : Option (Read (Filter Item))) (y : Span) (end left : ℕ) → y ≡ bounded d room x → y ≡ Span.Of end left → left ≤ room
 read-left d room x y end left e q =
     let f = bounded-of d room x end left (sym q ∙ e) in
-    let z : left ≡ room - items (f .0 .is) = f .1 .1 .1 .1 in
+    let z : left ≡ room - length (items (f .0 .is)) = f .1 .1 .1 .1 in
     omega arith
 
 module _ (s : List ℕ) (u : Bool) (valid : u ≡ utf8 s) where
@@ -228,7 +228,7 @@ module _ (s : List ℕ) (u : Bool) (valid : u ≡ utf8 s) where
     read-bad q = whole-bad s filterLimits (filterAt s 0) (sym q ∙ e) ∙ ap itemsOf (sym parsed)
 
     module _ (end left : ℕ) (q : x ≡ Span.Of end left) where
-      found : (f : Read Filter) × ((filterAt s 0 ≡ some f) × (((depth (f .is) ≤ filterLimits .depth) × (items (f .is) ≤ filterLimits .items)) × ((end ≡ f .after) × (left ≡ filterLimits .items - items (f .is)))))
+      found : (f : Read (Filter Item)) × ((filterAt s 0 ≡ some f) × (((depth (f .is) ≤ filterLimits .depth) × (length (items (f .is)) ≤ filterLimits .items)) × ((end ≡ f .after) × (left ≡ filterLimits .items - length (items (f .is))))))
       found = bounded-of (filterLimits .depth) (filterLimits .items) (filterAt s 0) end left (sym q ∙ e)
 
       pub read-trailing : (end ≡ length s → ⊥) → none ≡ itemsOf (parse filterLimits s)
@@ -237,7 +237,7 @@ module _ (s : List ℕ) (u : Bool) (valid : u ≡ utf8 s) where
       pub read-whole : (k : ℕ) → end ≡ length s → k ≡ filterLimits .items - left → some k ≡ itemsOf (parse filterLimits s)
       read-whole k w g =
           let f = found .0 .is in
-          let a : items f ≤ filterLimits .items = found .1 .1 .0 .1 in
-          let z : left ≡ filterLimits .items - items f = found .1 .1 .1 .1 in
-          let c : k ≡ items f = omega arith in
-          rw (parsed, found .1 .0, ← found .1 .1 .1 .0, eq-eqb end (length s) w, le-leb (depth f) (filterLimits .depth) (found .1 .1 .0 .0), le-leb (items f) (filterLimits .items) a, c)
+          let a : length (items f) ≤ filterLimits .items = found .1 .1 .0 .1 in
+          let z : left ≡ filterLimits .items - length (items f) = found .1 .1 .1 .1 in
+          let c : k ≡ length (items f) = omega arith in
+          rw (parsed, found .1 .0, ← found .1 .1 .1 .0, eq-eqb end (length s) w, le-leb (depth f) (filterLimits .depth) (found .1 .1 .0 .0), le-leb (length (items f)) (filterLimits .items) a, c)

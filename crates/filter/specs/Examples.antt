@@ -7,13 +7,13 @@ use Prim.Native.Nat.{ℕ, zero, suc}
 use Prim.Native.String.{String}
 use Rattle.octets.specs.Pick.{isSome}
 use Rattle.octets.specs.Octets.{bytes, hex}
-use Rattle.filter.specs.Filter.{and, or, Filter, item, list, inverse, endFilters, next}
+use Rattle.filter.specs.Filter.{Item, and, or, Filter, item, list, inverse, endFilters, next}
 use Rattle.filter.specs.Parse.{parse}
 use Rattle.filter.specs.Paper.{filterLimits}
 use Rattle.filter.specs.Computing.{filterComputes}
 
 -- ---- contents of an item
-read : String → Option Filter
+read : String → Option (Filter Item)
 read s = parse filterLimits (bytes s)
 
 one : read "item:{component \"parts.*.copies\",rule integerMatch,value 3}"

@@ -10,7 +10,7 @@ use Rattle.octets.specs.Octets.{octet, bytes}
 use Rattle.octets.specs.Text.{within as inRange, starts, skip}
 use Rattle.octets.specs.Utf8.{utf8}
 use Rattle.filter.specs.Limits.{Limits}
-use Rattle.filter.specs.Filter.{Join, and, or, Filter, Filters, item, list, inverse, endFilters, next, depth, items}
+use Rattle.filter.specs.Filter.{Item, Join, and, or, Filter, Filters, item, list, inverse, endFilters, next, depth, items}
 use Rattle.assertion.specs.Spaces.{markAt, comma, openBrace, closeBrace}
 use Rattle.assertion.specs.Assertion.{Read, readTo, assertionAt}
 
@@ -55,52 +55,52 @@ abbrev pub made : {A B : Type 0} → (A → B) → Option (Read A) → Option (R
 made f none = none
 made f (some p) = readTo (f (p .is)) (p .after)
 
-abbrev pub byHead : List ℕ → (ℕ → Option (Read Filters)) → (ℕ → Option (Read Filter)) → Head → Option (Read Filter)
+abbrev pub byHead : List ℕ → (ℕ → Option (Read (Filters Item))) → (ℕ → Option (Read (Filter Item))) → Head → Option (Read (Filter Item))
 byHead s lists filters (assertion p) = made item (assertionAt s p)
 byHead s lists filters (emptyList j p) = readTo (list j endFilters) p
 byHead s lists filters (openList j p) = made (list j) (lists p)
 byHead s lists filters (negation p) = made inverse (filters p)
 byHead s lists filters noHead = none
 
-abbrev pub byTail : (ℕ → Option (Read Filters)) → Filter → Tail → Option (Read Filters)
+abbrev pub byTail : (ℕ → Option (Read (Filters Item))) → Filter Item → Tail → Option (Read (Filters Item))
 byTail lists f (another p) = made (next f) (lists p)
 byTail lists f (closed p) = readTo (next f endFilters) p
 byTail lists f noTail = none
 
-abbrev pub afterFirst : List ℕ → (ℕ → Option (Read Filters)) → Read Filter → Option (Read Filters)
+abbrev pub afterFirst : List ℕ → (ℕ → Option (Read (Filters Item))) → Read (Filter Item) → Option (Read (Filters Item))
 afterFirst s lists p = byTail lists (p .is) (tailAt s (p .after))
 
 -- n bounds the calls: more than the length of the text is enough
 unfoldable mutual
-  pub filterFrom : ℕ → List ℕ → ℕ → Option (Read Filter)
+  pub filterFrom : ℕ → List ℕ → ℕ → Option (Read (Filter Item))
   filterFrom zero s at = none
   filterFrom (suc n) s at = byHead s (λ p. filtersFrom n s p) (λ p. filterFrom n s p) (headAt s at)
 
-  pub filtersFrom : ℕ → List ℕ → ℕ → Option (Read Filters)
+  pub filtersFrom : ℕ → List ℕ → ℕ → Option (Read (Filters Item))
   filtersFrom zero s at = none
   filtersFrom (suc n) s at = bind (filterFrom n s at) (afterFirst s (λ p. filtersFrom n s p))
 
-unfoldable pub filterAt : List ℕ → ℕ → Option (Read Filter)
+unfoldable pub filterAt : List ℕ → ℕ → Option (Read (Filter Item))
 filterAt s at = filterFrom (length s + 1) s at
 
 -- ---- the whole text; "Depth at most 16 .., at most 64 items"
-abbrev pub ifWhole : List ℕ → Read Filter → Option Filter
+abbrev pub ifWhole : List ℕ → Read (Filter Item) → Option (Filter Item)
 ifWhole s p = pick (eqb (p .after) (length s)) (some (p .is)) none
 
-abbrev pub withinLimits : ℕ → ℕ → Filter → Option Filter
-withinLimits deepest many f = pick (both (leb (depth f) deepest) (leb (items f) many)) (some f) none
+abbrev pub withinLimits : ℕ → ℕ → Filter Item → Option (Filter Item)
+withinLimits deepest many f = pick (both (leb (depth f) deepest) (leb (length (items f)) many)) (some f) none
 
 -- refusal 1: the text's size
 unfoldable pub filterFits : Limits → List ℕ → Bool
 filterFits l s = inRange 1 (l .bytes) (length s)
 
 -- the filter of the whole text, whatever its depth and items
-unfoldable pub whole : List ℕ → Option Filter
+unfoldable pub whole : List ℕ → Option (Filter Item)
 whole s = pick (utf8 s) (bind (filterAt s 0) (ifWhole s)) none
 
 -- within a depth and so many items
-unfoldable pub parseWithin : ℕ → ℕ → List ℕ → Option Filter
+unfoldable pub parseWithin : ℕ → ℕ → List ℕ → Option (Filter Item)
 parseWithin deepest many s = bind (whole s) (withinLimits deepest many)
 
-abbrev pub parse : Limits → List ℕ → Option Filter
+abbrev pub parse : Limits → List ℕ → Option (Filter Item)
 parse l s = parseWithin (l .depth) (l .items) s

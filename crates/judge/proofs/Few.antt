@@ -6,7 +6,7 @@ use mathlib.Core.List.{List, [], _∷_, map}
 use Prim.Native.Nat.{ℕ, _≤_, _+_, _*_, _/_}
 use native.Mathlib.Omega.{arith}
 use native.Mathlib.Nat.{add-mul}
-use lib.ListN.{length}
+use lib.ListN.{length, length-append}
 use Rattle.octets.specs.Pick.{pick}
 use Rattle.table.specs.Types.{Ty}
 use Rattle.value.specs.Value.{Value}
@@ -17,6 +17,7 @@ use Rattle.reference.specs.Numbers.{Component, component}
 use Rattle.trail.specs.Trail.{trail}
 use Rattle.trail.proofs.Agreeing.{laid, trail-named}
 use Rattle.trail.proofs.Spreading.{named-spread, spread-few}
+use Rattle.rules.specs.Rule.{knownRules}
 use Rattle.rules.specs.Accepts.{accepts}
 use Rattle.filter.specs.Filter.{Item, Join, Filter, Filters, item, list, inverse, endFilters, next, items, itemsIn}
 use Rattle.judge.specs.Truth.{Truth, TRUE}
@@ -50,13 +51,13 @@ module _ (ty : Ty) (v : List ℕ) (x : Value) (stored : storedValue ty v ≡ som
       let c : testsOf (testing f 0 (laid (named defaults is x))) ≤ length v / 2 = omega arith in
       subst (λ (o : Outcome). testsOf o ≤ length v / 2) (sym (ap (testing f 0) z)) c
 
-  pub outcome-few : (i : Item) → testsOf (outcome ty v i) ≤ length v / 2
+  pub outcome-few : (i : Item) → testsOf (outcome knownRules ty v i) ≤ length v / 2
   unfolding outcome
-  outcome-few i = go (asked ty i)
+  outcome-few i = go (asked knownRules ty i)
     where
       go : (o : Option Asked) → testsOf (outcomeOf ty v i o) ≤ length v / 2
       go none = omega arith
-      go (some a) = walk-few (accepts (a .rule) (i .value)) (i .defaults) (a .ids)
+      go (some a) = walk-few (accepts (a .rule) (a .asserted)) (i .defaults) (a .ids)
 
 -- ---- a filter: so many for each of its items
 added-tests : (j : Join) (t : Truth) (n : ℕ) (r : Outcome) → testsOf (added j t n r) ≡ n + testsOf r
@@ -78,20 +79,21 @@ inverted-tests (misfitAfter n) = refl
 mutual
   unfolding reading items
 
-  pub reading-few : (f : Filter) (says : Item → Outcome) (most : ℕ) → ((i : Item) → testsOf (says i) ≤ most) → testsOf (reading says f) ≤ items f * most
+  pub reading-few : {A : Type 0} (f : Filter A) (says : A → Outcome) (most : ℕ) → ((i : A) → testsOf (says i) ≤ most) → testsOf (reading says f) ≤ length (items f) * most
   reading-few (item i) says most few = let a = few i in omega arith
   reading-few (list j fs) says most few = reading-in-few fs j says most few
   reading-few (inverse f) says most few = let a = reading-few f says most few in let b = inverted-tests (reading says f) in omega arith
 
-  reading-in-few : (fs : Filters) (j : Join) (says : Item → Outcome) (most : ℕ) → ((i : Item) → testsOf (says i) ≤ most) → testsOf (readingIn says j fs) ≤ itemsIn fs * most
+  reading-in-few : {A : Type 0} (fs : Filters A) (j : Join) (says : A → Outcome) (most : ℕ) → ((i : A) → testsOf (says i) ≤ most) → testsOf (readingIn says j fs) ≤ length (itemsIn fs) * most
   reading-in-few endFilters j says most few = omega arith
   reading-in-few (next f fs) j says most few =
       let a = reading-few f says most few in
       let b = reading-in-few fs j says most few in
       let c = then-few j (reading says f) (readingIn says j fs) in
-      let d = add-mul (items f) (itemsIn fs) most in
+      let d = add-mul (length (items f)) (length (itemsIn fs)) most in
+      let e = ap (λ (n : ℕ). n * most) (length-append (items f) (itemsIn fs)) in
       omega arith
 
 -- the tests that a filter needs over a stored value
-pub tests-few : (ty : Ty) (v : List ℕ) (x : Value) (f : Filter) → storedValue ty v ≡ some x → testsOf (reading (outcome ty v) f) ≤ items f * (length v / 2)
-tests-few ty v x f stored = reading-few f (outcome ty v) (length v / 2) (outcome-few ty v x stored)
+pub tests-few : (ty : Ty) (v : List ℕ) (x : Value) (f : Filter Item) → storedValue ty v ≡ some x → testsOf (reading (outcome knownRules ty v) f) ≤ length (items f) * (length v / 2)
+tests-few ty v x f stored = reading-few f (outcome knownRules ty v) (length v / 2) (outcome-few ty v x stored)

@@ -9,6 +9,7 @@ use borrow.Author.Tests.{not-true, not-false}
 use lib.ListN.{length}
 use Rattle.octets.specs.Pick.{isSome}
 use Rattle.table.specs.Types.{Ty}
+use Rattle.rules.specs.Rule.{knownRules}
 use Rattle.assertion.specs.Assertion.{Read, assertionAt}
 use Rattle.assertion.specs.inner.Places.{itemOf, reportAssertion}
 use Rattle.assertion.specs.declared.Assertion.{Assertion}
@@ -83,18 +84,18 @@ unfolding judgedFilter reading
 made-some says live budget n x i after e = rw e
 
 module _ (ty : Ty) (v f : List ℕ) (at : ℕ) (live : Bool) (budget n : ℕ) (a : Assertion) (e : reportAssertion f a ≡ assertionAt f at) where
-  pub assertion-bad : a ≡ Assertion.Bad → Judging.Misfit ≡ judgedFilter (outcome ty v) live budget n (made item (assertionAt f at))
-  assertion-bad q = made-none (outcome ty v) live budget n (assertionAt f at) (sym e ∙ ap (reportAssertion f) q)
+  pub assertion-bad : a ≡ Assertion.Bad → Judging.Misfit ≡ judgedFilter (outcome knownRules ty v) live budget n (made item (assertionAt f at))
+  assertion-bad q = made-none (outcome knownRules ty v) live budget n (assertionAt f at) (sym e ∙ ap (reportAssertion f) q)
 
   module _ (p : Parts) (q : a ≡ Assertion.Good p) (after : ℕ) (k : after ≡ p .after) where
-    good : judgedIf live budget n (outcome ty v (itemOf f p)) after ≡ judgedFilter (outcome ty v) live budget n (made item (assertionAt f at))
-    good = ap (judgedIf live budget n (outcome ty v (itemOf f p))) k ∙ made-some (outcome ty v) live budget n (assertionAt f at) (itemOf f p) (p .after) (sym e ∙ ap (reportAssertion f) q)
+    good : judgedIf live budget n (outcome knownRules ty v (itemOf f p)) after ≡ judgedFilter (outcome knownRules ty v) live budget n (made item (assertionAt f at))
+    good = ap (judgedIf live budget n (outcome knownRules ty v (itemOf f p))) k ∙ made-some (outcome knownRules ty v) live budget n (assertionAt f at) (itemOf f p) (p .after) (sym e ∙ ap (reportAssertion f) q)
 
-    pub assertion-passed : not live ≡ true → Judging.At Verdict.Undefined n after ≡ judgedFilter (outcome ty v) live budget n (made item (assertionAt f at))
-    assertion-passed h = sym (ap (λ (b : Bool). judgedIf b budget n (outcome ty v (itemOf f p)) after) (not-true live h)) ∙ good
+    pub assertion-passed : not live ≡ true → Judging.At Verdict.Undefined n after ≡ judgedFilter (outcome knownRules ty v) live budget n (made item (assertionAt f at))
+    assertion-passed h = sym (ap (λ (b : Bool). judgedIf b budget n (outcome knownRules ty v (itemOf f p)) after) (not-true live h)) ∙ good
 
-    pub assertion-judged : (w : Judged) (x : Judging) → not live ≡ false → w ≡ charged budget n (outcome ty v (itemOf f p)) → x ≡ placed after w → x ≡ judgedFilter (outcome ty v) live budget n (made item (assertionAt f at))
-    assertion-judged w x h c d = d ∙ ap (placed after) c ∙ sym (ap (λ (b : Bool). judgedIf b budget n (outcome ty v (itemOf f p)) after) (not-false live h)) ∙ good
+    pub assertion-judged : (w : Judged) (x : Judging) → not live ≡ false → w ≡ charged budget n (outcome knownRules ty v (itemOf f p)) → x ≡ placed after w → x ≡ judgedFilter (outcome knownRules ty v) live budget n (made item (assertionAt f at))
+    assertion-judged w x h c d = d ∙ ap (placed after) c ∙ sym (ap (λ (b : Bool). judgedIf b budget n (outcome knownRules ty v (itemOf f p)) after) (not-false live h)) ∙ good
 
 -- ---- a filter, by its head
 there-some : {A : Type 0} (o : Option A) (a : A) → o ≡ some a → isSome o ≡ true
@@ -104,13 +105,13 @@ made-is : {A B : Type 0} (f : A → B) (x : Option (Read A)) → isSome (made f 
 made-is f none e = e
 made-is f (some r) e = refl
 
-list-judged : (says : Item → Outcome) (j : filter.Join) (live : Bool) (budget n : ℕ) (x : Option (Read Filters)) → judgedFilters says j (begun live) budget n x ≡ judgedFilter says live budget n (made (list j) x)
+list-judged : (says : Item → Outcome) (j : filter.Join) (live : Bool) (budget n : ℕ) (x : Option (Read (Filters Item))) → judgedFilters says j (begun live) budget n x ≡ judgedFilter says live budget n (made (list j) x)
 unfolding judgedFilter judgedFilters reading
 list-judged says j live budget n none = refl
 list-judged says j true budget n (some r) = refl
 list-judged says j false budget n (some r) = refl
 
-not-judged : (says : Item → Outcome) (live : Bool) (budget n : ℕ) (x : Option (Read Filter)) → inverse (judgedFilter says live budget n x) ≡ judgedFilter says live budget n (made invert x)
+not-judged : (says : Item → Outcome) (live : Bool) (budget n : ℕ) (x : Option (Read (Filter Item))) → inverse (judgedFilter says live budget n x) ≡ judgedFilter says live budget n (made invert x)
 unfolding judgedFilter reading
 not-judged says live budget n none = refl
 not-judged says live budget n (some r) = inverse-judged live budget n (reading says (r .is)) (r .after)
@@ -121,21 +122,21 @@ empty-judged says j true budget n after h = sym (at-end j Progress.Plain budget 
 empty-judged says j false budget n after h = refl
 
 module _ (ty : Ty) (v f : List ℕ) (at : ℕ) (live : Bool) (budget n : ℕ) (h : Head) (e : reportHead h ≡ headAt f at) where
-  pub filter-item : (p : ℕ) (w : Judging) → h ≡ Head.Assertion p → w ≡ judgedFilter (outcome ty v) live budget n (made item (assertionAt f p)) → w ≡ judgedFilter (outcome ty v) live budget n (filterAt f at)
-  filter-item p w q d = d ∙ ap (judgedFilter (outcome ty v) live budget n) (sym (filter-by f at (sym e ∙ ap reportHead q)))
+  pub filter-item : (p : ℕ) (w : Judging) → h ≡ Head.Assertion p → w ≡ judgedFilter (outcome knownRules ty v) live budget n (made item (assertionAt f p)) → w ≡ judgedFilter (outcome knownRules ty v) live budget n (filterAt f at)
+  filter-item p w q d = d ∙ ap (judgedFilter (outcome knownRules ty v) live budget n) (sym (filter-by f at (sym e ∙ ap reportHead q)))
 
-  pub filter-empty : (j : Join) (p : ℕ) (w : Judging) → n ≤ budget → h ≡ Head.EmptyList j p → w ≡ Judging.At (atEnd (reportJoin j) (begun live)) n p → w ≡ judgedFilter (outcome ty v) live budget n (filterAt f at)
-  filter-empty j p w l q d = d ∙ empty-judged (outcome ty v) (reportJoin j) live budget n p l ∙ ap (judgedFilter (outcome ty v) live budget n) (sym (filter-by f at (sym e ∙ ap reportHead q)))
+  pub filter-empty : (j : Join) (p : ℕ) (w : Judging) → n ≤ budget → h ≡ Head.EmptyList j p → w ≡ Judging.At (atEnd (reportJoin j) (begun live)) n p → w ≡ judgedFilter (outcome knownRules ty v) live budget n (filterAt f at)
+  filter-empty j p w l q d = d ∙ empty-judged (outcome knownRules ty v) (reportJoin j) live budget n p l ∙ ap (judgedFilter (outcome knownRules ty v) live budget n) (sym (filter-by f at (sym e ∙ ap reportHead q)))
 
-  pub filter-list : (j : Join) (p : ℕ) (w : Judging) → h ≡ Head.OpenList j p → w ≡ judgedFilters (outcome ty v) (reportJoin j) (begun live) budget n (filtersAt f p) → w ≡ judgedFilter (outcome ty v) live budget n (filterAt f at)
-  filter-list j p w q d = d ∙ list-judged (outcome ty v) (reportJoin j) live budget n (filtersAt f p) ∙ ap (judgedFilter (outcome ty v) live budget n) (sym (filter-by f at (sym e ∙ ap reportHead q)))
+  pub filter-list : (j : Join) (p : ℕ) (w : Judging) → h ≡ Head.OpenList j p → w ≡ judgedFilters (outcome knownRules ty v) (reportJoin j) (begun live) budget n (filtersAt f p) → w ≡ judgedFilter (outcome knownRules ty v) live budget n (filterAt f at)
+  filter-list j p w q d = d ∙ list-judged (outcome knownRules ty v) (reportJoin j) live budget n (filtersAt f p) ∙ ap (judgedFilter (outcome knownRules ty v) live budget n) (sym (filter-by f at (sym e ∙ ap reportHead q)))
 
-  pub filter-not : (p : ℕ) (w x : Judging) → h ≡ Head.Negation p → w ≡ judgedFilter (outcome ty v) live budget n (filterAt f p) → x ≡ inverse w → x ≡ judgedFilter (outcome ty v) live budget n (filterAt f at)
-  filter-not p w x q d g = g ∙ ap inverse d ∙ not-judged (outcome ty v) live budget n (filterAt f p) ∙ ap (judgedFilter (outcome ty v) live budget n) (sym (filter-by f at (sym e ∙ ap reportHead q)))
+  pub filter-not : (p : ℕ) (w x : Judging) → h ≡ Head.Negation p → w ≡ judgedFilter (outcome knownRules ty v) live budget n (filterAt f p) → x ≡ inverse w → x ≡ judgedFilter (outcome knownRules ty v) live budget n (filterAt f at)
+  filter-not p w x q d g = g ∙ ap inverse d ∙ not-judged (outcome knownRules ty v) live budget n (filterAt f p) ∙ ap (judgedFilter (outcome knownRules ty v) live budget n) (sym (filter-by f at (sym e ∙ ap reportHead q)))
 
-  pub filter-none : h ≡ Head.NoHead → Judging.Misfit ≡ judgedFilter (outcome ty v) live budget n (filterAt f at)
+  pub filter-none : h ≡ Head.NoHead → Judging.Misfit ≡ judgedFilter (outcome knownRules ty v) live budget n (filterAt f at)
   unfolding judgedFilter
-  filter-none q = ap (judgedFilter (outcome ty v) live budget n) (sym (filter-by f at (sym e ∙ ap reportHead q)))
+  filter-none q = ap (judgedFilter (outcome knownRules ty v) live budget n) (sym (filter-by f at (sym e ∙ ap reportHead q)))
 
 module _ (f : List ℕ) (at : ℕ) (h : Head) (e : reportHead h ≡ headAt f at) where
   module _ (read : isSome (filterAt f at) ≡ true) where
@@ -157,17 +158,17 @@ abbrev TurnSays : (Item → Outcome) → List ℕ → filter.Join → Progress �
 TurnSays says f j p budget k i (Turn.Goes q c a) = (isSome (filtersAt f a) ≡ true) × (c ≤ budget) × (length f - a < length f - i) × (judgedFilters says j q budget c (filtersAt f a) ≡ judgedFilters says j p budget k (filtersAt f i))
 TurnSays says f j p budget k i (Turn.Ends y) = y ≡ judgedFilters says j p budget k (filtersAt f i)
 
-module _ (says : Item → Outcome) (f : List ℕ) (j : filter.Join) (p : Progress) (budget k i : ℕ) (r : Read Filters) (read : filtersAt f i ≡ some r) (h : k ≤ budget) where
-  module _ (x : Read Filter) (first : filterAt f i ≡ some x) where
+module _ (says : Item → Outcome) (f : List ℕ) (j : filter.Join) (p : Progress) (budget k i : ℕ) (r : Read (Filters Item)) (read : filtersAt f i ≡ some r) (h : k ≤ budget) where
+  module _ (x : Read (Filter Item)) (first : filterAt f i ≡ some x) where
     abbrev o : Outcome
     o = reading says (x .is)
 
     -- the first filter and the others
-    list-is : (fs : Filters) (z : ℕ) → next (x .is) fs ≡ r .is → z ≡ r .after → judgedRest j p budget k (andThen j o (readingIn says j fs)) z ≡ judgedFilters says j p budget k (filtersAt f i)
+    list-is : (fs : Filters Item) (z : ℕ) → next (x .is) fs ≡ r .is → z ≡ r .after → judgedRest j p budget k (andThen j o (readingIn says j fs)) z ≡ judgedFilters says j p budget k (filtersAt f i)
     unfolding judgedFilters reading
-    list-is fs z q e = ap (λ (y : Filters). judgedRest j p budget k (readingIn says j y) z) q ∙ ap (λ (y : ℕ). judgedRest j p budget k (readingIn says j (r .is)) y) e ∙ ap (judgedFilters says j p budget k) (sym read)
+    list-is fs z q e = ap (λ (y : Filters Item). judgedRest j p budget k (readingIn says j y) z) q ∙ ap (λ (y : ℕ). judgedRest j p budget k (readingIn says j (r .is)) y) e ∙ ap (judgedFilters says j p budget k) (sym read)
 
-    shape : (t : Tail) → tailAt f (x .after) ≡ t → (fs : Filters) × (next (x .is) fs ≡ r .is)
+    shape : (t : Tail) → tailAt f (x .after) ≡ t → (fs : Filters Item) × (next (x .is) fs ≡ r .is)
     shape (another a) e = let l = read-another f i r x read first a e in (l .0 .is, l .1 .1 .0)
     shape (closed a) e = let l = read-closed f i r x read first a e in (endFilters, l .0)
     shape noTail e = absurd (read-tail f i r x read first e)
@@ -209,17 +210,17 @@ pub record Listing (ty : Ty) (v f : List ℕ) (j : filter.Join) (begin : Progres
   pub read : isSome (filtersAt f i) ≡ true
   pub within : k ≤ budget
   pub on : length f - i ≤ length f - at
-  pub same : judgedFilters (outcome ty v) j p budget k (filtersAt f i) ≡ judgedFilters (outcome ty v) j begin budget n (filtersAt f at)
+  pub same : judgedFilters (outcome knownRules ty v) j p budget k (filtersAt f i) ≡ judgedFilters (outcome knownRules ty v) j begin budget n (filtersAt f at)
 
 module _ (ty : Ty) (v f : List ℕ) (j : filter.Join) (live : Bool) (budget n at : ℕ) where
   pub list-begins : (p : Progress) → p ≡ begun live → isSome (filtersAt f at) ≡ true → n ≤ budget → Listing ty v f j (begun live) budget n at p n at
-  list-begins p e r h = record { read = r; within = h; on = omega arith; same = ap (λ (y : Progress). judgedFilters (outcome ty v) j y budget n (filtersAt f at)) e }
+  list-begins p e r h = record { read = r; within = h; on = omega arith; same = ap (λ (y : Progress). judgedFilters (outcome knownRules ty v) j y budget n (filtersAt f at)) e }
 
   module _ (p : Progress) (k i : ℕ) (inv : Listing ty v f j (begun live) budget n at p k i) where
     pub list-lower : (t : ℕ) → 2 * (length f - at) + 1 ≡ t → 2 * (length f - i) < t
     list-lower t m = let a = inv .on in omega arith
 
-    rest : (r : Read Filters) × (filtersAt f i ≡ some r)
+    rest : (r : Read (Filters Item)) × (filtersAt f i ≡ some r)
     rest = some-there (filtersAt f i) (inv .read)
 
     pub list-filter : isSome (filterAt f i) ≡ true
@@ -228,18 +229,18 @@ module _ (ty : Ty) (v f : List ℕ) (j : filter.Join) (live : Bool) (budget n at
     pub list-within : k ≤ budget
     list-within = inv .within
 
-    module _ (b : Bool) (w : Judging) (x : Turn) (going : b ≡ goesOn p) (judged : w ≡ judgedFilter (outcome ty v) b budget k (filterAt f i)) (told : x ≡ turned f j p w) where
-      said : TurnSays (outcome ty v) f j p budget k i x
+    module _ (b : Bool) (w : Judging) (x : Turn) (going : b ≡ goesOn p) (judged : w ≡ judgedFilter (outcome knownRules ty v) b budget k (filterAt f i)) (told : x ≡ turned f j p w) where
+      said : TurnSays (outcome knownRules ty v) f j p budget k i x
       said =
-          subst (TurnSays (outcome ty v) f j p budget k i) (sym told)
-          (says-judged (outcome ty v) f j p budget k i (rest .0) (rest .1) (inv .within) w (judged ∙ ap (λ (y : Bool). judgedFilter (outcome ty v) y budget k (filterAt f i)) going))
+          subst (TurnSays (outcome knownRules ty v) f j p budget k i) (sym told)
+          (says-judged (outcome knownRules ty v) f j p budget k i (rest .0) (rest .1) (inv .within) w (judged ∙ ap (λ (y : Bool). judgedFilter (outcome knownRules ty v) y budget k (filterAt f i)) going))
 
-      pub list-ends : (y : Judging) → x ≡ Turn.Ends y → y ≡ judgedFilters (outcome ty v) j (begun live) budget n (filtersAt f at)
-      list-ends y q = subst (TurnSays (outcome ty v) f j p budget k i) q said ∙ inv .same
+      pub list-ends : (y : Judging) → x ≡ Turn.Ends y → y ≡ judgedFilters (outcome knownRules ty v) j (begun live) budget n (filtersAt f at)
+      list-ends y q = subst (TurnSays (outcome knownRules ty v) f j p budget k i) q said ∙ inv .same
 
       module _ (next : Progress) (c a : ℕ) (q : x ≡ Turn.Goes next c a) where
-        goes : TurnSays (outcome ty v) f j p budget k i (Turn.Goes next c a)
-        goes = subst (TurnSays (outcome ty v) f j p budget k i) q said
+        goes : TurnSays (outcome knownRules ty v) f j p budget k i (Turn.Goes next c a)
+        goes = subst (TurnSays (outcome knownRules ty v) f j p budget k i) q said
 
         pub list-falls : length f - a < length f - i
         list-falls = goes .2
@@ -248,7 +249,7 @@ module _ (ty : Ty) (v f : List ℕ) (j : filter.Join) (live : Bool) (budget n at
         list-again = record { read = goes .0; within = goes .1; on = let d = goes .2 in let e = inv .on in omega arith; same = goes .3 ∙ inv .same }
 
 -- ---- the whole text
-text-judged : (says : Item → Outcome) (budget : ℕ) (x : Option (Read Filter)) (j : Judged) (after : ℕ) → placed after j ≡ judgedFilter says true budget 0 x → isSome x ≡ true → j ≡ judgedText says budget x
+text-judged : (says : Item → Outcome) (budget : ℕ) (x : Option (Read (Filter Item))) (j : Judged) (after : ℕ) → placed after j ≡ judgedFilter says true budget 0 x → isSome x ≡ true → j ≡ judgedText says budget x
 unfolding judgedFilter judgedText
 text-judged says budget none j after e h = absurd (false≢true h)
 text-judged says budget (some r) j after e h = go j (charged budget 0 (reading says (r .is))) e
@@ -264,12 +265,12 @@ text-judged says budget (some r) j after e h = go j (charged budget 0 (reading s
     go Judged.Misfit Judged.Over q = absurd (let z : _≡_ {A = ℕ} 0 1 = cc in omega arith)
     go Judged.Misfit Judged.Misfit q = refl
 
-module _ (ty : Ty) (v f : List ℕ) (budget : ℕ) (w : Judging) (read : isSome (filterAt f 0) ≡ true) (judged : w ≡ judgedFilter (outcome ty v) true budget 0 (filterAt f 0)) where
-  pub text-at : (u : Verdict) (k after : ℕ) → w ≡ Judging.At u k after → Judged.Of u k ≡ judgedText (outcome ty v) budget (filterAt f 0)
-  text-at u k after q = text-judged (outcome ty v) budget (filterAt f 0) (Judged.Of u k) after (sym q ∙ judged) read
+module _ (ty : Ty) (v f : List ℕ) (budget : ℕ) (w : Judging) (read : isSome (filterAt f 0) ≡ true) (judged : w ≡ judgedFilter (outcome knownRules ty v) true budget 0 (filterAt f 0)) where
+  pub text-at : (u : Verdict) (k after : ℕ) → w ≡ Judging.At u k after → Judged.Of u k ≡ judgedText (outcome knownRules ty v) budget (filterAt f 0)
+  text-at u k after q = text-judged (outcome knownRules ty v) budget (filterAt f 0) (Judged.Of u k) after (sym q ∙ judged) read
 
-  pub text-over : w ≡ Judging.Over → Judged.Over ≡ judgedText (outcome ty v) budget (filterAt f 0)
-  text-over q = text-judged (outcome ty v) budget (filterAt f 0) Judged.Over 0 (sym q ∙ judged) read
+  pub text-over : w ≡ Judging.Over → Judged.Over ≡ judgedText (outcome knownRules ty v) budget (filterAt f 0)
+  text-over q = text-judged (outcome knownRules ty v) budget (filterAt f 0) Judged.Over 0 (sym q ∙ judged) read
 
-  pub text-fault : w ≡ Judging.Misfit → Judged.Misfit ≡ judgedText (outcome ty v) budget (filterAt f 0)
-  text-fault q = text-judged (outcome ty v) budget (filterAt f 0) Judged.Misfit 0 (sym q ∙ judged) read
+  pub text-fault : w ≡ Judging.Misfit → Judged.Misfit ≡ judgedText (outcome knownRules ty v) budget (filterAt f 0)
+  text-fault q = text-judged (outcome knownRules ty v) budget (filterAt f 0) Judged.Misfit 0 (sym q ∙ judged) read

@@ -23,10 +23,9 @@ use Rattle.reference.specs.Named.{Held, value, defaultValue, countValue, absent
 use Rattle.reference.specs.Numbers.{component, contentsOf}
 use Rattle.rules.specs.Rule.{Syntax, booleans, integers, objectIdentifiers, octetStrings, bitStrings, strings, times, Rule, present, equal, less}
 use Rattle.rules.specs.Suits.{suits, suitsTarget}
-use Rattle.rules.specs.Asserted.{conformsTo, conforms}
 use Rattle.rules.specs.Accepts.{acceptsContents, accepts}
-use Rattle.rules.specs.inner.Answers.{isRead, isReadBy}
-use Rattle.rules.proofs.Laws.{read-basic, read-choice}
+use Rattle.rules.specs.inner.Answers.{conformsTo, conforms, said, isRead, isReadBy, acceptsContentsRead}
+use Rattle.rules.proofs.Laws.{read-basic, read-choice, read-count}
 use Rattle.trail.specs.Trail.{trail}
 use Rattle.trail.proofs.Agreeing.{laid, trail-named}
 use Rattle.walk.specs.inner.Run.{acceptsRead}
@@ -48,7 +47,8 @@ unfoldable pub Fits : List ℕ → Held → Target → Type 0
 Fits v (value x) (ofType ty) = Is ty v x × Fine ty
 Fits v (value x) ofCount = ⊥
 Fits v (defaultValue p m) g = length (contentsOf (m .presence)) ≤ 8
-Fits v (countValue p n) g = Unit {0}
+Fits v (countValue p n) (ofType ty) = ⊥
+Fits v (countValue p n) ofCount = Unit {0}
 
 unfoldable pub AllFit : List ℕ → Target → List Held → Type 0
 AllFit v g [] = Unit {0}
@@ -71,9 +71,9 @@ missing-fits : (v : List ℕ) (g : Target) (place : ℕ) (m : Member) → length
 unfolding AllFit Fits
 missing-fits v g place m h = (h, tt)
 
-count-fits : (v : List ℕ) (g : Target) (place n : ℕ) → AllFit v g (countValue place n ∷ [])
+count-fits : (v : List ℕ) (g : Target) (place n : ℕ) → some ofCount ≡ some g → AllFit v g (countValue place n ∷ [])
 unfolding AllFit Fits
-count-fits v g place n = (tt, tt)
+count-fits v g place n e = subst (λ (k : Target). AllFit v k (countValue place n ∷ [])) (some-same ofCount g e) (tt, tt)
 
 -- ---- members of a SEQUENCE
 abbrev typeNamed : List ℕ → Members → Option Target
@@ -176,7 +176,7 @@ module _ (defaults : Bool) (v : List ℕ) (g : Target) where
   elements-fit (name x) k s w f e = none-some g e
   elements-fit (index (position p)) k s w f e = element-fits v g p w e f
   elements-fit (index (fromEnd p)) k s w f e = from-end-fits v g p w e f
-  elements-fit (index count) k s {xs = xs} w f e = count-fits v g (s .place) (size xs)
+  elements-fit (index count) k s {xs = xs} w f e = count-fits v g (s .place) (size xs) e
   elements-fit (index all) k s w f e = each-fit v g w e f
 
   step-fits : (i : Id) {ty : Ty} {t : Tagging} {at end : ℕ} {x : Value} {after : ℕ} → Decodes v ty t at end x after → Fine ty
@@ -195,7 +195,7 @@ module _ (defaults : Bool) (v : List ℕ) where
   held-step i ofCount k (value x) w e = absurd w
   held-step i (ofType ty) k (defaultValue p m) w e = none-fit v k
   held-step i ofCount k (defaultValue p m) w e = none-fit v k
-  held-step i (ofType ty) k (countValue p n) w e = none-fit v k
+  held-step i (ofType ty) k (countValue p n) w e = absurd w
   held-step i ofCount k (countValue p n) w e = none-fit v k
 
   replaced-fit : (i : Id) (g k : Target) (hs : List Held) → AllFit v g hs → under i g ≡ some k → AllFit v k (replaced defaults i hs)
@@ -218,7 +218,7 @@ module _ (t : List ℕ) where
   -- contents of at most 8 octets
   syntax-short : (x : Syntax) (c : List ℕ) → conformsTo x t ≡ true → length c ≤ 8 → isRead x t c ≡ true
   unfolding isRead conformsTo
-  syntax-short booleans c h n = refl
+  syntax-short booleans c h n = h
   syntax-short integers c h n = le-leb (length c) 8 n
   syntax-short objectIdentifiers c h n = refl
   syntax-short octetStrings c h n = refl
@@ -258,22 +258,22 @@ module _ (t : List ℕ) where
     read-value (is-choice {ms = ms} {x = x} c) h = read-choice t (spotOf x .contents) r ms h
     read-value (is-list {k = k} {ty = ty} {s = s} b w q) h = read-list r k ty (s .contents) h
 
-    accepted : (g : Target) (h : Held) → suits r g ≡ true → Fits v h g → acceptsRead r t (component h) ≡ accepts r t (component h)
-    unfolding Fits acceptsRead accepts
-    accepted (ofType ty) (value x) e w = ap (λ (b : Bool). both b (acceptsContents r t (spotOf x .contents))) (read-value (w .0 .4) e)
+    accepted : (g : Target) (h : Held) → suits r g ≡ true → Fits v h g → acceptsRead r t (component h) ≡ accepts r (said r t) (component h)
+    unfolding Fits acceptsRead acceptsContentsRead accepts
+    accepted (ofType ty) (value x) e w = ap (λ (b : Bool). both b (acceptsContents r (said r t) (spotOf x .contents))) (read-value (w .0 .4) e)
     accepted ofCount (value x) e w = absurd w
-    accepted (ofType ty) (defaultValue p m) e w = ap (λ (b : Bool). both b (acceptsContents r t (contentsOf (m .presence)))) (read-short r (contentsOf (m .presence)) asserted w)
-    accepted ofCount (defaultValue p m) e w = ap (λ (b : Bool). both b (acceptsContents r t (contentsOf (m .presence)))) (read-short r (contentsOf (m .presence)) asserted w)
-    accepted (ofType ty) (countValue p n) e w = refl
-    accepted ofCount (countValue p n) e w = refl
+    accepted (ofType ty) (defaultValue p m) e w = ap (λ (b : Bool). both b (acceptsContents r (said r t) (contentsOf (m .presence)))) (read-short r (contentsOf (m .presence)) asserted w)
+    accepted ofCount (defaultValue p m) e w = ap (λ (b : Bool). both b (acceptsContents r (said r t) (contentsOf (m .presence)))) (read-short r (contentsOf (m .presence)) asserted w)
+    accepted (ofType ty) (countValue p n) e w = absurd w
+    accepted ofCount (countValue p n) e w = read-count t r n e
 
-    laid-tests : (g : Target) (hs : List Held) (n : ℕ) → suits r g ≡ true → AllFit v g hs → testing (acceptsRead r t) n (laid hs) ≡ testing (accepts r t) n (laid hs)
+    laid-tests : (g : Target) (hs : List Held) (n : ℕ) → suits r g ≡ true → AllFit v g hs → testing (acceptsRead r t) n (laid hs) ≡ testing (accepts r (said r t)) n (laid hs)
     unfolding AllFit laid testing
     laid-tests g [] n e w = refl
-    laid-tests g (h ∷ hs) n e w = go (acceptsRead r t (component h)) (accepts r t (component h)) (accepted g h e (w .0)) (laid-tests g hs (n + 1) e (w .1))
+    laid-tests g (h ∷ hs) n e w = go (acceptsRead r t (component h)) (accepts r (said r t) (component h)) (accepted g h e (w .0)) (laid-tests g hs (n + 1) e (w .1))
       where
-        go : (a b : Bool) → a ≡ b → testing (acceptsRead r t) (n + 1) (laid hs) ≡ testing (accepts r t) (n + 1) (laid hs)
-            → pick a (settled TRUE (n + 1)) (testing (acceptsRead r t) (n + 1) (laid hs)) ≡ pick b (settled TRUE (n + 1)) (testing (accepts r t) (n + 1) (laid hs))
+        go : (a b : Bool) → a ≡ b → testing (acceptsRead r t) (n + 1) (laid hs) ≡ testing (accepts r (said r t)) (n + 1) (laid hs)
+            → pick a (settled TRUE (n + 1)) (testing (acceptsRead r t) (n + 1) (laid hs)) ≡ pick b (settled TRUE (n + 1)) (testing (accepts r (said r t)) (n + 1) (laid hs))
         go true true q f = refl
         go true false q f = absurd (false≢true (sym q))
         go false true q f = absurd (false≢true q)
@@ -281,7 +281,7 @@ module _ (t : List ℕ) where
 
     -- along the trail of a stored value, with a rule that is for what the reference leads to and a text that conforms
     pub trail-tests : (defaults : Bool) (is : List Id) (ty : Ty) (k : Target) (x : Value) (n : ℕ) → Fine ty → storedValue ty v ≡ some x → allowed is ty ≡ some k → suits r k ≡ true
-        → testing (acceptsRead r t) n (trail defaults is ty v) ≡ testing (accepts r t) n (trail defaults is ty v)
+        → testing (acceptsRead r t) n (trail defaults is ty v) ≡ testing (accepts r (said r t)) n (trail defaults is ty v)
     trail-tests defaults is ty k x n f e h q =
         let z = trail-named defaults is ty v x e in
-        ap (testing (acceptsRead r t) n) z ∙ laid-tests k (named defaults is x) n q (named-fit defaults v is ty k x f e h) ∙ ap (testing (accepts r t) n) (sym z)
+        ap (testing (acceptsRead r t) n) z ∙ laid-tests k (named defaults is x) n q (named-fit defaults v is ty k x f e h) ∙ ap (testing (accepts r (said r t)) n) (sym z)

@@ -1,5 +1,5 @@
 -- One assertion: one lemma for each return; its premises are the facts as the code has them.
-use mathlib.Core.Path.{_≡_, refl, sym, ap, _∙_}
+use mathlib.Core.Path.{_≡_, refl, sym, ap, _∙_, subst}
 use mathlib.Core.Bool.{Bool, true, false, not, false≢true}
 use mathlib.Core.Option.{Option, none, some}
 use mathlib.Core.List.{List}
@@ -12,7 +12,7 @@ use Rattle.octets.specs.inner.Answers.{between}
 use Rattle.table.specs.Types.{Ty, typeFrom}
 use Rattle.table.specs.inner.Work.{Sound}
 use Rattle.value.specs.Decode.{storedValue}
-use Rattle.value.proofs.Views.{none-some}
+use Rattle.value.proofs.Views.{none-some, some-same}
 use Rattle.reference.specs.Reference.{Id, identifiers, givenIds}
 use Rattle.reference.specs.Allowed as allowed
 use Rattle.reference.specs.Allowed.{ofCount}
@@ -20,14 +20,13 @@ use Rattle.reference.specs.inner.Work.{reportTarget, rowWithin, leadsTo}
 use Rattle.reference.proofs.Laws.{row-here}
 use Rattle.reference.specs.declared.Target.{Target}
 use Rattle.rules.specs.Rule as rule
-use Rattle.rules.specs.Rule.{ruleOf}
+use Rattle.rules.specs.Rule.{ruleOf, knownRules}
 use Rattle.rules.specs.Suits.{suits}
-use Rattle.rules.specs.Asserted.{conforms}
-use Rattle.rules.specs.RuleFor.{ruleFor}
-use Rattle.rules.specs.inner.Answers.{meant, reportRule, ruleSuitsRow}
+use Rattle.rules.specs.RuleFor.{Comparison, comparison, ruleFor}
+use Rattle.rules.specs.inner.Answers.{meant, reportRule, conforms, said, ruleSuitsRow}
 use Rattle.rules.specs.declared.Rule.{Rule}
 use Rattle.rules.specs.declared.Named.{Named}
-use Rattle.rules.proofs.Laws.{suits-row, rule-for-view}
+use Rattle.rules.proofs.Laws.{suits-row, rule-for-none, rule-for-is, rule-for-view}
 use Rattle.filter.specs.Filter.{Item}
 use Rattle.octets.specs.Quoted.{undoubled, characters}
 use Rattle.reference.proofs.Laws.{undoubled-reference}
@@ -40,7 +39,7 @@ use Rattle.assertion.specs.declared.Parts.{Parts}
 use Rattle.judge.specs.Assertion.{Asked, asked, testing, outcomeOf, outcome}
 use Rattle.judge.proofs.Typed.{fine-type}
 use Rattle.judge.proofs.Fits.{trail-tests}
-use Rattle.judge.specs.inner.Work.{Ready, opposed, placed, inverse, suitsAny, askedRule, itemGiven, itemAt, charged}
+use Rattle.judge.specs.inner.Work.{Ready, opposed, placed, inverse, suitsAny, ruleAlone, askedRule, itemGiven, itemAt, charged}
 use Rattle.judge.specs.declared.Judged.{Judged}
 use Rattle.judge.specs.declared.Judging.{Judging}
 use Rattle.judge.specs.declared.Verdict.{Verdict}
@@ -85,37 +84,37 @@ module _ (g o : Option allowed.Target) (told : o ≡ g) (r : rule.Rule) (text : 
   asked-if b n e = rw (suited-is ∙ not-false a n) e
 
 -- ---- the rule of an assertion
-module _ (g : Option allowed.Target) (name text : List ℕ) (w : Named) (e : reportRule w ≡ ruleOf name) where
-  pub rule-unknown : w ≡ Named.Unknown → none ≡ askedRule g name text
-  unfolding askedRule ruleFor
+module _ (g : Option allowed.Target) (name text : List ℕ) (w : Named) (e : reportRule w ≡ ruleOf knownRules name) where
+  pub rule-unknown : w ≡ Named.Unknown → none ≡ askedRule knownRules g name text
+  unfolding askedRule
   rule-unknown q = go g
     where
-      unknown : ruleOf name ≡ none
+      unknown : ruleOf knownRules name ≡ none
       unknown = sym e ∙ ap reportRule q
 
-      go : (o : Option allowed.Target) → none ≡ bind o (λ y. ruleFor y name text)
+      go : (o : Option allowed.Target) → none ≡ bind o (λ y. ruleAlone (ruleFor knownRules y name text))
       go none = refl
-      go (some y) = rw unknown
+      go (some y) = rw (rule-for-none knownRules y name text unknown)
 
   module _ (r : Rule) (q : w ≡ Named.Known r) (b : Bool) (h : b ≡ both (suitsAny (meant r) g) (conforms (meant r) text)) where
-    known : ruleOf name ≡ some (meant r)
+    known : ruleOf knownRules name ≡ some (meant r)
     known = sym e ∙ ap reportRule q
 
-    pub rule-unsuited : not b ≡ true → none ≡ askedRule g name text
-    unfolding askedRule ruleFor
+    pub rule-unsuited : not b ≡ true → none ≡ askedRule knownRules g name text
+    unfolding askedRule
     rule-unsuited n = go g h
       where
-        go : (o : Option allowed.Target) → b ≡ both (suitsAny (meant r) o) (conforms (meant r) text) → none ≡ bind o (λ y. ruleFor y name text)
+        go : (o : Option allowed.Target) → b ≡ both (suitsAny (meant r) o) (conforms (meant r) text) → none ≡ bind o (λ y. ruleAlone (ruleFor knownRules y name text))
         go none k = refl
-        go (some y) k = rw (known, sym k ∙ not-true b n)
+        go (some y) k = rw (rule-for-is knownRules y name text (meant r) known, sym k ∙ not-true b n)
 
-    pub rule-asked : not b ≡ false → some (meant r) ≡ askedRule g name text
-    unfolding askedRule ruleFor
+    pub rule-asked : not b ≡ false → some (meant r) ≡ askedRule knownRules g name text
+    unfolding askedRule
     rule-asked n = go g h
       where
-        go : (o : Option allowed.Target) → b ≡ both (suitsAny (meant r) o) (conforms (meant r) text) → some (meant r) ≡ bind o (λ y. ruleFor y name text)
+        go : (o : Option allowed.Target) → b ≡ both (suitsAny (meant r) o) (conforms (meant r) text) → some (meant r) ≡ bind o (λ y. ruleAlone (ruleFor knownRules y name text))
         go none k = absurd (false≢true (sym k ∙ not-false b n))
-        go (some y) k = rw (known, sym k ∙ not-false b n)
+        go (some y) k = rw (rule-for-is knownRules y name text (meant r) known, sym k ∙ not-false b n)
 
 -- ---- the assertion
 -- what `asked` asks, by the rule that the code finds
@@ -130,45 +129,63 @@ module _ (ty : Ty) (given : Bool) (r : List ℕ) (defaults : Bool) (name text : 
   given-ids true = refl
   given-ids false = refl
 
-  abbrev byTarget : List Id → allowed.Target → Option Asked
-  byTarget is g = bind (ruleFor g name text) (λ x. some (record { ids = is; rule = x }))
+  abbrev asks : List Id → Comparison → Option Asked
+  asks is x = some (record { ids = is; rule = x .rule; asserted = x .asserted })
 
-  asked-by : asked ty i ≡ bind read (λ is. bind (allowed.allowed is ty) (byTarget is))
+  abbrev byTarget : List Id → allowed.Target → Option Asked
+  byTarget is g = bind (ruleFor knownRules g name text) (asks is)
+
+  asked-by : asked knownRules ty i ≡ bind read (λ is. bind (allowed.allowed is ty) (byTarget is))
   unfolding asked
   asked-by = ap (λ (o : Option (List Id)). bind o (λ is. bind (allowed.allowed is ty) (byTarget is))) (given-ids given)
 
   -- where no rule is found, nothing is asked
-  asked-none : none ≡ askedRule (leadsTo given r ty) name text → asked ty i ≡ none
+  asked-none : none ≡ askedRule knownRules (leadsTo given r ty) name text → asked knownRules ty i ≡ none
   unfolding askedRule
   asked-none e = asked-by ∙ go read e
     where
-      at : (is : List Id) (o : Option allowed.Target) → none ≡ bind o (λ g. ruleFor g name text) → bind o (byTarget is) ≡ none
-      at is none q = refl
-      at is (some g) q = rw (← q)
+      none-so : (is : List Id) (o : Option Comparison) → none ≡ ruleAlone o → bind o (asks is) ≡ none
+      none-so is none q = refl
+      none-so is (some x) q = none-some (x .rule) q
 
-      go : (o : Option (List Id)) → none ≡ bind (bind o (λ is. allowed.allowed is ty)) (λ g. ruleFor g name text) → bind o (λ is. bind (allowed.allowed is ty) (byTarget is)) ≡ none
+      at : (is : List Id) (o : Option allowed.Target) → none ≡ bind o (λ g. ruleAlone (ruleFor knownRules g name text)) → bind o (byTarget is) ≡ none
+      at is none q = refl
+      at is (some g) q = none-so is (ruleFor knownRules g name text) q
+
+      go : (o : Option (List Id)) → none ≡ bind (bind o (λ is. allowed.allowed is ty)) (λ g. ruleAlone (ruleFor knownRules g name text)) → bind o (λ is. bind (allowed.allowed is ty) (byTarget is)) ≡ none
       go none q = refl
       go (some is) q = at is (allowed.allowed is ty) q
 
   -- the rule that is found is asked, with the identifiers of the reference
   abbrev Found : rule.Rule → Type 0
-  Found x = (is : List Id) × (read ≡ some is) × (g : allowed.Target) × (allowed.allowed is ty ≡ some g) × (suits x g ≡ true) × (conforms x text ≡ true) × (asked ty i ≡ some (record { ids = is; rule = x }))
+  Found x = (is : List Id) × (read ≡ some is) × (g : allowed.Target) × (allowed.allowed is ty ≡ some g) × (suits x g ≡ true) × (conforms x text ≡ true) × (asked knownRules ty i ≡ some (record { ids = is; rule = x; asserted = said x text }))
 
-  asked-some : (x : rule.Rule) → some x ≡ askedRule (leadsTo given r ty) name text → Found x
+  found : (g : allowed.Target) (x : rule.Rule) (o : Option Comparison) → ruleFor knownRules g name text ≡ o → ruleAlone o ≡ some x
+      → (suits x g ≡ true) × (conforms x text ≡ true) × (ruleFor knownRules g name text ≡ some (comparison x (said x text)))
+  found g x none e q = none-some x q
+  found g x (some y) e q =
+      let w = rule-for-view knownRules g name text y e in
+      let same : y .rule ≡ x = some-same (y .rule) x q in (
+        subst (λ (r : rule.Rule). suits r g ≡ true) same (w .0),
+        subst (λ (r : rule.Rule). conforms r text ≡ true) same (w .1),
+        e ∙ ap (λ (z : Comparison). some z) (w .2 ∙ ap (λ (r : rule.Rule). comparison r (said r text)) same),
+      )
+
+  asked-some : (x : rule.Rule) → some x ≡ askedRule knownRules (leadsTo given r ty) name text → Found x
   unfolding askedRule
   asked-some x e = go read refl (sym e)
     where
-      at : (is : List Id) → read ≡ some is → (o : Option allowed.Target) → allowed.allowed is ty ≡ o → bind o (λ g. ruleFor g name text) ≡ some x → Found x
+      at : (is : List Id) → read ≡ some is → (o : Option allowed.Target) → allowed.allowed is ty ≡ o → bind o (λ g. ruleAlone (ruleFor knownRules g name text)) ≡ some x → Found x
       at is p none h q = none-some x q
-      at is p (some g) h q = let u = rule-for-view g name text x q in (is, p, g, h, u .0, u .1, asked-by ∙ rw (p, h, q))
+      at is p (some g) h q = let u = found g x (ruleFor knownRules g name text) refl q in (is, p, g, h, u .0, u .1, asked-by ∙ rw (p, h, u .2))
 
-      go : (o : Option (List Id)) → read ≡ o → bind (bind o (λ is. allowed.allowed is ty)) (λ g. ruleFor g name text) ≡ some x → Found x
+      go : (o : Option (List Id)) → read ≡ o → bind (bind o (λ is. allowed.allowed is ty)) (λ g. ruleAlone (ruleFor knownRules g name text)) ≡ some x → Found x
       go none p q = none-some x q
       go (some is) p q = at is p (allowed.allowed is ty) refl q
 
-  module _ (budget n : ℕ) (v : List ℕ) (w : Named) (told : reportRule w ≡ askedRule (leadsTo given r ty) name text) where
+  module _ (budget n : ℕ) (v : List ℕ) (w : Named) (told : reportRule w ≡ askedRule knownRules (leadsTo given r ty) name text) where
     -- "an Undefined assertion makes no test"
-    pub item-undefined : w ≡ Named.Unknown → n ≤ budget → Judged.Of Verdict.Undefined n ≡ charged budget n (outcome ty v (itemGiven given r defaults name text))
+    pub item-undefined : w ≡ Named.Unknown → n ≤ budget → Judged.Of Verdict.Undefined n ≡ charged budget n (outcome knownRules ty v (itemGiven given r defaults name text))
     unfolding outcome charged
     item-undefined q h = let z : n + 0 ≡ n = omega arith in rw (asked-none (sym (ap reportRule q) ∙ told), z, le-leb n budget h)
 
@@ -180,17 +197,17 @@ pub some-there : {A : Type 0} (o : Option A) → isSome o ≡ true → (a : A) �
 some-there none e = absurd (false≢true e)
 some-there (some a) e = (a, refl)
 
-module _ (chain : ℕ) (t s m v : List ℕ) (ready : Ready chain t s m v) (given : Bool) (r : List ℕ) (defaults : Bool) (name text : List ℕ) (budget n : ℕ) (w : Named) (told : reportRule w ≡ askedRule (leadsTo given r (typeFrom chain t s 0)) name text) where
+module _ (chain : ℕ) (t s m v : List ℕ) (ready : Ready chain t s m v) (given : Bool) (r : List ℕ) (defaults : Bool) (name text : List ℕ) (budget n : ℕ) (w : Named) (told : reportRule w ≡ askedRule knownRules (leadsTo given r (typeFrom chain t s 0)) name text) where
   -- the tests of an assertion that isn't Undefined
   pub item-tested : (x : Rule) (j : Judged) → w ≡ Named.Known x → j ≡ charged budget n (testing (acceptsRead (meant x) text) 0 (trail defaults (idsOr (givenIds given r)) (typeFrom chain t s 0) v))
-      → j ≡ charged budget n (outcome (typeFrom chain t s 0) v (itemGiven given r defaults name text))
+      → j ≡ charged budget n (outcome knownRules (typeFrom chain t s 0) v (itemGiven given r defaults name text))
   unfolding outcome
   item-tested x j q e =
       let ty = typeFrom chain t s 0 in
       let f = asked-some ty given r defaults name text (meant x) (sym (ap reportRule q) ∙ told) in
       let y = some-there (storedValue ty v) (ready .stored) in
       let fine = fine-type chain t s m (ready .sound) (ready .names) chain 0 (ready .rows) in
-      let z : testing (acceptsRead (meant x) text) 0 (trail defaults (f .0) ty v) ≡ testing (accepts (meant x) text) 0 (trail defaults (f .0) ty v) = trail-tests text (meant x) v (ready .short) (f .5) defaults (f .0) ty (f .2) (y .0) 0 fine (y .1) (f .3) (f .4) in
+      let z : testing (acceptsRead (meant x) text) 0 (trail defaults (f .0) ty v) ≡ testing (accepts (meant x) (said (meant x) text)) 0 (trail defaults (f .0) ty v) = trail-tests text (meant x) v (ready .short) (f .5) defaults (f .0) ty (f .2) (y .0) 0 fine (y .1) (f .3) (f .4) in
       e
       ∙ ap (λ (o : Option (List Id)). charged budget n (testing (acceptsRead (meant x) text) 0 (trail defaults (idsOr o) ty v))) (f .1)
       ∙ ap (charged budget n) (z ∙ ap (outcomeOf ty v (itemGiven given r defaults name text)) (sym (f .6)))
@@ -201,28 +218,28 @@ module _ (ty : Ty) (v : List ℕ) (c d : Option (List ℕ)) (defaults : Bool) (n
   outcome-same none = refl
   outcome-same (some a) = refl
 
-  asked-same : identifiers c ≡ identifiers d → asked ty (record { component = c; defaults = defaults; rule = name; value = text }) ≡ asked ty (record { component = d; defaults = defaults; rule = name; value = text })
+  asked-same : identifiers c ≡ identifiers d → asked knownRules ty (record { component = c; defaults = defaults; rule = name; value = text }) ≡ asked knownRules ty (record { component = d; defaults = defaults; rule = name; value = text })
   unfolding asked
   asked-same e = rw e
 
-  outcome-ids : identifiers c ≡ identifiers d → outcome ty v (record { component = c; defaults = defaults; rule = name; value = text }) ≡ outcome ty v (record { component = d; defaults = defaults; rule = name; value = text })
+  outcome-ids : identifiers c ≡ identifiers d → outcome knownRules ty v (record { component = c; defaults = defaults; rule = name; value = text }) ≡ outcome knownRules ty v (record { component = d; defaults = defaults; rule = name; value = text })
   unfolding outcome
   outcome-ids e =
       ap (outcomeOf ty v (record { component = c; defaults = defaults; rule = name; value = text })) (asked-same e)
-      ∙ outcome-same (asked ty (record { component = d; defaults = defaults; rule = name; value = text }))
+      ∙ outcome-same (asked knownRules ty (record { component = d; defaults = defaults; rule = name; value = text }))
 
 module _ (ty : Ty) (v f : List ℕ) (defaults : Bool) (name text : List ℕ) (budget n : ℕ) (j : Judged) (c : Component) where
-  pub component-missing : c ≡ Component.Missing → j ≡ charged budget n (outcome ty v (itemGiven false f defaults name text)) → j ≡ charged budget n (outcome ty v (itemAt f c defaults name text))
-  component-missing q e = e ∙ ap (λ (y : Component). charged budget n (outcome ty v (itemAt f y defaults name text))) (sym q)
+  pub component-missing : c ≡ Component.Missing → j ≡ charged budget n (outcome knownRules ty v (itemGiven false f defaults name text)) → j ≡ charged budget n (outcome knownRules ty v (itemAt f c defaults name text))
+  component-missing q e = e ∙ ap (λ (y : Component). charged budget n (outcome knownRules ty v (itemAt f y defaults name text))) (sym q)
 
-  pub component-quoted-told : (a b : ℕ) (r : List ℕ) → c ≡ Component.Quoted a b → r ≡ withinQuotes f a b → j ≡ charged budget n (outcome ty v (itemGiven true r defaults name text)) → j ≡ charged budget n (outcome ty v (itemAt f c defaults name text))
+  pub component-quoted-told : (a b : ℕ) (r : List ℕ) → c ≡ Component.Quoted a b → r ≡ withinQuotes f a b → j ≡ charged budget n (outcome knownRules ty v (itemGiven true r defaults name text)) → j ≡ charged budget n (outcome knownRules ty v (itemAt f c defaults name text))
   unfolding characters
   component-quoted-told a b r q h e =
       e
-      ∙ ap (λ (y : List ℕ). charged budget n (outcome ty v (itemGiven true y defaults name text))) h
+      ∙ ap (λ (y : List ℕ). charged budget n (outcome knownRules ty v (itemGiven true y defaults name text))) h
       ∙ ap (charged budget n) (outcome-ids ty v (some (withinQuotes f a b)) (some (undoubled (withinQuotes f a b))) defaults name text (sym (undoubled-reference (withinQuotes f a b))))
-      ∙ ap (λ (y : Component). charged budget n (outcome ty v (itemAt f y defaults name text))) (sym q)
+      ∙ ap (λ (y : Component). charged budget n (outcome knownRules ty v (itemAt f y defaults name text))) (sym q)
 
 pub parts-judged : (ty : Ty) (v f : List ℕ) (p : Parts) (c : Component) (name text : List ℕ) (budget n : ℕ) (j : Judged) → c ≡ p .component → name ≡ between f (p .rule) (p .«rule_end») → text ≡ between f (p .value) (p .«value_end»)
-    → j ≡ charged budget n (outcome ty v (itemAt f c (p .defaults) name text)) → j ≡ charged budget n (outcome ty v (itemOf f p))
+    → j ≡ charged budget n (outcome knownRules ty v (itemAt f c (p .defaults) name text)) → j ≡ charged budget n (outcome knownRules ty v (itemOf f p))
 parts-judged ty v f p c name text budget n j q h g e = e ∙ rw (q, h, g)

@@ -4,7 +4,7 @@ use mathlib.Core.Bool.{Bool, true, false, false≢true}
 use mathlib.Core.List.{List, [], _∷_}
 use Prim.Native.Nat.{ℕ}
 use Rattle.octets.specs.Pick.{pick}
-use Rattle.filter.specs.Filter.{Item, Join, and, or, Filter, Filters, item, list, inverse, endFilters, next}
+use Rattle.filter.specs.Filter.{Join, and, or, Filter, Filters, item, list, inverse, endFilters, next}
 use Rattle.judge.specs.Truth.{Truth, TRUE, FALSE, UNDEFINED, isTrue, isFalse, everyTruth, anyTruth, conjunction, disjunction, joined, opposite, truth, truths}
 use Rattle.judge.specs.Reading.{Outcome, settled, misfitAfter, ofNone, withRest, andThen, inverted, reading, readingIn}
 
@@ -83,11 +83,11 @@ of-item (misfitAfter n) = tt
 mutual
   unfolding reading truth
 
-  pub reading-truth : (f : Filter) (says : Item → Outcome) → Settles (reading says f) (truth (λ i. truthOf (says i)) f)
+  pub reading-truth : {A : Type 0} (f : Filter A) (says : A → Outcome) → Settles (reading says f) (truth (λ i. truthOf (says i)) f)
   reading-truth (item i) says = of-item (says i)
   reading-truth (list j fs) says = reading-truths fs says j
   reading-truth (inverse f) says = under-not (reading says f) (truth (λ i. truthOf (says i)) f) (reading-truth f says)
 
-  reading-truths : (fs : Filters) (says : Item → Outcome) (j : Join) → Settles (readingIn says j fs) (joined j (truths (λ i. truthOf (says i)) fs))
+  reading-truths : {A : Type 0} (fs : Filters A) (says : A → Outcome) (j : Join) → Settles (readingIn says j fs) (joined j (truths (λ i. truthOf (says i)) fs))
   reading-truths endFilters says j = empty j
   reading-truths (next f fs) says j = head j (reading says f) (truth (λ i. truthOf (says i)) f) (readingIn says j fs) (truths (λ i. truthOf (says i)) fs) (reading-truth f says) (reading-truths fs says j)

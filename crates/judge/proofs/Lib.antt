@@ -7,3 +7,4 @@ pub mod ListLaws
 pub mod FilterSteps
 pub mod Few
 pub mod Names
+pub mod Same

@@ -9,7 +9,8 @@ use Rattle.table.specs.Types.{Ty}
 use Rattle.reference.specs.Reference.{Id, identifiers}
 use Rattle.reference.specs.Allowed.{allowed}
 use Rattle.reference.specs.Numbers.{Component}
-use Rattle.rules.specs.Rule.{Rule}
+use Rattle.rules.specs.Rule.{Rule, Known}
+use Rattle.rules.specs.Asserted.{Asserted}
 use Rattle.rules.specs.RuleFor.{ruleFor}
 use Rattle.rules.specs.Accepts.{accepts}
 use Rattle.filter.specs.Filter.{Item}
@@ -17,17 +18,19 @@ use Rattle.trail.specs.Trail.{Trail, done, misfit, reach, trail}
 use Rattle.judge.specs.Truth.{TRUE, FALSE, UNDEFINED}
 use Rattle.judge.specs.Reading.{Outcome, settled, misfitAfter}
 
--- what an assertion asks of a type, where it isn't Undefined: the identifiers of its reference, and its rule
+-- what an assertion asks of a type, where it isn't Undefined: the identifiers of its reference, its rule and what its value text asserts; ks are the
+-- known rules
 pub record Asked : Type 0 where
   pub ids : List Id
   pub rule : Rule
+  pub asserted : Asserted
 
-unfoldable pub asked : Ty → Item → Option Asked
-asked ty i = do
+unfoldable pub asked : List Known → Ty → Item → Option Asked
+asked ks ty i = do
   is ← identifiers (i .component)
   target ← allowed is ty
-  r ← ruleFor target (i .rule) (i .value)
-  some (record { ids = is; rule = r })
+  x ← ruleFor ks target (i .rule) (i .value)
+  some (record { ids = is; rule = x .rule; asserted = x .asserted })
 
 -- "one [test] per value a rule is applied to. An assertion stops at its first accepted value": after n tests
 unfoldable pub testing : (Component → Bool) → ℕ → Trail → Outcome
@@ -40,7 +43,7 @@ testing accepted n (reach c a) =
 -- "an Undefined assertion makes no test"
 abbrev pub outcomeOf : Ty → List ℕ → Item → Option Asked → Outcome
 outcomeOf ty v i none = settled UNDEFINED 0
-outcomeOf ty v i (some a) = testing (accepts (a .rule) (i .value)) 0 (trail (i .defaults) (a .ids) ty v)
+outcomeOf ty v i (some a) = testing (accepts (a .rule) (a .asserted)) 0 (trail (i .defaults) (a .ids) ty v)
 
-unfoldable pub outcome : Ty → List ℕ → Item → Outcome
-outcome ty v i = outcomeOf ty v i (asked ty i)
+unfoldable pub outcome : List Known → Ty → List ℕ → Item → Outcome
+outcome ks ty v i = outcomeOf ty v i (asked ks ty i)

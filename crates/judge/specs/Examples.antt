@@ -28,10 +28,10 @@ says (u ∷ us) (n ∷ ns) = pick (eqb u 84) (settled TRUE n) (pick (eqb u 70) (
 abbrev saysItem : Item → Outcome
 saysItem i = says (i .value) (i .rule)
 
-abbrev one : String → ℕ → Filter
+abbrev one : String → ℕ → Filter Item
 one u n = item (record { component = none; defaults = true; rule = n ∷ []; value = bytes u })
 
-abbrev three : Join → Filter → Filter → Filter → Outcome
+abbrev three : Join → Filter Item → Filter Item → Filter Item → Outcome
 three j a b c = reading saysItem (list j (next a (next b (next c endFilters))))
 
 -- `and` stops at its first FALSE, `or` at its first TRUE; Undefined stops nothing; what comes after a stop makes no test, and no fault

@@ -3,7 +3,7 @@
 use Prim.Native.Nat.{ℕ, _+_}
 use mathlib.Core.Bool.{Bool}
 use Rattle.octets.specs.Pick.{pick}
-use Rattle.filter.specs.Filter.{Item, Join, and, or, Filter, Filters, item, list, inverse, endFilters, next}
+use Rattle.filter.specs.Filter.{Join, and, or, Filter, Filters, item, list, inverse, endFilters, next}
 use Rattle.judge.specs.Truth.{Truth, TRUE, FALSE, UNDEFINED, isTrue, isFalse, opposite}
 
 -- a truth with the tests made; or, after so many tests, a header that doesn't fit
@@ -41,12 +41,12 @@ inverted (settled t n) = settled (opposite t) n
 inverted (misfitAfter n) = misfitAfter n
 
 unfoldable mutual
-  pub reading : (Item → Outcome) → Filter → Outcome
+  pub reading : {A : Type 0} → (A → Outcome) → Filter A → Outcome
   reading says (item i) = says i
   reading says (list j fs) = readingIn says j fs
   reading says (inverse f) = inverted (reading says f)
 
-  pub readingIn : (Item → Outcome) → Join → Filters → Outcome
+  pub readingIn : {A : Type 0} → (A → Outcome) → Join → Filters A → Outcome
   readingIn says j endFilters = settled (ofNone j) 0
   readingIn says j (next f fs) =
       let rest = readingIn says j fs in

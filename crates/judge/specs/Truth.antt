@@ -2,7 +2,7 @@
 use mathlib.Core.Bool.{Bool, true, false}
 use mathlib.Core.List.{List, [], _∷_}
 use Rattle.octets.specs.Pick.{pick, both, either}
-use Rattle.filter.specs.Filter.{Item, Join, and, or, Filter, Filters, item, list, inverse, endFilters, next}
+use Rattle.filter.specs.Filter.{Join, and, or, Filter, Filters, item, list, inverse, endFilters, next}
 
 pub data Truth : Type 0 where
   TRUE : Truth
@@ -49,11 +49,11 @@ opposite FALSE = TRUE
 opposite UNDEFINED = UNDEFINED
 
 unfoldable mutual
-  pub truth : (Item → Truth) → Filter → Truth
+  pub truth : {A : Type 0} → (A → Truth) → Filter A → Truth
   truth says (item i) = says i
   truth says (list j fs) = joined j (truths says fs)
   truth says (inverse f) = opposite (truth says f)
 
-  pub truths : (Item → Truth) → Filters → List Truth
+  pub truths : {A : Type 0} → (A → Truth) → Filters A → List Truth
   truths says endFilters = []
   truths says (next f fs) = truth says f ∷ truths says fs

@@ -19,8 +19,8 @@ ghost use Rattle.octets.specs.Pick.{both, isSome};
 ghost use Rattle.table.specs.inner.Work.{Sound};
 ghost use Rattle.reference.specs.Reference.{givenIds};
 ghost use Rattle.reference.specs.inner.Work as reference;
-ghost use Rattle.rules.specs.Asserted.{conforms};
-ghost use Rattle.rules.specs.inner.Answers.{meant, reportRule};
+ghost use Rattle.rules.specs.Rule.{knownRules};
+ghost use Rattle.rules.specs.inner.Answers.{meant, reportRule, conforms};
 ghost use Rattle.assertion.specs.Assertion.{assertionAt};
 ghost use Rattle.assertion.specs.inner.Places.{itemOf};
 ghost use Rattle.filter.specs.Filter.{item};
@@ -117,7 +117,8 @@ fn asked_rule(
     requires sound { ⌜ Sound (tableLimits .chain) (now t) (now s) (now m) ⌝ }
     requires rows { ⌜ 0 < length (now s) ⌝ }
     ensures { λ w. ⌜ reportRule w
-        ≡ work.askedRule (reference.leadsTo given (now (r .entry)) (rowType (now (t .entry)) (now (s .entry)) 0)) (now (name .entry)) (now (text .entry)) ⌝ }
+        ≡ work.askedRule knownRules (reference.leadsTo given (now (r .entry)) (rowType (now (t .entry)) (now (s .entry)) 0))
+        (now (name .entry)) (now (text .entry)) ⌝ }
 {
     let Named::Known(rule) = rules::rule_of(name) else {
         return Named::Unknown;
@@ -177,7 +178,7 @@ fn judge_item(
     requires ready { ⌜ work.Ready (tableLimits .chain) (now t) (now s) (now m) (now v) ⌝ }
     requires within { ⌜ n ≤ budget ⌝ }
     ensures { λ w. ⌜ w
-        ≡ work.charged budget n (outcome (rowType (now (t .entry)) (now (s .entry)) 0) (now (v .entry))
+        ≡ work.charged budget n (outcome knownRules (rowType (now (t .entry)) (now (s .entry)) 0) (now (v .entry))
         (work.itemGiven given (now (r .entry)) defaults (now (name .entry)) (now (text .entry)))) ⌝ }
 {
     match asked_rule(t, s, m, given, r, name, text) {
@@ -203,7 +204,7 @@ fn judge_component(
     requires ready { ⌜ work.Ready (tableLimits .chain) (now t) (now s) (now m) (now v) ⌝ }
     requires within { ⌜ n ≤ budget ⌝ }
     ensures { λ w. ⌜ w
-        ≡ work.charged budget n (outcome (rowType (now (t .entry)) (now (s .entry)) 0) (now (v .entry))
+        ≡ work.charged budget n (outcome knownRules (rowType (now (t .entry)) (now (s .entry)) 0) (now (v .entry))
         (work.itemAt (now (f .entry)) component defaults (now (name .entry)) (now (text .entry)))) ⌝ }
 {
     match component {
@@ -237,7 +238,8 @@ fn judge_parts(
 ) -> Judged
     requires ready { ⌜ work.Ready (tableLimits .chain) (now t) (now s) (now m) (now v) ⌝ }
     requires within { ⌜ n ≤ budget ⌝ }
-    ensures { λ w. ⌜ w ≡ work.charged budget n (outcome (rowType (now (t .entry)) (now (s .entry)) 0) (now (v .entry)) (itemOf (now (f .entry)) p)) ⌝ }
+    ensures { λ w. ⌜ w
+        ≡ work.charged budget n (outcome knownRules (rowType (now (t .entry)) (now (s .entry)) 0) (now (v .entry)) (itemOf (now (f .entry)) p)) ⌝ }
 {
     let name = octets::between(f, p.rule, p.rule_end);
     let text = octets::between(f, p.value, p.value_end);
@@ -390,7 +392,7 @@ fn judge_assertion(
     requires ready { ⌜ work.Ready (tableLimits .chain) (now t) (now s) (now m) (now v) ⌝ }
     requires within { ⌜ n ≤ budget ⌝ }
     ensures { λ w. ⌜ w
-        ≡ work.judgedFilter (outcome (rowType (now (t .entry)) (now (s .entry)) 0) (now (v .entry))) live budget n
+        ≡ work.judgedFilter (outcome knownRules (rowType (now (t .entry)) (now (s .entry)) 0) (now (v .entry))) live budget n
         (parsing.made item (assertionAt (now (f .entry)) at)) ⌝ }
 {
     let Assertion::Good(parts) = assertion::read_assertion(f, at) else {
@@ -448,7 +450,8 @@ fn judge_filter(
     requires read { ⌜ isSome (parsing.filterAt (now f) at) ≡ true ⌝ }
     requires within { ⌜ n ≤ budget ⌝ }
     ensures { λ w. ⌜ w
-        ≡ work.judgedFilter (outcome (rowType (now (t .entry)) (now (s .entry)) 0) (now (v .entry))) live budget n (parsing.filterAt (now (f .entry)) at) ⌝ }
+        ≡ work.judgedFilter (outcome knownRules (rowType (now (t .entry)) (now (s .entry)) 0) (now (v .entry))) live budget n
+        (parsing.filterAt (now (f .entry)) at) ⌝ }
 {
     match filter::read_head(f, at) {
         Head::Assertion(p) => judge_assertion(t, s, m, v, f, p, live, budget, n),
@@ -476,7 +479,7 @@ fn judge_list(
     requires read { ⌜ isSome (filtersAt (now f) at) ≡ true ⌝ }
     requires within { ⌜ n ≤ budget ⌝ }
     ensures { λ w. ⌜ w
-        ≡ work.judgedFilters (outcome (rowType (now (t .entry)) (now (s .entry)) 0) (now (v .entry))) (reportJoin join) (work.begun live) budget n
+        ≡ work.judgedFilters (outcome knownRules (rowType (now (t .entry)) (now (s .entry)) 0) (now (v .entry))) (reportJoin join) (work.begun live) budget n
         (filtersAt (now (f .entry)) at) ⌝ }
 {
     let mut i = at;
@@ -500,7 +503,7 @@ pub fn judge(t: &[u8], s: &[usize], m: &[u64], v: &[u8], f: &[u8], budget: usize
     requires ready { ⌜ work.Ready (tableLimits .chain) (now t) (now s) (now m) (now v) ⌝ }
     requires read { ⌜ isSome (parsing.filterAt (now f) 0) ≡ true ⌝ }
     ensures { λ w. ⌜ w
-        ≡ work.judgedText (outcome (rowType (now (t .entry)) (now (s .entry)) 0) (now (v .entry))) budget (parsing.filterAt (now (f .entry)) 0) ⌝ }
+        ≡ work.judgedText (outcome knownRules (rowType (now (t .entry)) (now (s .entry)) 0) (now (v .entry))) budget (parsing.filterAt (now (f .entry)) 0) ⌝ }
 {
     match judge_filter(t, s, m, v, f, 0, true, budget, 0) {
         Judging::At(u, k, _) => Judged::Of(u, k),

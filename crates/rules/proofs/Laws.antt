@@ -9,7 +9,7 @@ use native.Mathlib.Nat.{add-zero}
 use borrow.Author.Tests.{eqb-true, le-leb}
 use lib.Dec.{eqb}
 use lib.ListN.{length}
-use Rattle.octets.specs.Pick.{pick, both, either, all, bind}
+use Rattle.octets.specs.Pick.{pick, both, either, all, bind, isSome}
 use Rattle.octets.proofs.Laws.{both-true, all-none}
 use Rattle.octets.proofs.TextLaws.{all-suc}
 use Rattle.der.specs.Kind.{isString}
@@ -21,12 +21,16 @@ use Rattle.rows.proofs.KindLaws.{list-kinds}
 use Rattle.table.specs.Types.{untagged, explicit, implicit, Ty, basic, sequence, choice, listOf, Members, taggingOf, membersFrom, typed, typeFrom}
 use Rattle.table.specs.inner.Work.{Sound}
 use Rattle.table.proofs.TypeCases.{tagging-cases, member-tagging, members-none, members-more}
-use Rattle.reference.specs.Allowed.{Target, ofType}
-use Rattle.rules.specs.Rule.{Syntax, booleans, integers, objectIdentifiers, octetStrings, bitStrings, strings, times, Rule, present, equal, less, ruleOf}
+use Rattle.reference.specs.Allowed.{Target, ofType, ofCount}
+use Rattle.rules.specs.Rule.{Syntax, booleans, integers, objectIdentifiers, octetStrings, bitStrings, strings, times, Rule, present, equal, less, Known, ruleOf}
 use Rattle.rules.specs.Suits.{suitsKind, isUntagged, isStringType, allStrings, suitsTarget, suits}
-use Rattle.rules.specs.Asserted.{conformsTo, conforms}
-use Rattle.rules.specs.RuleFor.{ifFor, ruleFor}
-use Rattle.rules.specs.inner.Answers.{isRead, isReadBy, stringRow, suitsRow, ruleSuitsRow}
+use Rattle.integers.specs.Asserted.{assertedInteger}
+use Rattle.times.specs.Asserted.{assertedTime}
+use Rattle.der.specs.declared.Time.{Time}
+use Rattle.rules.specs.Asserted.{Asserted, integer, time, assertedIn, assertedOf}
+use Rattle.rules.specs.Accepts.{acceptsCount}
+use Rattle.rules.specs.RuleFor.{Comparison, comparison, ifFor, ruleFor}
+use Rattle.rules.specs.inner.Answers.{conformsTo, conforms, timeOr, saidIn, said, isRead, isReadBy, acceptsCountRead, stringRow, suitsRow, ruleSuitsRow}
 
 -- ---- tests in a row, from the first and from the last
 front : (ℕ → Bool) → ℕ → ℕ → Bool
@@ -170,7 +174,7 @@ module _ (chain : ℕ) (t s m : List ℕ) (ok : Sound chain t s m) where
 module _ (t c : List ℕ) where
   basic-read : (x : Syntax) (k : ℕ) → suitsKind x k ≡ true → conformsTo x t ≡ true → legal k c ≡ true → length c ≤ 65536 → isRead x t c ≡ true
   unfolding isRead conformsTo
-  basic-read booleans k h f g n = refl
+  basic-read booleans k h f g n = f
   basic-read integers k h f g n =
       let e : k ≡ 2 = eqb-true k 2 h in
       le-leb (length c) 8 (integer-octets c (sym (legal-integer c) ∙ subst (λ (y : ℕ). legal y c ≡ true) e g) .1)
@@ -189,7 +193,7 @@ module _ (t c : List ℕ) where
 
   choice-read : (x : Syntax) → suitsKind x 8 ≡ true → isRead x t c ≡ true
   unfolding isRead
-  choice-read booleans h = refl
+  choice-read booleans h = absurd (false≢true h)
   choice-read integers h = absurd (false≢true h)
   choice-read objectIdentifiers h = refl
   choice-read octetStrings h = refl
@@ -204,15 +208,75 @@ module _ (t c : List ℕ) where
   read-choice (equal x) ms h = choice-read x (both-true (suitsKind x 8) (allStrings ms) h .0)
   read-choice (less x) ms h = choice-read x (both-true (suitsKind x 8) (allStrings ms) h .0)
 
--- ---- the rule of an assertion is for the target, and the value text conforms
-pub rule-for-view : (g : Target) (rule value : List ℕ) (r : Rule) → ruleFor g rule value ≡ some r → (suits r g ≡ true) × (conforms r value ≡ true)
-unfolding ruleFor
-rule-for-view g rule value r = go (ruleOf rule)
+-- ---- what a text asserts: nothing where it doesn't conform, whatever the reference leads to
+asserted-in : (x : Syntax) (g : Target) (t : List ℕ) → assertedIn x g t ≡ pick (conformsTo x t) (some (saidIn x t)) none
+unfolding assertedIn conformsTo saidIn
+asserted-in booleans g t = refl
+asserted-in integers g t = refl
+asserted-in objectIdentifiers g t = refl
+asserted-in octetStrings g t = refl
+asserted-in bitStrings g t = refl
+asserted-in (strings fold) g t = refl
+asserted-in times g t = go (assertedTime t)
   where
-    fitting : (x : Rule) (b : Bool) → both (suits x g) (conforms x value) ≡ b → pick b (some x) none ≡ some r → (suits r g ≡ true) × (conforms r value ≡ true)
-    fitting x true e q = let z : x ≡ r = cc in both-true (suits r g) (conforms r value) (subst (λ (y : Rule). both (suits y g) (conforms y value) ≡ true) z e)
-    fitting x false e q = absurd (let z : _≡_ {A = ℕ} 0 1 = cc in omega arith)
+    go : (o : Option Time) → bind o (λ u. some (time u)) ≡ pick (isSome o) (some (timeOr o)) none
+    go none = refl
+    go (some u) = refl
 
-    go : (o : Option Rule) → bind o (ifFor g value) ≡ some r → (suits r g ≡ true) × (conforms r value ≡ true)
-    go none q = absurd (let z : _≡_ {A = ℕ} 0 1 = cc in omega arith)
-    go (some x) q = fitting x (both (suits x g) (conforms x value)) refl q
+pub asserted-is : (r : Rule) (g : Target) (t : List ℕ) → assertedOf r g t ≡ pick (conforms r t) (some (said r t)) none
+unfolding assertedOf conforms said
+asserted-is present g t = refl
+asserted-is (equal x) g t = asserted-in x g t
+asserted-is (less x) g t = asserted-in x g t
+
+-- ---- the text of a rule that is for a count asserts an integer
+module _ (t : List ℕ) where
+  count-said : (x : Syntax) → suitsKind x 2 ≡ true → integer (assertedInteger t) ≡ saidIn x t
+  unfolding saidIn
+  count-said booleans h = absurd (false≢true h)
+  count-said integers h = refl
+  count-said objectIdentifiers h = absurd (false≢true h)
+  count-said octetStrings h = absurd (false≢true h)
+  count-said bitStrings h = absurd (false≢true h)
+  count-said (strings fold) h = absurd (false≢true (sym (string-kinds 2) ∙ h))
+  count-said times h = absurd (false≢true h)
+
+  pub read-count : (r : Rule) (n : ℕ) → suits r ofCount ≡ true → acceptsCountRead r t n ≡ acceptsCount r (said r t) n
+  unfolding suits suitsTarget acceptsCountRead acceptsCount said
+  read-count present n h = refl
+  read-count (equal x) n h = ap (λ (a : Asserted). acceptsCount (equal x) a n) (count-said x h)
+  read-count (less x) n h = ap (λ (a : Asserted). acceptsCount (less x) a n) (count-said x h)
+
+-- ---- the rule of an assertion is for the target, and the value text conforms
+module _ (ks : List Known) (g : Target) (rule value : List ℕ) where
+  pub rule-for-none : ruleOf ks rule ≡ none → ruleFor ks g rule value ≡ none
+  unfolding ruleFor
+  rule-for-none e = rw e
+
+  if-for : (r : Rule) → ifFor g value r ≡ pick (both (suits r g) (conforms r value)) (some (comparison r (said r value))) none
+  if-for r = ap (λ (o : Option Asserted). pick (suits r g) (bind o (λ a. some (comparison r a))) none) (asserted-is r g value) ∙ go (suits r g) (conforms r value)
+    where
+      go : (a b : Bool) → pick a (bind (pick b (some (said r value)) none) (λ y. some (comparison r y))) none ≡ pick (both a b) (some (comparison r (said r value))) none
+      go true true = refl
+      go true false = refl
+      go false b = refl
+
+  pub rule-for-is : (r : Rule) → ruleOf ks rule ≡ some r → ruleFor ks g rule value ≡ pick (both (suits r g) (conforms r value)) (some (comparison r (said r value))) none
+  unfolding ruleFor
+  rule-for-is r e = rw e (if-for r)
+
+  pub rule-for-view : (x : Comparison) → ruleFor ks g rule value ≡ some x → (suits (x .rule) g ≡ true) × (conforms (x .rule) value ≡ true) × (x ≡ comparison (x .rule) (said (x .rule) value))
+  rule-for-view x q = go (ruleOf ks rule) refl
+    where
+      fitting : (r : Rule) (b : Bool) → both (suits r g) (conforms r value) ≡ b → pick b (some (comparison r (said r value))) none ≡ some x
+          → (suits (x .rule) g ≡ true) × (conforms (x .rule) value ≡ true) × (x ≡ comparison (x .rule) (said (x .rule) value))
+      fitting r true e p =
+          let is : x ≡ comparison r (said r value) = cc in
+          let same : r ≡ x .rule = sym (ap (λ (y : Comparison). y .rule) is) in
+          let w = both-true (suits r g) (conforms r value) e in
+          (subst (λ (y : Rule). suits y g ≡ true) same (w .0), subst (λ (y : Rule). conforms y value ≡ true) same (w .1), is ∙ ap (λ (y : Rule). comparison y (said y value)) same)
+      fitting r false e p = absurd (let z : _≡_ {A = ℕ} 0 1 = cc in omega arith)
+
+      go : (o : Option Rule) → ruleOf ks rule ≡ o → (suits (x .rule) g ≡ true) × (conforms (x .rule) value ≡ true) × (x ≡ comparison (x .rule) (said (x .rule) value))
+      go none e = absurd (let n : none ≡ some x = sym (rule-for-none e) ∙ q in let z : _≡_ {A = ℕ} 0 1 = cc in omega arith)
+      go (some r) e = fitting r (both (suits r g) (conforms r value)) refl (sym (rule-for-is r e) ∙ q)

@@ -13,7 +13,7 @@ use Rattle.octets.specs.Octets.{octet, same}
 use Rattle.octets.specs.Text.{lower}
 use Rattle.octets.proofs.Laws.{rest-cons, rest-none}
 use Rattle.octets.proofs.TextLaws.{same-nil, same-shorter, same-longer, same-cons}
-use Rattle.rules.specs.Rule.{Rule, Known, sameName, ruleIn}
+use Rattle.rules.specs.Rule.{Rule, Known, sameName, ruleOf}
 use Rattle.rules.specs.inner.Answers.{called}
 
 -- ---- names
@@ -70,15 +70,15 @@ module _ (t name oid : List ℕ) (u : Bool) (told : u ≡ sameName t name) where
   called-oid v h e = rw (sym told ∙ h) e
 
 -- the rule of a text in a table, row by row: u is what the code found of the first row
-pub rule-none : (t : List ℕ) → none ≡ ruleIn [] t
-unfolding ruleIn
+pub rule-none : (t : List ℕ) → none ≡ ruleOf [] t
+unfolding ruleOf
 rule-none t = refl
 
 module _ (t name oid : List ℕ) (rule : Rule) (ks : List Known) (u : Bool) (told : u ≡ called t name oid) where
-  pub rule-here : u ≡ true → some rule ≡ ruleIn (record { name = name; oid = oid; rule = rule } ∷ ks) t
-  unfolding ruleIn called
+  pub rule-here : u ≡ true → some rule ≡ ruleOf (record { name = name; oid = oid; rule = rule } ∷ ks) t
+  unfolding ruleOf called
   rule-here h = rw (sym told ∙ h)
 
-  pub rule-after : (r : Option Rule) → u ≡ false → r ≡ ruleIn ks t → r ≡ ruleIn (record { name = name; oid = oid; rule = rule } ∷ ks) t
-  unfolding ruleIn called
+  pub rule-after : (r : Option Rule) → u ≡ false → r ≡ ruleOf ks t → r ≡ ruleOf (record { name = name; oid = oid; rule = rule } ∷ ks) t
+  unfolding ruleOf called
   rule-after r h e = rw (sym told ∙ h) e

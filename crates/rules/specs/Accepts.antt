@@ -1,52 +1,62 @@
 -- Rules: "A rule accepts a named value where it is TRUE for it: presentMatch for any, an ordering rule for one less than the asserted, each other
--- rule here for an equal one, strings as prepared below." t is a value text that conforms, c the contents of a component.
+-- rule here for an equal one, strings as prepared below." What the value text asserts is put to the contents c of a component.
 use Prim.Native.Nat.{ℕ}
 use mathlib.Core.Bool.{Bool, true, false}
 use mathlib.Core.List.{List}
-use Rattle.octets.specs.Pick.{pick}
-use Rattle.octets.specs.Octets.{same, below, bytes}
+use Rattle.octets.specs.Pick.{pick, no}
+use Rattle.octets.specs.Octets.{same, below}
 use Rattle.der.specs.Time.{timeOf, sameTime, earlier}
-use Rattle.der.specs.Meaning.{plus, sameWhole, lessWhole, integerOf, booleanOf, arcsOf, bitsOf}
-use Rattle.der.specs.Dotted.{dottedArcs}
-use Rattle.integers.specs.Asserted.{assertedInteger}
-use Rattle.binary.specs.Asserted.{assertedOctets, assertedBits}
-use Rattle.strings.specs.Asserted.{assertedText}
+use Rattle.der.specs.Meaning.{Whole, plus, sameWhole, lessWhole, integerOf, booleanOf, arcsOf, bitsOf}
 use Rattle.strings.specs.Prepared.{prepared}
 use Rattle.reference.specs.Numbers.{Component, stored, byDefault, byCount, contentsOf}
-use Rattle.rules.specs.Rule.{Syntax, booleans, integers, objectIdentifiers, octetStrings, bitStrings, strings, times, Rule, present, equal, less}
+use Rattle.rules.specs.Rule.{Rule, present, equal, less}
+use Rattle.rules.specs.Asserted.{Asserted, anyValue, truth, integer, arcs, octets, bits, text, time}
 
 -- an equal one; bits "equal in number and bit by bit"
-unfoldable pub isEqual : Syntax → List ℕ → List ℕ → Bool
-isEqual booleans t c = pick (booleanOf c) (same t (bytes "TRUE")) (same t (bytes "FALSE"))
-isEqual integers t c = sameWhole (integerOf c) (assertedInteger t)
-isEqual objectIdentifiers t c = same (arcsOf c) (dottedArcs t)
-isEqual octetStrings t c = same c (assertedOctets t)
-isEqual bitStrings t c = same (bitsOf c) (assertedBits t)
-isEqual (strings fold) t c = same (prepared fold c) (prepared fold (assertedText t))
-isEqual times t c = sameTime (timeOf c) (timeOf (assertedText t))
+unfoldable pub isEqual : Asserted → List ℕ → Bool
+isEqual anyValue c = true
+isEqual (truth b) c = pick (booleanOf c) b (no b)
+isEqual (integer n) c = sameWhole (integerOf c) n
+isEqual (arcs l) c = same (arcsOf c) l
+isEqual (octets l) c = same c l
+isEqual (bits l) c = same (bitsOf c) l
+isEqual (text fold l) c = same (prepared fold c) (prepared fold l)
+isEqual (time u) c = sameTime (timeOf c) u
 
--- "Ordering is TRUE if the stored value is less"; three syntaxes have an ordering rule
-unfoldable pub isLess : Syntax → List ℕ → List ℕ → Bool
-isLess booleans t c = false
-isLess integers t c = lessWhole (integerOf c) (assertedInteger t)
-isLess objectIdentifiers t c = false
-isLess octetStrings t c = below c (assertedOctets t)
-isLess bitStrings t c = false
-isLess (strings fold) t c = false
-isLess times t c = earlier (timeOf c) (timeOf (assertedText t))
+-- "Ordering is TRUE if the stored value is less"; of integers, octets and times
+unfoldable pub isLess : Asserted → List ℕ → Bool
+isLess anyValue c = false
+isLess (truth b) c = false
+isLess (integer n) c = lessWhole (integerOf c) n
+isLess (arcs l) c = false
+isLess (octets l) c = below c l
+isLess (bits l) c = false
+isLess (text fold l) c = false
+isLess (time u) c = earlier (timeOf c) u
 
-unfoldable pub acceptsContents : Rule → List ℕ → List ℕ → Bool
-acceptsContents present t c = true
-acceptsContents (equal s) t c = isEqual s t c
-acceptsContents (less s) t c = isLess s t c
+unfoldable pub acceptsContents : Rule → Asserted → List ℕ → Bool
+acceptsContents present a c = true
+acceptsContents (equal s) a c = isEqual a c
+acceptsContents (less s) a c = isLess a c
+
+-- a test of an asserted integer; none is asserted where it is something else
+abbrev pub ofInteger : (Whole → Bool) → Asserted → Bool
+ofInteger test anyValue = false
+ofInteger test (truth b) = false
+ofInteger test (integer n) = test n
+ofInteger test (arcs l) = false
+ofInteger test (octets l) = false
+ofInteger test (bits l) = false
+ofInteger test (text fold l) = false
+ofInteger test (time u) = false
 
 -- a count is an INTEGER
-unfoldable pub acceptsCount : Rule → List ℕ → ℕ → Bool
-acceptsCount present t n = true
-acceptsCount (equal s) t n = sameWhole (plus n) (assertedInteger t)
-acceptsCount (less s) t n = lessWhole (plus n) (assertedInteger t)
+unfoldable pub acceptsCount : Rule → Asserted → ℕ → Bool
+acceptsCount present a n = true
+acceptsCount (equal s) a n = ofInteger (sameWhole (plus n)) a
+acceptsCount (less s) a n = ofInteger (lessWhole (plus n)) a
 
-unfoldable pub accepts : Rule → List ℕ → Component → Bool
-accepts r t (stored s) = acceptsContents r t (s .contents)
-accepts r t (byDefault place m) = acceptsContents r t (contentsOf (m .presence))
-accepts r t (byCount place n) = acceptsCount r t n
+unfoldable pub accepts : Rule → Asserted → Component → Bool
+accepts r a (stored s) = acceptsContents r a (s .contents)
+accepts r a (byDefault place m) = acceptsContents r a (contentsOf (m .presence))
+accepts r a (byCount place n) = acceptsCount r a n

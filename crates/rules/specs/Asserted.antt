@@ -1,33 +1,52 @@
--- Rules: when a value text conforms to a syntax, and to what a rule asserts. The syntaxes of integers, octets and bits, strings and times are in the
--- crates integers, binary, strings and times; dotted OIDs in der/specs/Dotted.
+-- Rules: what a value text asserts, by its rule and what its reference leads to; nothing where it doesn't conform. The syntaxes of integers, octets and
+-- bits, strings and times are in the crates integers, binary, strings and times; dotted OIDs in der/specs/Dotted.
 use Prim.Native.Nat.{ℕ}
 use mathlib.Core.Bool.{Bool}
+use mathlib.Core.Option.{Option, none, some}
 use mathlib.Core.List.{List}
-use Rattle.octets.specs.Pick.{either}
+use Rattle.octets.specs.Pick.{pick, either, bind}
 use Rattle.octets.specs.Octets.{same, bytes}
-use Rattle.der.specs.Dotted.{isDotted}
-use Rattle.integers.specs.Asserted.{isInteger}
-use Rattle.binary.specs.Asserted.{isOctets, isBits}
-use Rattle.strings.specs.Asserted.{isText}
-use Rattle.times.specs.Asserted.{isTime}
+use Rattle.der.specs.Meaning.{Whole}
+use Rattle.der.specs.Dotted.{isDotted, dottedArcs}
+use Rattle.der.specs.declared.Time.{Time}
+use Rattle.integers.specs.Asserted.{isInteger, assertedInteger}
+use Rattle.binary.specs.Asserted.{isOctets, assertedOctets, isBits, assertedBits}
+use Rattle.strings.specs.Asserted.{isText, assertedText}
+use Rattle.times.specs.Asserted.{assertedTime}
+use Rattle.reference.specs.Allowed.{Target}
 use Rattle.rules.specs.Rule.{Syntax, booleans, integers, objectIdentifiers, octetStrings, bitStrings, strings, times, Rule, present, equal, less}
+
+-- any value; a truth; an integer; the arcs of an OID; octets; bits; the characters of a string, to be compared with A..Z folded or exactly; a time
+pub data Asserted : Type 0 where
+  anyValue : Asserted
+  truth : Bool → Asserted
+  integer : Whole → Asserted
+  arcs : List ℕ → Asserted
+  octets : List ℕ → Asserted
+  bits : List ℕ → Asserted
+  text : Bool → List ℕ → Asserted
+  time : Time → Asserted
 
 -- "Booleans: `TRUE` or `FALSE`"
 unfoldable pub isTruth : List ℕ → Bool
 isTruth t = either (same t (bytes "TRUE")) (same t (bytes "FALSE"))
 
+-- a text asserts this, if it conforms
+abbrev pub asserts : Bool → Asserted → Option Asserted
+asserts conforms a = pick conforms (some a) none
+
 -- OIDs: "a name there doesn't conform"
-unfoldable pub conformsTo : Syntax → List ℕ → Bool
-conformsTo booleans t = isTruth t
-conformsTo integers t = isInteger t
-conformsTo objectIdentifiers t = isDotted t
-conformsTo octetStrings t = isOctets t
-conformsTo bitStrings t = isBits t
-conformsTo (strings fold) t = isText t
-conformsTo times t = isTime t
+unfoldable pub assertedIn : Syntax → Target → List ℕ → Option Asserted
+assertedIn booleans g t = asserts (isTruth t) (truth (same t (bytes "TRUE")))
+assertedIn integers g t = asserts (isInteger t) (integer (assertedInteger t))
+assertedIn objectIdentifiers g t = asserts (isDotted t) (arcs (dottedArcs t))
+assertedIn octetStrings g t = asserts (isOctets t) (octets (assertedOctets t))
+assertedIn bitStrings g t = asserts (isBits t) (bits (assertedBits t))
+assertedIn (strings fold) g t = asserts (isText t) (text fold (assertedText t))
+assertedIn times g t = bind (assertedTime t) (λ u. some (time u))
 
 -- presentMatch: "value `NULL`"
-unfoldable pub conforms : Rule → List ℕ → Bool
-conforms present t = same t (bytes "NULL")
-conforms (equal s) t = conformsTo s t
-conforms (less s) t = conformsTo s t
+unfoldable pub assertedOf : Rule → Target → List ℕ → Option Asserted
+assertedOf present g t = asserts (same t (bytes "NULL")) anyValue
+assertedOf (equal s) g t = assertedIn s g t
+assertedOf (less s) g t = assertedIn s g t

@@ -1,20 +1,20 @@
 -- The definitions of this crate and those below, as one name for the `unfolding` line of a computed example.
 use Prim.Native.Nat.{ℕ}
 use Rattle.reference.specs.Computing.{referenceComputes}
-use Rattle.rules.specs.Rule.{sameName, ruleIn, ruleOf}
+use Rattle.rules.specs.Rule.{knownRules, sameName, ruleOf}
 use Rattle.rules.specs.Suits.{allStrings, suitsTarget, suits}
 use Rattle.integers.specs.Asserted.{isInteger, assertedInteger}
 use Rattle.binary.specs.Asserted.{inQuotes, isHexString, isBitText, isOctets, assertedOctets, isBits, hexBits, textBits, assertedBits}
-use Rattle.strings.specs.Prepared.{squeezed, folded, prepared}
+use Rattle.strings.specs.Prepared.{charactersIn, folded, image, images, joined, prepared}
 use Rattle.strings.specs.Asserted.{isText, assertedText}
-use Rattle.times.specs.Asserted.{isTime}
-use Rattle.rules.specs.Asserted.{isTruth, conformsTo, conforms}
+use Rattle.times.specs.Asserted.{isTime, assertedTime}
+use Rattle.rules.specs.Asserted.{isTruth, assertedIn, assertedOf}
 use Rattle.rules.specs.RuleFor.{ruleFor}
 use Rattle.rules.specs.Accepts.{isEqual, isLess, acceptsContents, acceptsCount, accepts}
 
 unfoldable pub rulesCompute : ℕ
-unfolding referenceComputes sameName ruleIn ruleOf allStrings suitsTarget suits
-    squeezed folded prepared isTruth isInteger assertedInteger inQuotes isHexString isBitText isOctets assertedOctets
-    isBits hexBits textBits assertedBits isText assertedText isTime
-    conformsTo conforms ruleFor isEqual isLess acceptsContents acceptsCount accepts
+unfolding referenceComputes knownRules sameName ruleOf allStrings suitsTarget suits
+    charactersIn folded image images joined prepared isTruth isInteger assertedInteger inQuotes isHexString isBitText isOctets assertedOctets
+    isBits hexBits textBits assertedBits isText assertedText isTime assertedTime
+    assertedIn assertedOf ruleFor isEqual isLess acceptsContents acceptsCount accepts
 rulesCompute = 0

@@ -10,6 +10,9 @@ use Rattle.octets.specs.Octets.{bytes, hex}
 use Rattle.table.specs.Types.{Tagging, untagged, explicit, mandatory, Ty, basic, sequence, choice, noMore, more}
 use Rattle.reference.specs.Allowed.{Target, ofType, ofCount}
 use Rattle.reference.specs.Numbers.{Component, stored, byCount}
+use Rattle.rules.specs.Rule.{knownRules}
+use Rattle.rules.specs.Rule as rule
+use Rattle.rules.specs.Asserted.{Asserted, anyValue, truth, integer, arcs, octets, bits, text, time, assertedOf}
 use Rattle.rules.specs.RuleFor.{ruleFor}
 use Rattle.strings.specs.Prepared.{prepared}
 use Rattle.rules.specs.Accepts.{accepts}
@@ -17,7 +20,20 @@ use Rattle.rules.specs.Computing.{rulesCompute}
 
 -- a rule's answer for one component of a target; none where it is Undefined
 test : Target → String → Component → String → Option Bool
-test g rule c value = bind (ruleFor g (bytes rule) (bytes value)) (λ r. some (accepts r (bytes value) c))
+test g rule c value = bind (ruleFor knownRules g (bytes rule) (bytes value)) (λ x. some (accepts (x .rule) (x .asserted) c))
+
+-- what a value text asserts
+says : rule.Rule → String → Option Asserted
+says r value = assertedOf r ofCount (bytes value)
+
+asserting : says rule.present "NULL" ∷ says (rule.equal rule.booleans) "FALSE" ∷ says (rule.less rule.integers) "-3" ∷ says (rule.equal rule.objectIdentifiers) "2.5.13"
+    ∷ says (rule.equal rule.octetStrings) "'0AFF'H" ∷ says (rule.equal rule.bitStrings) "'A'H" ∷ says (rule.equal (rule.strings true)) "\"A\"\"b\""
+    ∷ says (rule.less rule.times) "\"20240229120000.5Z\"" ∷ says (rule.equal rule.integers) "03" ∷ says (rule.equal rule.times) "\"20230229120000Z\"" ∷ []
+    ≡ some anyValue ∷ some (truth false) ∷ some (integer (record { minus = true; size = 3 })) ∷ some (arcs (2 ∷ 5 ∷ 13 ∷ []))
+    ∷ some (octets (hex "0AFF")) ∷ some (bits (1 ∷ 0 ∷ 1 ∷ 0 ∷ [])) ∷ some (text true (bytes "A\"b"))
+    ∷ some (time (record { stamp = 20240229120000; fraction = 500000000 })) ∷ none ∷ none ∷ []
+unfolding rulesCompute says
+asserting = refl
 
 abbrev contents : List ℕ → Component
 contents c = stored (record { place = 0; size = 0; contents = c })

@@ -32,7 +32,7 @@ pub record Known : Type 0 where
 abbrev pub known : String → String → Rule → Known
 known name oid rule = record { name = bytes name; oid = bytes oid; rule = rule }
 
-abbrev pub knownRules : List Known
+unfoldable pub knownRules : List Known
 knownRules =
     known "presentMatch" "1.2.36.79672281.1.13.5" present
     ∷ known "booleanMatch" "2.5.13.13" (equal booleans)
@@ -52,10 +52,7 @@ knownRules =
 unfoldable pub sameName : List ℕ → List ℕ → Bool
 sameName a b = same (map lower a) (map lower b)
 
-unfoldable pub ruleIn : List Known → List ℕ → Option Rule
-ruleIn [] t = none
-ruleIn (k ∷ ks) t = let r = ruleIn ks t in pick (either (sameName t (k .name)) (same t (k .oid))) (some (k .rule)) r
-
--- the rule of a name or dotted OID; none where it is unknown
-unfoldable pub ruleOf : List ℕ → Option Rule
-ruleOf t = ruleIn knownRules t
+-- the rule that a name or dotted OID has among the known ones; none where it is unknown
+unfoldable pub ruleOf : List Known → List ℕ → Option Rule
+ruleOf [] t = none
+ruleOf (k ∷ ks) t = let r = ruleOf ks t in pick (either (sameName t (k .name)) (same t (k .oid))) (some (k .rule)) r

@@ -9,10 +9,9 @@ ghost use Rattle.octets.specs.Text.{lower};
 ghost use Rattle.der.specs.Kind.{isString};
 ghost use Rattle.der.specs.Meaning.{booleanOf};
 ghost use Rattle.reference.specs.Allowed.{ofCount};
-ghost use Rattle.rules.specs.Rule.{sameName, knownRules, ruleIn, ruleOf};
+ghost use Rattle.rules.specs.Rule.{sameName, knownRules, ruleOf};
 ghost use Rattle.rules.specs.Suits as suiting;
-ghost use Rattle.rules.specs.Asserted as asserted;
-ghost use Rattle.rules.specs.Accepts as accepting;
+ghost use Rattle.rules.specs.Asserted.{isTruth};
 ghost use Rattle.rules.specs.inner.Answers as answers;
 
 // What a rule compares; strings with A..Z folded, or exactly.
@@ -77,7 +76,7 @@ fn is_called(t: &[u8], name: &[u8], oid: &[u8]) -> bool
 
 // The rule of a name or dotted OID, from a row of the table on: here from the 11th.
 fn time_rule(t: &[u8]) -> Named
-    ensures { λ r. ⌜ answers.reportRule r ≡ ruleIn (drop 10 knownRules) (now (t .entry)) ⌝ }
+    ensures { λ r. ⌜ answers.reportRule r ≡ ruleOf (drop 10 knownRules) (now (t .entry)) ⌝ }
 {
     if is_called(t, b"generalizedTimeMatch", b"2.5.13.27") {
         return Named::Known(Rule::Equal(Syntax::Times));
@@ -90,7 +89,7 @@ fn time_rule(t: &[u8]) -> Named
 
 // From the 8th row on.
 fn text_rule(t: &[u8]) -> Named
-    ensures { λ r. ⌜ answers.reportRule r ≡ ruleIn (drop 7 knownRules) (now (t .entry)) ⌝ }
+    ensures { λ r. ⌜ answers.reportRule r ≡ ruleOf (drop 7 knownRules) (now (t .entry)) ⌝ }
 {
     if is_called(t, b"bitStringMatch", b"2.5.13.16") {
         return Named::Known(Rule::Equal(Syntax::BitStrings));
@@ -106,7 +105,7 @@ fn text_rule(t: &[u8]) -> Named
 
 // From the 5th row on.
 fn octet_rule(t: &[u8]) -> Named
-    ensures { λ r. ⌜ answers.reportRule r ≡ ruleIn (drop 4 knownRules) (now (t .entry)) ⌝ }
+    ensures { λ r. ⌜ answers.reportRule r ≡ ruleOf (drop 4 knownRules) (now (t .entry)) ⌝ }
 {
     if is_called(t, b"objectIdentifierMatch", b"2.5.13.0") {
         return Named::Known(Rule::Equal(Syntax::ObjectIdentifiers));
@@ -122,7 +121,7 @@ fn octet_rule(t: &[u8]) -> Named
 
 // The rule of a name or dotted OID: the first row of the table that has it.
 pub fn rule_of(t: &[u8]) -> Named
-    ensures { λ r. ⌜ answers.reportRule r ≡ ruleOf (now (t .entry)) ⌝ }
+    ensures { λ r. ⌜ answers.reportRule r ≡ ruleOf knownRules (now (t .entry)) ⌝ }
 {
     if is_called(t, b"presentMatch", b"1.2.36.79672281.1.13.5") {
         return Named::Known(Rule::Present);
@@ -141,7 +140,7 @@ pub fn rule_of(t: &[u8]) -> Named
 
 // ---- conforming
 fn is_truth(t: &[u8]) -> bool
-    ensures { λ r. ⌜ r ≡ asserted.isTruth (now (t .entry)) ⌝ }
+    ensures { λ r. ⌜ r ≡ isTruth (now (t .entry)) ⌝ }
 {
     if octets::same(t, b"TRUE") {
         return true;
@@ -150,7 +149,7 @@ fn is_truth(t: &[u8]) -> bool
 }
 
 fn conforms_to(x: Syntax, t: &[u8]) -> bool
-    ensures { λ r. ⌜ r ≡ asserted.conformsTo (answers.syntaxOf x) (now (t .entry)) ⌝ }
+    ensures { λ r. ⌜ r ≡ answers.conformsTo (answers.syntaxOf x) (now (t .entry)) ⌝ }
 {
     match x {
         Syntax::Booleans => is_truth(t),
@@ -165,7 +164,7 @@ fn conforms_to(x: Syntax, t: &[u8]) -> bool
 
 // Whether a value text conforms to what a rule asserts.
 pub fn conforms(rule: Rule, t: &[u8]) -> bool
-    ensures { λ r. ⌜ r ≡ asserted.conforms (answers.meant rule) (now (t .entry)) ⌝ }
+    ensures { λ r. ⌜ r ≡ answers.conforms (answers.meant rule) (now (t .entry)) ⌝ }
 {
     match rule {
         Rule::Present => octets::same(t, b"NULL"),
@@ -225,7 +224,7 @@ pub fn accepts_contents(rule: Rule, t: &[u8], c: &[u8]) -> bool
 
 // Whether a rule accepts a count.
 pub fn accepts_count(rule: Rule, t: &[u8], n: u64) -> bool
-    ensures { λ r. ⌜ r ≡ accepting.acceptsCount (answers.meant rule) (now (t .entry)) n ⌝ }
+    ensures { λ r. ⌜ r ≡ answers.acceptsCountRead (answers.meant rule) (now (t .entry)) n ⌝ }
 {
     match rule {
         Rule::Present => true,

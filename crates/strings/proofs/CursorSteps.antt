@@ -1,19 +1,19 @@
 -- The cursor of a prepared string, and two prepared strings side by side.
 use mathlib.Core.Path.{_≡_, refl, sym, ap, ap₂, _∙_}
 use mathlib.Core.Bool.{Bool, true, false}
-use mathlib.Core.List.{List, [], _∷_}
+use mathlib.Core.List.{List, [], _∷_, map}
 use Prim.Native.Nat.{ℕ, _<_}
 use native.Mathlib.Omega.{arith}
 use borrow.Author.Tests.{eq-eqb, ne-eqb}
 use lib.Dec.{eqb}
 use lib.ListN.{length}
-use Rattle.octets.specs.Pick.{both}
-use Rattle.octets.specs.Octets.{same}
+use Rattle.octets.specs.Pick.{pick, both}
+use Rattle.octets.specs.Octets.{octet, same}
 use Rattle.octets.specs.Quoted.{undoubled}
 use Rattle.octets.proofs.TextLaws.{same-nil, same-shorter, same-longer, same-cons}
 use Rattle.strings.specs.Asserted.{assertedText}
-use Rattle.strings.specs.Prepared.{afterSpace, spaced, squeezed, prepared}
-use Rattle.strings.specs.inner.Cursor.{charactersOf, lettersAt, reportLetter, restAt, rest, reportStep, emitted, isEnd}
+use Rattle.strings.specs.Prepared.{charactersIn, isTail, prefixed, Mark, blank, shown, markOf, folded, image, images, afterSpace, spaced, joined, prepared}
+use Rattle.strings.specs.inner.Cursor.{charactersOf, foldOctet, squeezed, lettersAt, reportLetter, restAt, rest, reportStep, emitted, isEnd}
 use Rattle.strings.specs.declared.Before.{Before}
 use Rattle.strings.specs.declared.Letter.{Letter}
 use Rattle.strings.specs.declared.Cursor.{Cursor}
@@ -69,9 +69,42 @@ module _ (fold quoted : Bool) (s : List ℕ) (at : ℕ) (p : Before) (l : List �
 abbrev pub begun : Cursor
 begun = record { at = 0; before = Before.Nothing }
 
+-- the images of a string's characters, octet by octet
+first-image : (fold : Bool) (b : ℕ) (cs : List (List ℕ)) → images fold (prefixed b cs) ≡ markOf (foldOctet fold b) ∷ images fold cs
+unfolding images image folded
+first-image true b [] = refl
+first-image false b [] = refl
+first-image true b (c ∷ cs) = go (isTail (octet c 0))
+  where
+    go : (u : Bool) → images true (pick u ((b ∷ c) ∷ cs) ((b ∷ []) ∷ c ∷ cs)) ≡ markOf (foldOctet true b) ∷ images true (c ∷ cs)
+    go true = refl
+    go false = refl
+first-image false b (c ∷ cs) = go (isTail (octet c 0))
+  where
+    go : (u : Bool) → images false (pick u ((b ∷ c) ∷ cs) ((b ∷ []) ∷ c ∷ cs)) ≡ markOf (foldOctet false b) ∷ images false (c ∷ cs)
+    go true = refl
+    go false = refl
+
+marks : (fold : Bool) (s : List ℕ) → images fold (charactersIn s) ≡ map markOf (folded fold s)
+unfolding charactersIn images folded
+marks true [] = refl
+marks false [] = refl
+marks true (b ∷ bs) = first-image true b (charactersIn bs) ∙ ap (λ (ms : List Mark). markOf (foldOctet true b) ∷ ms) (marks true bs)
+marks false (b ∷ bs) = first-image false b (charactersIn bs) ∙ ap (λ (ms : List Mark). markOf (foldOctet false b) ∷ ms) (marks false bs)
+
+marks-joined : (p : Before) (l : List ℕ) → squeezed p l ≡ joined p (map markOf l)
+unfolding squeezed joined
+marks-joined p [] = refl
+marks-joined p (b ∷ l) = go (eqb b 32) (marks-joined (afterSpace p) l) (marks-joined Before.Character l)
+  where
+    go : (u : Bool) → squeezed (afterSpace p) l ≡ joined (afterSpace p) (map markOf l) → squeezed Before.Character l ≡ joined Before.Character (map markOf l)
+        → pick u (squeezed (afterSpace p) l) (spaced p (b ∷ squeezed Before.Character l)) ≡ joined p (pick u blank (shown b) ∷ map markOf l)
+    go true e h = e
+    go false e h = ap (λ (y : List ℕ). spaced p (b ∷ y)) h
+
 rest-begun : (fold quoted : Bool) (s : List ℕ) → rest fold quoted s begun ≡ prepared fold (charactersOf quoted s)
 unfolding restAt lettersAt prepared
-rest-begun fold quoted s = refl
+rest-begun fold quoted s = marks-joined Before.Nothing (folded fold (charactersOf quoted s)) ∙ ap (joined Before.Nothing) (sym (marks fold (charactersOf quoted s)))
 
 pub match-start : (fold : Bool) (c q : List ℕ) → same (rest fold false c begun) (rest fold true q begun) ≡ same (prepared fold c) (prepared fold (undoubled q))
 match-start fold c q = ap₂ same (rest-begun fold false c) (rest-begun fold true q)

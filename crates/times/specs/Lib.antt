@@ -1,2 +1,3 @@
 pub mod Asserted
+pub mod inner
 pub mod Examples

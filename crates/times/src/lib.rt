@@ -1,20 +1,20 @@
 // Asserted times.
 ghost use mathlib.Core.Path.{_≡_};
-ghost use Rattle.octets.specs.Pick.{both};
+ghost use Rattle.octets.specs.Pick.{isSome};
 ghost use Rattle.der.specs.Time.{timeOf, sameTime, earlier};
-ghost use Rattle.strings.specs.Asserted.{assertedText};
-ghost use Rattle.times.specs.Asserted.{isTime};
+ghost use Rattle.times.specs.Asserted.{assertedTime};
+ghost use Rattle.times.specs.inner.Answers.{against};
 
 // Whether a value text conforms: a quoted string in the stored form of a time.
 pub fn is_time(t: &[u8]) -> bool
-    ensures { λ r. ⌜ r ≡ isTime (now (t .entry)) ⌝ }
+    ensures { λ r. ⌜ r ≡ isSome (assertedTime (now (t .entry))) ⌝ }
 {
     der::legal_time(strings::quoted_part(t))
 }
 
 // ---- a stored time against an asserted one; of a text that doesn't conform the answer is false
 pub fn same_time(t: &[u8], c: &[u8]) -> bool
-    ensures { λ r. ⌜ r ≡ both (isTime (now (t .entry))) (sameTime (timeOf (now (c .entry))) (timeOf (assertedText (now (t .entry))))) ⌝ }
+    ensures { λ r. ⌜ r ≡ against (sameTime (timeOf (now (c .entry)))) (assertedTime (now (t .entry))) ⌝ }
 {
     let p = strings::quoted_part(t);
     if !der::legal_time(p) {
@@ -24,7 +24,7 @@ pub fn same_time(t: &[u8], c: &[u8]) -> bool
 }
 
 pub fn earlier_time(t: &[u8], c: &[u8]) -> bool
-    ensures { λ r. ⌜ r ≡ both (isTime (now (t .entry))) (earlier (timeOf (now (c .entry))) (timeOf (assertedText (now (t .entry))))) ⌝ }
+    ensures { λ r. ⌜ r ≡ against (earlier (timeOf (now (c .entry)))) (assertedTime (now (t .entry))) ⌝ }
 {
     let p = strings::quoted_part(t);
     if !der::legal_time(p) {

@@ -7,7 +7,7 @@ use native.Mathlib.Omega.{arith}
 use borrow.Author.Tests.{lt-ltb, le-ltb, le-leb, lt-leb, ne-eqb, eqb-false}
 use lib.ListN.{length, set, length-set}
 use lib.Dec.{eqb}
-use Rattle.octets.specs.Pick.{pick, both}
+use Rattle.octets.specs.Pick.{pick}
 use Rattle.octets.specs.Octets.{part}
 use Rattle.octets.proofs.Laws.{part-past}
 use Rattle.rows.specs.Row.{rowAt, presenceAt, defaultAt}
@@ -15,8 +15,7 @@ use Rattle.table.specs.Types.{mandatory, optional, default, presenceOf, memberO
 use Rattle.value.specs.Value.{spotAt}
 use Rattle.reference.specs.Numbers.{Component, contentsOf, numbersOf}
 use Rattle.rules.specs.Rule as rule
-use Rattle.rules.specs.Accepts.{acceptsContents, acceptsCount}
-use Rattle.rules.specs.inner.Answers.{meant, isReadBy}
+use Rattle.rules.specs.inner.Answers.{meant, acceptsContentsRead, acceptsCountRead}
 use Rattle.rules.specs.declared.Rule.{Rule}
 use Rattle.walk.specs.inner.Run.{componentOf, sourceOf, placeOf, numberOf, Fitting, Seen, seen, acceptsRead, put, listOne, countOne, testOne, visited}
 use Rattle.walk.specs.declared.State.{State}
@@ -54,15 +53,15 @@ module _ (t : List ℕ) (p pr : ℕ) (read : pr ≡ presenceAt t p) (c : List �
 
 -- ---- tested
 module _ (r : Rule) (x t s v : List ℕ) (b : Bool) where
-  pub accepts-stored : (c : List ℕ) (place start span : ℕ) (k : Reached) → k ≡ Reached.Stored place start span → c ≡ part v start span → b ≡ both (isReadBy (meant r) x c) (acceptsContents (meant r) x c) → b ≡ acceptsRead (meant r) x (componentOf t s v k)
+  pub accepts-stored : (c : List ℕ) (place start span : ℕ) (k : Reached) → k ≡ Reached.Stored place start span → c ≡ part v start span → b ≡ acceptsContentsRead (meant r) x c → b ≡ acceptsRead (meant r) x (componentOf t s v k)
   unfolding acceptsRead componentOf spotAt
-  accepts-stored c place start span k q e told = rw q (told ∙ ap (λ (y : List ℕ). both (isReadBy (meant r) x y) (acceptsContents (meant r) x y)) e)
+  accepts-stored c place start span k q e told = rw q (told ∙ ap (acceptsContentsRead (meant r) x) e)
 
-  pub accepts-default : (c : List ℕ) (place row p : ℕ) (k : Reached) → k ≡ Reached.Default place row → p ≡ rowAt s row → c ≡ contentsOf (presenceOf (presenceAt t p) (defaultAt t p)) → b ≡ both (isReadBy (meant r) x c) (acceptsContents (meant r) x c) → b ≡ acceptsRead (meant r) x (componentOf t s v k)
+  pub accepts-default : (c : List ℕ) (place row p : ℕ) (k : Reached) → k ≡ Reached.Default place row → p ≡ rowAt s row → c ≡ contentsOf (presenceOf (presenceAt t p) (defaultAt t p)) → b ≡ acceptsContentsRead (meant r) x c → b ≡ acceptsRead (meant r) x (componentOf t s v k)
   unfolding acceptsRead componentOf memberOf
-  accepts-default c place row p k q placed e told = rw q (told ∙ ap (λ (y : List ℕ). both (isReadBy (meant r) x y) (acceptsContents (meant r) x y)) (e ∙ ap (λ (y : ℕ). contentsOf (presenceOf (presenceAt t y) (defaultAt t y))) placed))
+  accepts-default c place row p k q placed e told = rw q (told ∙ ap (acceptsContentsRead (meant r) x) (e ∙ ap (λ (y : ℕ). contentsOf (presenceOf (presenceAt t y) (defaultAt t y))) placed))
 
-  pub accepts-tally : (place n : ℕ) (k : Reached) → k ≡ Reached.Tally place n → b ≡ acceptsCount (meant r) x n → b ≡ acceptsRead (meant r) x (componentOf t s v k)
+  pub accepts-tally : (place n : ℕ) (k : Reached) → k ≡ Reached.Tally place n → b ≡ acceptsCountRead (meant r) x n → b ≡ acceptsRead (meant r) x (componentOf t s v k)
   unfolding acceptsRead componentOf
   accepts-tally place n k q told = rw q told
 

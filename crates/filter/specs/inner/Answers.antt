@@ -7,7 +7,7 @@ use lib.Dec.{leb}
 use Rattle.octets.specs.Pick.{pick, both}
 use Rattle.assertion.specs.Assertion.{Read}
 use Rattle.filter.specs.Filter as filter
-use Rattle.filter.specs.Filter.{Filter, Filters, depth, depthIn, items, itemsIn}
+use Rattle.filter.specs.Filter.{Item, Filter, Filters, depth, depthIn, items, itemsIn}
 use Rattle.filter.specs.Parse as parsing
 use Rattle.filter.specs.declared.Join.{Join}
 use Rattle.filter.specs.declared.Head.{Head}
@@ -36,13 +36,13 @@ reportTail Tail.NoTail = parsing.noTail
 abbrev pub fitting : ℕ → ℕ → ℕ → ℕ → ℕ → Span
 fitting d room deep used after = pick (both (leb deep d) (leb used room)) (Span.Of after (room - used)) Span.Bad
 
-unfoldable pub bounded : ℕ → ℕ → Option (Read Filter) → Span
+unfoldable pub bounded : ℕ → ℕ → Option (Read (Filter Item)) → Span
 bounded d room none = Span.Bad
-bounded d room (some r) = fitting d room (depth (r .is)) (items (r .is)) (r .after)
+bounded d room (some r) = fitting d room (depth (r .is)) (length (items (r .is))) (r .after)
 
-unfoldable pub boundedIn : ℕ → ℕ → Option (Read Filters) → Span
+unfoldable pub boundedIn : ℕ → ℕ → Option (Read (Filters Item)) → Span
 boundedIn d room none = Span.Bad
-boundedIn d room (some r) = fitting d room (depthIn (r .is)) (itemsIn (r .is)) (r .after)
+boundedIn d room (some r) = fitting d room (depthIn (r .is)) (length (itemsIn (r .is))) (r .after)
 
 -- ---- the whole text
 -- the items of a filter that was read, or a refusal
@@ -50,9 +50,9 @@ abbrev pub report : Reading → Option ℕ
 report (Reading.Good f) = some (f .items)
 report Reading.Bad = none
 
-abbrev pub itemsOf : Option Filter → Option ℕ
+abbrev pub itemsOf : Option (Filter Item) → Option ℕ
 itemsOf none = none
-itemsOf (some f) = some (items f)
+itemsOf (some f) = some (length (items f))
 
-unfoldable pub filtersAt : List ℕ → ℕ → Option (Read Filters)
+unfoldable pub filtersAt : List ℕ → ℕ → Option (Read (Filters Item))
 filtersAt s at = parsing.filtersFrom (length s + 2) s at

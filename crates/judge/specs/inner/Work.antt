@@ -14,9 +14,9 @@ use Rattle.table.specs.Types.{unfilled, typeFrom}
 use Rattle.table.specs.inner.Work.{Sound}
 use Rattle.value.specs.Decode.{storedValue}
 use Rattle.reference.specs.Allowed.{Target}
-use Rattle.rules.specs.Rule.{Rule}
+use Rattle.rules.specs.Rule.{Rule, Known}
 use Rattle.rules.specs.Suits.{suits}
-use Rattle.rules.specs.RuleFor.{ruleFor}
+use Rattle.rules.specs.RuleFor.{Comparison, ruleFor}
 use Rattle.assertion.specs.Assertion.{Read}
 use Rattle.assertion.specs.inner.Places.{componentOf}
 use Rattle.assertion.specs.declared.Component.{Component}
@@ -59,8 +59,12 @@ abbrev pub suitsAny : Rule → Option Target → Bool
 suitsAny r none = false
 suitsAny r (some g) = suits r g
 
-unfoldable pub askedRule : Option Target → List ℕ → List ℕ → Option Rule
-askedRule g rule value = bind g (λ target. ruleFor target rule value)
+abbrev pub ruleAlone : Option Comparison → Option Rule
+ruleAlone none = none
+ruleAlone (some x) = some (x .rule)
+
+unfoldable pub askedRule : List Known → Option Target → List ℕ → List ℕ → Option Rule
+askedRule ks g rule value = bind g (λ target. ruleAlone (ruleFor ks target rule value))
 
 -- an assertion by its parts; its reference is r where one is given
 abbrev pub itemGiven : Bool → List ℕ → Bool → List ℕ → List ℕ → Item
@@ -101,7 +105,7 @@ inverse Judging.Over = Judging.Over
 inverse Judging.Misfit = Judging.Misfit
 
 -- a filter that was read
-unfoldable pub judgedFilter : (Item → Outcome) → Bool → ℕ → ℕ → Option (Read Filter) → Judging
+unfoldable pub judgedFilter : (Item → Outcome) → Bool → ℕ → ℕ → Option (Read (Filter Item)) → Judging
 judgedFilter says live budget n none = Judging.Misfit
 judgedFilter says live budget n (some r) = judgedIf live budget n (reading says (r .is)) (r .after)
 
@@ -118,7 +122,7 @@ judgedRest j Progress.Unsure budget n o after = placed after (charged budget n (
 judgedRest j Progress.Stopped budget n o after = Judging.At (verdictOf (opposite (ofNone j))) n after
 judgedRest j Progress.Passed budget n o after = Judging.At Verdict.Undefined n after
 
-unfoldable pub judgedFilters : (Item → Outcome) → Join → Progress → ℕ → ℕ → Option (Read Filters) → Judging
+unfoldable pub judgedFilters : (Item → Outcome) → Join → Progress → ℕ → ℕ → Option (Read (Filters Item)) → Judging
 judgedFilters says j p budget n none = Judging.Misfit
 judgedFilters says j p budget n (some r) = judgedRest j p budget n (readingIn says j (r .is)) (r .after)
 
@@ -176,6 +180,6 @@ turned s j p Judging.Over = Turn.Ends Judging.Over
 turned s j p Judging.Misfit = Turn.Ends Judging.Misfit
 
 -- ---- the filter of a whole text
-unfoldable pub judgedText : (Item → Outcome) → ℕ → Option (Read Filter) → Judged
+unfoldable pub judgedText : (Item → Outcome) → ℕ → Option (Read (Filter Item)) → Judged
 judgedText says budget none = Judged.Misfit
 judgedText says budget (some r) = charged budget 0 (reading says (r .is))

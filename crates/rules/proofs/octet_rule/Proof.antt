@@ -1,9 +1,11 @@
 use Rattle.rules.proofs.NameSteps.{rule-here, rule-after}
+use Rattle.rules.specs.Rule.{knownRules}
 use borrow.Author.Needs.{needs}
 use Rattle.rules.proofs.octet_rule.Statement.{statement}
 use Rattle.rules.proofs.octet_rule.Tie as tie
 
 pub octet-rule-spec : {M : Type 1} → statement M
+unfolding knownRules
 octet-rule-spec =
     tie.close
     (tie.spec

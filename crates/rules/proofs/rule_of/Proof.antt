@@ -1,11 +1,11 @@
 use Rattle.rules.proofs.NameSteps.{rule-here, rule-after}
-use Rattle.rules.specs.Rule.{ruleOf}
+use Rattle.rules.specs.Rule.{knownRules}
 use borrow.Author.Needs.{needs}
 use Rattle.rules.proofs.rule_of.Statement.{statement}
 use Rattle.rules.proofs.rule_of.Tie as tie
 
 pub rule-of-spec : {M : Type 1} → statement M
-unfolding ruleOf
+unfolding knownRules
 rule-of-spec =
     tie.close
     (tie.spec

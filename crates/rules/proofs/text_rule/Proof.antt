@@ -1,9 +1,11 @@
 use Rattle.rules.proofs.NameSteps.{rule-here, rule-after}
+use Rattle.rules.specs.Rule.{knownRules}
 use borrow.Author.Needs.{needs}
 use Rattle.rules.proofs.text_rule.Statement.{statement}
 use Rattle.rules.proofs.text_rule.Tie as tie
 
 pub text-rule-spec : {M : Type 1} → statement M
+unfolding knownRules
 text-rule-spec =
     tie.close
     (tie.spec

@@ -1,9 +1,11 @@
 use Rattle.rules.proofs.NameSteps.{rule-none, rule-here, rule-after}
+use Rattle.rules.specs.Rule.{knownRules}
 use borrow.Author.Needs.{needs}
 use Rattle.rules.proofs.time_rule.Statement.{statement}
 use Rattle.rules.proofs.time_rule.Tie as tie
 
 pub time-rule-spec : {M : Type 1} → statement M
+unfolding knownRules
 time-rule-spec =
     tie.close
     (tie.spec

@@ -5,18 +5,24 @@ use mathlib.Core.Option.{Option, none, some}
 use mathlib.Core.List.{List}
 use lib.Dec.{leb, eqb}
 use lib.ListN.{length}
-use Rattle.octets.specs.Pick.{pick, both, either, all}
-use Rattle.octets.specs.Octets.{same}
+use Rattle.octets.specs.Pick.{pick, both, either, all, isSome}
+use Rattle.octets.specs.Octets.{same, bytes}
 use Rattle.der.specs.Kind as kind
 use Rattle.der.specs.Kind.{isString}
-use Rattle.times.specs.Asserted.{isTime}
+use Rattle.der.specs.Dotted.{isDotted, dottedArcs}
+use Rattle.der.specs.declared.Time.{Time}
+use Rattle.integers.specs.Asserted.{isInteger, assertedInteger}
+use Rattle.binary.specs.Asserted.{isOctets, assertedOctets, isBits, assertedBits}
+use Rattle.strings.specs.Asserted.{isText, assertedText}
+use Rattle.times.specs.Asserted.{assertedTime}
 use Rattle.rows.specs.Row.{kindAt, modeAt, rowAt, membersAt}
 use Rattle.groups.specs.Clauses.{memberPlace}
 use Rattle.groups.specs.inner.Work.{memberType}
 use Rattle.rules.specs.Rule.{Syntax, booleans, integers, objectIdentifiers, octetStrings, bitStrings, strings, times, Rule, present, equal, less}
 use Rattle.rules.specs.Rule.{sameName}
 use Rattle.rules.specs.Suits.{suitsKind}
-use Rattle.rules.specs.Accepts.{isEqual, isLess, acceptsContents}
+use Rattle.rules.specs.Asserted.{Asserted, anyValue, truth, integer, arcs, octets, bits, text, time, isTruth}
+use Rattle.rules.specs.Accepts.{isEqual, isLess, acceptsContents, acceptsCount}
 use Rattle.rules.specs.declared.Syntax as syntax
 use Rattle.rules.specs.declared.Rule as rule
 use Rattle.rules.specs.declared.Named as named
@@ -44,16 +50,49 @@ reportRule (named.Named.Known r) = some (meant r)
 unfoldable pub called : List ℕ → List ℕ → List ℕ → Bool
 called t name oid = either (sameName t name) (same t oid)
 
--- ---- what the code reads to the end: INTEGER contents of up to 8 octets, BIT STRING contents of up to 65,536, and a time that conforms. Contents
--- that the check of a value lets through and a text that conforms are such; of others the code's answer is false.
+-- ---- value texts, whatever the reference leads to: whether one conforms, and what it asserts where it does
+unfoldable pub conformsTo : Syntax → List ℕ → Bool
+conformsTo booleans t = isTruth t
+conformsTo integers t = isInteger t
+conformsTo objectIdentifiers t = isDotted t
+conformsTo octetStrings t = isOctets t
+conformsTo bitStrings t = isBits t
+conformsTo (strings fold) t = isText t
+conformsTo times t = isSome (assertedTime t)
+
+unfoldable pub conforms : Rule → List ℕ → Bool
+conforms present t = same t (bytes "NULL")
+conforms (equal s) t = conformsTo s t
+conforms (less s) t = conformsTo s t
+
+abbrev pub timeOr : Option Time → Asserted
+timeOr none = anyValue
+timeOr (some u) = time u
+
+unfoldable pub saidIn : Syntax → List ℕ → Asserted
+saidIn booleans t = truth (same t (bytes "TRUE"))
+saidIn integers t = integer (assertedInteger t)
+saidIn objectIdentifiers t = arcs (dottedArcs t)
+saidIn octetStrings t = octets (assertedOctets t)
+saidIn bitStrings t = bits (assertedBits t)
+saidIn (strings fold) t = text fold (assertedText t)
+saidIn times t = timeOr (assertedTime t)
+
+unfoldable pub said : Rule → List ℕ → Asserted
+said present t = anyValue
+said (equal s) t = saidIn s t
+said (less s) t = saidIn s t
+
+-- ---- what the code reads to the end: a truth that conforms, INTEGER contents of up to 8 octets, BIT STRING contents of up to 65,536, and a time that
+-- conforms. Contents that the check of a value lets through and a text that conforms are such; of others the code's answer is false.
 unfoldable pub isRead : Syntax → List ℕ → List ℕ → Bool
-isRead booleans t c = true
+isRead booleans t c = isTruth t
 isRead integers t c = leb (length c) 8
 isRead objectIdentifiers t c = true
 isRead octetStrings t c = true
 isRead bitStrings t c = leb (length c) 65536
 isRead (strings fold) t c = true
-isRead times t c = isTime t
+isRead times t c = isSome (assertedTime t)
 
 unfoldable pub isReadBy : Rule → List ℕ → List ℕ → Bool
 isReadBy present t c = true
@@ -62,13 +101,17 @@ isReadBy (less s) t c = isRead s t c
 
 -- the code's answers
 abbrev pub isEqualRead : Syntax → List ℕ → List ℕ → Bool
-isEqualRead x t c = both (isRead x t c) (isEqual x t c)
+isEqualRead x t c = both (isRead x t c) (isEqual (saidIn x t) c)
 
 abbrev pub isLessRead : Syntax → List ℕ → List ℕ → Bool
-isLessRead x t c = both (isRead x t c) (isLess x t c)
+isLessRead x t c = both (isRead x t c) (isLess (saidIn x t) c)
 
-abbrev pub acceptsContentsRead : Rule → List ℕ → List ℕ → Bool
-acceptsContentsRead r t c = both (isReadBy r t c) (acceptsContents r t c)
+unfoldable pub acceptsContentsRead : Rule → List ℕ → List ℕ → Bool
+acceptsContentsRead r t c = both (isReadBy r t c) (acceptsContents r (said r t) c)
+
+-- the text of a rule that is for a count asserts an integer
+unfoldable pub acceptsCountRead : Rule → List ℕ → ℕ → Bool
+acceptsCountRead r t n = acceptsCount r (integer (assertedInteger t)) n
 
 -- ---- the target as a row i of the rows s of a table t
 -- alternative j of row i has no tag and is a string

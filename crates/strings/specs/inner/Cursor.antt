@@ -2,11 +2,12 @@
 use Prim.Native.Nat.{ℕ}
 use mathlib.Core.Bool.{Bool, true, false}
 use mathlib.Core.List.{List, [], _∷_}
+use lib.Dec.{eqb}
 use lib.ListN.{drop}
 use Rattle.octets.specs.Pick.{pick}
 use Rattle.octets.specs.Text.{lower}
 use Rattle.octets.specs.Quoted.{undoubled}
-use Rattle.strings.specs.Prepared.{squeezed, folded}
+use Rattle.strings.specs.Prepared.{folded, afterSpace, spaced}
 use Rattle.strings.specs.declared.Before.{Before}
 use Rattle.strings.specs.declared.Before.the-variants as before
 use Rattle.strings.specs.declared.Letter.{Letter}
@@ -32,6 +33,14 @@ lettersAt fold quoted s at = folded fold (charactersOf quoted (drop at s))
 abbrev pub reportLetter : Bool → Bool → List ℕ → Letter → List ℕ
 reportLetter fold quoted s Letter.End = []
 reportLetter fold quoted s (Letter.Got b next) = b ∷ lettersAt fold quoted s next
+
+-- ---- octets whose spaces are dropped and joined, after what stands before them
+unfoldable pub squeezed : Before → List ℕ → List ℕ
+squeezed p [] = []
+squeezed p (b ∷ bs) =
+    let skipped = squeezed (afterSpace p) bs in
+    let taken = squeezed before.Character bs in
+    pick (eqb b 32) skipped (spaced p (b ∷ taken))
 
 -- ---- what is left of the prepared string at a cursor, and what a step says of it
 unfoldable pub restAt : Bool → Bool → List ℕ → ℕ → Before → List ℕ

@@ -5,15 +5,14 @@ use mathlib.Core.Option.{Option, none, some}
 use mathlib.Core.List.{List, []}
 use lib.ListN.{length, set}
 use lib.Dec.{ltb, leb}
-use Rattle.octets.specs.Pick.{pick, both}
+use Rattle.octets.specs.Pick.{pick}
 use Rattle.rows.specs.Row.{rowAt}
 use Rattle.table.specs.Types.{Ty, memberOf}
 use Rattle.value.specs.Value.{spotAt}
 use Rattle.reference.specs.Reference.{Id}
 use Rattle.reference.specs.inner.Work.{idsAt}
 use Rattle.reference.specs.Numbers.{Component, stored, byDefault, byCount, numbersOf, contentsOf}
-use Rattle.rules.specs.Accepts.{acceptsContents, acceptsCount}
-use Rattle.rules.specs.inner.Answers.{meant, isReadBy}
+use Rattle.rules.specs.inner.Answers.{meant, acceptsContentsRead, acceptsCountRead}
 use Rattle.rules.specs.Rule as rule
 use Rattle.trail.specs.Opened.{Opened}
 use Rattle.trail.specs.Trail.{Trail, done, misfit, reach, ending, along}
@@ -52,11 +51,11 @@ Fitting (Reached.Tally place n) = Unit {0}
 pub data Seen : Type 0 where
   seen : State → List ℕ → Seen
 
--- a rule accepts a component, whose contents it can read
+-- a rule, with the value text x, accepts a component, whose contents it can read
 unfoldable pub acceptsRead : rule.Rule → List ℕ → Component → Bool
-acceptsRead r x (stored s) = both (isReadBy r x (s .contents)) (acceptsContents r x (s .contents))
-acceptsRead r x (byDefault place m) = both (isReadBy r x (contentsOf (m .presence))) (acceptsContents r x (contentsOf (m .presence)))
-acceptsRead r x (byCount place n) = acceptsCount r x n
+acceptsRead r x (stored s) = acceptsContentsRead r x (s .contents)
+acceptsRead r x (byDefault place m) = acceptsContentsRead r x (contentsOf (m .presence))
+acceptsRead r x (byCount place n) = acceptsCountRead r x n
 
 -- three numbers for component n, where there is room
 unfoldable pub put : ℕ → ℕ → ℕ → ℕ → List ℕ → List ℕ
