@@ -90,7 +90,7 @@ pub fn member_place(s: &[usize], i: usize, j: usize) -> usize
     rows::row_at(s, i + 1 + j)
 }
 
-fn same_name(t: &[u8], p: usize, q: usize) -> bool
+fn total_same_name(t: &[u8], p: usize, q: usize) -> bool
     ensures { λ r. ⌜ r ≡ clause.sameName (now (t .entry)) p q ⌝ }
 {
     octets::same(rows::name_at(t, p), rows::name_at(t, q))
@@ -99,13 +99,13 @@ fn same_name(t: &[u8], p: usize, q: usize) -> bool
 fn differs_from(t: &[u8], s: &[usize], i: usize, b: usize, a: usize) -> bool
     ensures { λ r. ⌜ r ≡ clause.differsFrom (now (t .entry)) (now (s .entry)) i b a ⌝ }
 {
-    if same_name(t, member_place(s, i, a), member_place(s, i, b)) {
+    if total_same_name(t, member_place(s, i, a), member_place(s, i, b)) {
         return false;
     }
     true
 }
 
-fn new_name(t: &[u8], s: &[usize], i: usize, b: usize) -> bool
+fn total_new_name(t: &[u8], s: &[usize], i: usize, b: usize) -> bool
     ensures { λ r. ⌜ r ≡ clause.newName (now (t .entry)) (now (s .entry)) i b ⌝ }
 {
     let mut a = 0;
@@ -124,7 +124,7 @@ fn names_differ(t: &[u8], s: &[usize], i: usize) -> bool
     let n = rows::members_at(t, rows::row_at(s, i));
     let mut b = 0;
     while b < n {
-        if !new_name(t, s, i, b) {
+        if !total_new_name(t, s, i, b) {
             return false;
         }
         b += 1;

@@ -5,7 +5,7 @@ use mathlib.Core.List.{List}
 use Prim.Native.Nat.{ℕ, zero, suc, _≤_, _<_, _+_, _-_, _*_}
 use native.Mathlib.Omega.{arith}
 use native.Mathlib.Nat.{add-zero}
-use borrow.Author.Tests.{not-true, not-false, eq-eqb, ne-eqb, eqb-true, lt-leb, le-leb, ltb-true, ltb-false}
+use borrow.Author.Tests.{not-true, not-false, eq-eqb, ne-eqb, eqb-true, lt-ltb, le-ltb, lt-leb, le-leb, ltb-true, ltb-false}
 use lib.Dec.{ltb, leb, eqb}
 use lib.ListN.{length, take, drop, length-take}
 use lib.Seq.{take-nil, getD-take, getD-drop, drop-drop}
@@ -17,6 +17,7 @@ use Rattle.octets.proofs.Laws.{octet-past, rest-none, part-rest, all-at, all-is
 use Rattle.octets.proofs.TextLaws.{every-is, every-at, highest-nought}
 use Rattle.rows.specs.Row.{nameOctetAt, defaultAt, isGroup, isList, rowSize, rowAt, membersAt}
 use Rattle.rows.specs.Body.{countFormed, follows, followed, nameFormed, taggingFormed, tagFormed, presenceFormed, isZero, defaultFilled, memberFormed, rowFormed}
+use Rattle.rows.specs.inner.Sizes.{typeSize}
 use Rattle.rows.specs.Paper.{tableLimits}
 
 -- ---- reading
@@ -77,6 +78,20 @@ module _ (t : List ℕ) (p o : ℕ) (g : Bool) (read : o ≡ octet t p) (told : 
   pub members-none : g ≡ false → 0 ≡ membersAt t p
   unfolding membersAt
   members-none h = rw (← read, sym told ∙ h)
+
+module _ (most : ℕ) (t : List ℕ) (p size : ℕ) (sized : size ≡ rowSize (octet t p)) where
+  pub type-short : length t - p < size → 0 ≡ typeSize most t p
+  unfolding typeSize
+  type-short h = rw (← sized, lt-ltb (length t - p) size h)
+
+  module _ (u : Bool) (h : size ≤ length t - p) (told : u ≡ countFormed most t p) where
+    pub type-unformed : not u ≡ true → 0 ≡ typeSize most t p
+    unfolding typeSize
+    type-unformed e = rw (← sized, le-ltb (length t - p) size h, sym told ∙ not-true u e)
+
+    pub type-sized : not u ≡ false → size ≡ typeSize most t p
+    unfolding typeSize
+    type-sized e = rw (← sized, le-ltb (length t - p) size h, sym told ∙ not-false u e)
 
 -- ---- bodies
 module _ (most : ℕ) (t : List ℕ) (p k : ℕ) (read : k ≡ octet t p) where
@@ -165,24 +180,47 @@ module _ (t : List ℕ) (p n j : ℕ) (before : all (followed t p) (j + 1) ≡ t
   fill-is : every isZero (part t (p + (j + 2)) (n - j)) ≡ all (followed t p) n
   fill-is = same-truth _ _ fill-enough fill-needed
 
-module _ (t row : List ℕ) (p j a b : ℕ) (u : Bool) (rest : row ≡ drop p t) (last : a ≡ nameOctetAt t p j) (read : b ≡ octet row (j + 2)) (told : u ≡ follows a b) where
-  pub spelt-next : b ≡ nameOctetAt t p (j + 1)
-  spelt-next = let place : p + (j + 2) ≡ p + (1 + (j + 1)) = omega arith in field-is t row p rest (j + 2) b read ∙ ap (octet t) place
+module _ (t : List ℕ) (p j a b : ℕ) (u : Bool) (last : a ≡ nameOctetAt t p j) (read : b ≡ octet t (p + (j + 2))) (told : u ≡ follows a b) where
+  pub named-next : b ≡ nameOctetAt t p (j + 1)
+  named-next = let place : p + (j + 2) ≡ p + (1 + (j + 1)) = omega arith in read ∙ ap (octet t) place
 
   pair : u ≡ followed t p j
   unfolding followed
-  pair = told ∙ ap₂ follows last spelt-next
+  pair = told ∙ ap₂ follows last named-next
+
+  pub named-bad : j < tableLimits .name - 1 → not u ≡ true → false ≡ all (followed t p) (tableLimits .name - 1)
+  named-bad h n = all-bad (followed t p) j u pair (tableLimits .name - 1) h n
+
+  module _ (before : all (followed t p) j ≡ true) (n : not u ≡ false) where
+    pub named-more : all (followed t p) (j + 1) ≡ true
+    named-more = all-more (followed t p) j u pair before n
+
+    named-rest : b ≡ 0 → every isZero (part t (p + (j + 2)) (tableLimits .name - 1 - j)) ≡ all (followed t p) (tableLimits .name - 1)
+    named-rest z = fill-is t p (tableLimits .name - 1) j named-more (sym named-next ∙ z)
+
+    pub named-fill : (r : Bool) → b ≡ 0 → r ≡ every isZero (part t (p + 1 + (j + 1)) (tableLimits .name - (j + 1))) → r ≡ all (followed t p) (tableLimits .name - 1)
+    named-fill r z q =
+        let place : p + 1 + (j + 1) ≡ p + (j + 2) = omega arith in
+        let left : tableLimits .name - (j + 1) ≡ tableLimits .name - 1 - j = omega arith in
+        q ∙ ap₂ (λ (x y : ℕ). every isZero (part t x y)) place left ∙ named-rest z
+
+module _ (t row : List ℕ) (p j a b : ℕ) (u : Bool) (rest : row ≡ drop p t) (last : a ≡ nameOctetAt t p j) (read : b ≡ octet row (j + 2)) (told : u ≡ follows a b) where
+  here : b ≡ octet t (p + (j + 2))
+  here = field-is t row p rest (j + 2) b read
+
+  pub spelt-next : b ≡ nameOctetAt t p (j + 1)
+  spelt-next = named-next t p j a b u last here told
 
   pub spelt-bad : j < tableLimits .name - 1 → not u ≡ true → false ≡ all (followed t p) (tableLimits .name - 1)
-  spelt-bad h n = all-bad (followed t p) j u pair (tableLimits .name - 1) h n
+  spelt-bad h n = named-bad t p j a b u last here told h n
 
   module _ (before : all (followed t p) j ≡ true) (n : not u ≡ false) where
     pub spelt-more : all (followed t p) (j + 1) ≡ true
-    spelt-more = all-more (followed t p) j u pair before n
+    spelt-more = named-more t p j a b u last here told before n
 
     pub spelt-fill : (c : List ℕ) (r : Bool) → b ≡ 0 → c ≡ part row (j + 2) (tableLimits .name - 1 - j) → r ≡ every isZero c → r ≡ all (followed t p) (tableLimits .name - 1)
     spelt-fill c r z e q =
-        q ∙ ap (every isZero) (fields-are t row p rest (j + 2) (tableLimits .name - 1 - j) c e) ∙ fill-is t p (tableLimits .name - 1) j spelt-more (sym spelt-next ∙ z)
+        q ∙ ap (every isZero) (fields-are t row p rest (j + 2) (tableLimits .name - 1 - j) c e) ∙ named-rest t p j a b u last here told before n z
 
 module _ (t : List ℕ) (p o : ℕ) (low : Bool) (read : o ≡ octet t (p + 1)) (told : low ≡ isLower o) where
   pub name-high : not low ≡ true → false ≡ nameFormed (tableLimits .name) t p
@@ -198,6 +236,10 @@ module _ (t : List ℕ) (p o : ℕ) (low : Bool) (read : o ≡ octet t (p + 1)) 
     unfolding nameFormed
     name-spelt r q e = rw (← read, sym told ∙ not-false low h, ← last, ne-eqb l 45 q) e
 
+pub name-whole : (t : List ℕ) (p o : ℕ) (low r : Bool) → o ≡ octet t (p + 1) → low ≡ isLower o → not low ≡ false → (octet t (p + tableLimits .name) ≡ 45 → ⊥)
+    → r ≡ all (followed t p) (tableLimits .name - 1) → r ≡ nameFormed (tableLimits .name) t p
+name-whole t p o low r read told h q e = name-spelt t p o low read told (octet t (p + tableLimits .name)) h refl r q e
+
 pub zeros-are : (c : List ℕ) (most : ℕ) → most ≡ highest c → eqb most 0 ≡ every isZero c
 zeros-are c most e = ap (λ (b : ℕ). eqb b 0) e ∙ highest-nought c
 
@@ -205,6 +247,10 @@ module _ (t : List ℕ) (p o n : ℕ) (read : o ≡ octet t (p + 30)) (wide : n 
   pub filled-long : 8 < n → false ≡ defaultFilled t p
   unfolding defaultFilled
   filled-long h = rw (← read, ← wide, lt-leb n 8 h)
+
+  pub filled-here : (r : Bool) → n ≤ 8 → r ≡ every isZero (part t (p + 31 + n) (8 - n)) → r ≡ defaultFilled t p
+  unfolding defaultFilled
+  filled-here r h q = let place : p + 31 + n ≡ p + (31 + n) = omega arith in rw (← read, ← wide, le-leb n 8 h) (q ∙ ap (λ (x : ℕ). every isZero (part t x (8 - n))) place)
 
   pub filled-is : (c : List ℕ) (r : Bool) → n ≤ 8 → c ≡ part t (p + (31 + n)) (8 - n) → r ≡ every isZero c → r ≡ defaultFilled t p
   unfolding defaultFilled

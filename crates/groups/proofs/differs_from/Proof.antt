@@ -9,6 +9,6 @@ differs-from-spec =
     (tie.spec
     (λ c κs. search needs)  -- member-place-requires
     (λ c κs. search needs)  -- member-place-requires-2
-    (λ c κs. search needs)  -- same-name-requires
+    (λ c κs. search needs)  -- total-same-name-requires
     (λ c. search differs-not)  -- returns
     (λ c. search differs-is))  -- returns-2

@@ -25,7 +25,7 @@ names-differ-spec =
     (λ c κs. search needs)  -- row-at-requires
     (λ c κs. search needs)  -- members-at-requires
     (λ c. (search needs, all-none (newName _ _ _)))  -- loop-holds
-    (λ c κs. search needs)  -- new-name-requires
+    (λ c κs. search needs)  -- total-new-name-requires
     (λ c. search names-bad)  -- returns
     (λ c. search needs)  -- add-b
     (λ c. search needs)  -- loop-less

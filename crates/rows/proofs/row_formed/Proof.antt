@@ -8,7 +8,7 @@ row-formed-spec =
     tie.close
     (tie.spec
     (λ c κs. search needs)  -- kind-at-requires
-    (λ c κs. search needs)  -- member-formed-requires
+    (λ c κs. search needs)  -- total-member-formed-requires
     (λ c. search row-member)  -- returns
     (λ c κs. search needs)  -- count-formed-requires
     (λ c. search row-type))  -- returns-2

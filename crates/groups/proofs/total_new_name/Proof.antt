@@ -7,8 +7,8 @@ use mathlib.Core.Bool.{true}
 use mathlib.Core.Path.{_≡_}
 use Prim.Native.Nat.{_-_, _≤_}
 use borrow.Author.Needs.{needs}
-use Rattle.groups.proofs.new_name.Statement.{statement}
-use Rattle.groups.proofs.new_name.Tie as tie
+use Rattle.groups.proofs.total_new_name.Statement.{statement}
+use Rattle.groups.proofs.total_new_name.Tie as tie
 
 abbrev Inv-loop : tie.InvT-loop
 Inv-loop t s i b a₀ a = (a ≤ b) × (all (differsFrom t s i b) a ≡ true)
@@ -16,8 +16,8 @@ Inv-loop t s i b a₀ a = (a ≤ b) × (all (differsFrom t s i b) a ≡ true)
 abbrev μ-loop : tie.MeasureT-loop
 μ-loop t s i b a₀ a = b - a
 
-pub new-name-spec : {M : Type 1} → statement M
-new-name-spec =
+pub total-new-name-spec : {M : Type 1} → statement M
+total-new-name-spec =
     tie.close
     (tie.spec
     Inv-loop

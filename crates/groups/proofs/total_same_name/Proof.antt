@@ -1,10 +1,10 @@
 use Rattle.groups.proofs.Steps.{names-same}
 use borrow.Author.Needs.{needs}
-use Rattle.groups.proofs.same_name.Statement.{statement}
-use Rattle.groups.proofs.same_name.Tie as tie
+use Rattle.groups.proofs.total_same_name.Statement.{statement}
+use Rattle.groups.proofs.total_same_name.Tie as tie
 
-pub same-name-spec : {M : Type 1} → statement M
-same-name-spec = tie.close (tie.spec
+pub total-same-name-spec : {M : Type 1} → statement M
+total-same-name-spec = tie.close (tie.spec
     (λ c κs. search needs)  -- name-at-requires
     (λ c κs. search needs)  -- name-at-requires-2
     (λ c κs. search needs)  -- same-requires
