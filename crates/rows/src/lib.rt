@@ -474,7 +474,8 @@ pub fn member_formed(t: &[u8], p: usize) -> bool
 // ---- the size of a type row that is whole and whose body is as the type table has it; 0 where it isn't
 pub fn type_size(t: &[u8], p: usize) -> usize
     requires { ⌜ p < length (now t) ⌝ }
-    ensures { λ r. ⌜ r ≡ typeSize (tableLimits .members) (now (t .entry)) p ⌝ }
+    ensures size { λ r. ⌜ r ≡ typeSize (tableLimits .members) (now (t .entry)) p ⌝ }
+    ensures inside { λ r. ⌜ p + r ≤ length (now (t .entry)) ⌝ }
 {
     let size = row_size(t[p]);
     if t.len() - p < size {

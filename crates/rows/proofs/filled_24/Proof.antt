@@ -7,11 +7,11 @@ pub filled-24-spec : {M : Type 1} → statement M
 filled-24-spec =
     tie.close
     (tie.spec
-    (λ c. search needs)                         -- add-filled-16
-    (λ c κs. search needs)                      -- filled-16-requires
-    (λ c. search (filled-later 16))                         -- returns
-    (λ c κs. search needs)                      -- filled-8-requires
-    (λ c. search (filled-not 16))                         -- returns-2
-    (λ c. search needs)                         -- add-filled-16-2
-    (λ c κs. search needs)                      -- filled-16-requires-2
-    (λ c. search (filled-both 16)))                        -- returns-3
+    (λ c. search needs)  -- add-filled-16
+    (λ c κs. search needs)  -- filled-16-requires
+    (λ c. search (filled-later 16))  -- returns
+    (λ c κs. search needs)  -- filled-8-requires
+    (λ c. search (filled-not 16))  -- returns-2
+    (λ c. search needs)  -- add-filled-16-2
+    (λ c κs. search needs)  -- filled-16-requires-2
+    (λ c. search (filled-both 16)))  -- returns-3

@@ -7,16 +7,16 @@ pub member-formed-spec : {M : Type 1} → statement M
 member-formed-spec =
     tie.close
     (tie.spec
-    (λ c κs. search needs)                      -- name-formed-requires
-    (λ c. search member-name)                         -- returns
-    (λ c. search needs)                         -- add-tag-formed
-    (λ c. search needs)                         -- shared-slice-read-tag-formed
-    (λ c. search needs)                         -- add-tag-formed-2
-    (λ c. search needs)                         -- shared-slice-read-tag-formed-2
-    (λ c κs. search needs)                      -- tag-formed-requires
-    (λ c. search member-tag)                         -- returns-2
-    (λ c. search needs)                         -- add-if3
-    (λ c. search needs)                         -- shared-slice-read-if3
-    (λ c. search member-presence)                         -- returns-3
-    (λ c κs. search needs)                      -- default-filled-requires
-    (λ c. search member-filled))                        -- returns-4
+    (λ c κs. search needs)  -- name-formed-requires
+    (λ c. search member-name)  -- returns
+    (λ c. search needs)  -- add-tag-formed
+    (λ c. search needs)  -- shared-slice-read-tag-formed
+    (λ c. search needs)  -- add-tag-formed-2
+    (λ c. search needs)  -- shared-slice-read-tag-formed-2
+    (λ c κs. search needs)  -- tag-formed-requires
+    (λ c. search member-tag)  -- returns-2
+    (λ c. search needs)  -- add-if3
+    (λ c. search needs)  -- shared-slice-read-if3
+    (λ c. search member-presence)  -- returns-3
+    (λ c κs. search needs)  -- default-filled-requires
+    (λ c. search member-filled))  -- returns-4

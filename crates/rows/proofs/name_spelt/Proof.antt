@@ -24,20 +24,20 @@ name-spelt-spec =
     (tie.spec
     Inv-loop
     μ-loop
-    (λ c. search needs)                         -- add-a
-    (λ c. search needs)                         -- shared-slice-read-a
-    (λ c. (search needs, all-none (followed _ _), search needs))                         -- loop-holds
-    (λ c. search needs)                         -- sub-loop
-    (λ c. search needs)                         -- add-b
-    (λ c. search needs)                         -- add-b-2
-    (λ c. search needs)                         -- shared-slice-read-b
-    (λ c κs. search needs)                      -- follows-requires
-    (λ c. search named-bad)                         -- returns
-    (λ c. search needs)                         -- add-filled-24
-    (λ c. search needs)                         -- add-filled-24-2
-    (λ c κs. search needs)                      -- filled-24-requires
-    (λ c. search named-fill)                         -- returns-2
-    (λ c. search needs)                         -- add-j
-    (λ c. search needs)                         -- loop-less
-    (λ c. (omega arith, search named-more, search named-next))                         -- loop-again
-    (λ c. search all-done))                        -- returns-3
+    (λ c. search needs)  -- add-a
+    (λ c. search needs)  -- shared-slice-read-a
+    (λ c. (search needs, all-none (followed _ _), search needs))  -- loop-holds
+    (λ c. search needs)  -- sub-loop
+    (λ c. search needs)  -- add-b
+    (λ c. search needs)  -- add-b-2
+    (λ c. search needs)  -- shared-slice-read-b
+    (λ c κs. search needs)  -- follows-requires
+    (λ c. search named-bad)  -- returns
+    (λ c. search needs)  -- add-filled-24
+    (λ c. search needs)  -- add-filled-24-2
+    (λ c κs. search needs)  -- filled-24-requires
+    (λ c. search named-fill)  -- returns-2
+    (λ c. search needs)  -- add-j
+    (λ c. search needs)  -- loop-less
+    (λ c. (omega arith, search named-more, search named-next))  -- loop-again
+    (λ c. search all-done))  -- returns-3

@@ -10,7 +10,7 @@ type-size-spec =
     (λ c. search needs)  -- shared-slice-read-row-size
     (λ c κs. search needs)  -- row-size-requires
     (λ c. search needs)  -- sub-if
-    (λ c. search type-short)  -- returns
+    (λ c. (search type-short, search needs))  -- returns
     (λ c κs. search needs)  -- count-formed-requires
-    (λ c. search type-unformed)  -- returns-2
-    (λ c. search type-sized))  -- returns-3
+    (λ c. (search type-unformed, search needs))  -- returns-2
+    (λ c. (search type-sized, search needs)))  -- returns-3
