@@ -5,15 +5,15 @@ use mathlib.Core.List.{List}
 use Prim.Native.Nat.{ℕ, zero, suc, _≤_, _<_, _+_, _-_, _*_}
 use native.Mathlib.Omega.{arith}
 use native.Mathlib.Nat.{add-zero}
-use borrow.Author.Tests.{not-true, not-false, eq-eqb, ne-eqb, eqb-true, lt-ltb, le-ltb, lt-leb, le-leb, ltb-true, ltb-false}
+use borrow.Author.Tests.{not-true, not-false, eq-eqb, ne-eqb, eqb-true, leb-true, lt-ltb, le-ltb, lt-leb, le-leb, ltb-true, ltb-false}
 use lib.Dec.{ltb, leb, eqb}
 use lib.ListN.{length, take, drop, length-take}
 use lib.Seq.{take-nil, getD-take, getD-drop, drop-drop}
 use Rattle.octets.specs.Pick.{no, all}
 use Rattle.octets.specs.Octets.{octet, two, part, every}
 use Rattle.octets.specs.inner.Answers.{highest}
-use Rattle.octets.specs.Text.{within, isLower, mayFollow}
-use Rattle.octets.proofs.Laws.{octet-past, rest-none, part-rest, all-at, all-is, all-more, all-bad}
+use Rattle.octets.specs.Text.{within, isLower, isLetter, isAlnum, mayFollow}
+use Rattle.octets.proofs.Laws.{octet-past, rest-none, part-rest, both-true, all-at, all-is, all-more, all-bad}
 use Rattle.octets.proofs.TextLaws.{every-is, every-at, highest-nought}
 use Rattle.rows.specs.Row.{nameOctetAt, defaultAt, isGroup, isList, rowSize, rowAt, membersAt}
 use Rattle.rows.specs.Body.{countFormed, follows, followed, nameFormed, taggingFormed, tagFormed, presenceFormed, isZero, defaultFilled, memberFormed, rowFormed}
@@ -180,9 +180,33 @@ module _ (t : List ℕ) (p n j : ℕ) (before : all (followed t p) (j + 1) ≡ t
   fill-is : every isZero (part t (p + (j + 2)) (n - j)) ≡ all (followed t p) n
   fill-is = same-truth _ _ fill-enough fill-needed
 
+pub next-octet : (t : List ℕ) (p j : ℕ) → octet t (p + (j + 2)) ≡ nameOctetAt t p (j + 1)
+next-octet t p j = let place : p + (j + 2) ≡ p + (1 + (j + 1)) = omega arith in ap (octet t) place
+
+pub some-octet : (b : ℕ) → (b ≡ 0 → ⊥) → 0 < b
+some-octet b h = omega arith
+
+-- a lowercase letter may follow any octet of a name
+module _ (b : ℕ) (r : Bool) (told : r ≡ isLower b) (low : r ≡ true) where
+  pub lower-some : 0 < b
+  unfolding isLower
+  lower-some = let l = leb-true 97 b (both-true (leb 97 b) (leb b 122) (sym told ∙ low) .0) in omega arith
+
+  lower-follows : (a : ℕ) → 0 < a → follows a b ≡ true
+  unfolding follows mayFollow isAlnum isLetter
+  lower-follows a h =
+      let x : a ≡ 0 → ⊥ = λ z. omega arith in
+      let y : b ≡ 0 → ⊥ = λ z. (let l = lower-some in omega arith) in
+      rw (ne-eqb a 0 x, ne-eqb b 0 y, sym told ∙ low)
+
+  pub named-lower : (t : List ℕ) (p j a : ℕ) → b ≡ octet t (p + (j + 2)) → 0 < a → a ≡ nameOctetAt t p j → all (followed t p) j ≡ true → all (followed t p) (j + 1) ≡ true
+  unfolding followed
+  named-lower t p j a read h last before =
+      all-more (followed t p) j true (sym (lower-follows a h) ∙ ap₂ follows last (read ∙ next-octet t p j)) before refl
+
 module _ (t : List ℕ) (p j a b : ℕ) (u : Bool) (last : a ≡ nameOctetAt t p j) (read : b ≡ octet t (p + (j + 2))) (told : u ≡ follows a b) where
   pub named-next : b ≡ nameOctetAt t p (j + 1)
-  named-next = let place : p + (j + 2) ≡ p + (1 + (j + 1)) = omega arith in read ∙ ap (octet t) place
+  named-next = read ∙ next-octet t p j
 
   pair : u ≡ followed t p j
   unfolding followed
@@ -235,6 +259,9 @@ module _ (t : List ℕ) (p o : ℕ) (low : Bool) (read : o ≡ octet t (p + 1)) 
     pub name-spelt : (r : Bool) → (l ≡ 45 → ⊥) → r ≡ all (followed t p) (tableLimits .name - 1) → r ≡ nameFormed (tableLimits .name) t p
     unfolding nameFormed
     name-spelt r q e = rw (← read, sym told ∙ not-false low h, ← last, ne-eqb l 45 q) e
+
+pub lower-begins : (t : List ℕ) (p : ℕ) (low : Bool) → low ≡ isLower (octet t (p + 1)) → not low ≡ false → 0 < octet t (p + 1)
+lower-begins t p low told h = lower-some (octet t (p + 1)) low told (not-false low h)
 
 pub name-whole : (t : List ℕ) (p o : ℕ) (low r : Bool) → o ≡ octet t (p + 1) → low ≡ isLower o → not low ≡ false → (octet t (p + tableLimits .name) ≡ 45 → ⊥)
     → r ≡ all (followed t p) (tableLimits .name - 1) → r ≡ nameFormed (tableLimits .name) t p

@@ -410,23 +410,29 @@ fn filled_24(t: &[u8], p: usize, n: usize) -> bool
 }
 
 // ---- the body of a member row that is whole
-// Whether each octet of a name may follow the one before it. Where the fill starts, all that is left of the name has to be fill.
+// Whether each octet of a name may follow the one before it. Where the fill starts, all that is left of the name has to be fill. A lowercase letter may follow any.
 fn name_spelt(t: &[u8], p: usize) -> bool
-    requires { ⌜ p + 39 ≤ length (now t) ⌝ }
+    requires whole { ⌜ p + 39 ≤ length (now t) ⌝ }
+    requires begins { ⌜ 0 < octet (now t) (p + 1) ⌝ }
     ensures { λ r. ⌜ r ≡ all (body.followed (now (t .entry)) p) (tableLimits .name - 1) ⌝ }
 {
     let mut j = 0;
     let mut a = t[p + 1];
     while j < Table::MAX_NAME - 1 {
         let b = t[p + (j + 2)];
-        if !follows(a, b) {
-            return false;
+        if octets::is_lower(b) {
+            a = b;
+            j += 1;
+        } else {
+            if !follows(a, b) {
+                return false;
+            }
+            if b == 0 {
+                return filled_24(t, p + 1, j + 1);
+            }
+            a = b;
+            j += 1;
         }
-        if b == 0 {
-            return filled_24(t, p + 1, j + 1);
-        }
-        a = b;
-        j += 1;
     }
     true
 }

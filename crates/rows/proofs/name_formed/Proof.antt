@@ -1,4 +1,4 @@
-use Rattle.rows.proofs.Steps.{name-high, name-hyphen, name-whole}
+use Rattle.rows.proofs.Steps.{lower-begins, name-high, name-hyphen, name-whole}
 use borrow.Author.Needs.{needs}
 use Rattle.rows.proofs.name_formed.Statement.{statement}
 use Rattle.rows.proofs.name_formed.Tie as tie
@@ -14,5 +14,5 @@ name-formed-spec =
     (λ c. search needs)  -- add-if2
     (λ c. search needs)  -- shared-slice-read-if2
     (λ c. search name-hyphen)  -- returns-2
-    (λ c κs. search needs)  -- name-spelt-requires
+    (λ c κs. (search needs, search lower-begins))  -- name-spelt-requires
     (λ c. search name-whole))  -- returns-3
