@@ -2,18 +2,19 @@
 use mathlib.Core.Path.{_≡_, refl, sym, ap, ap₂, _∙_}
 use mathlib.Core.Bool.{Bool, true, false, not}
 use mathlib.Core.List.{List, [], _∷_, _++_}
-use Prim.Native.Nat.{ℕ, suc, _≤_, _<_, _+_, _-_, _*_}
+use Prim.Native.Nat.{ℕ, _≤_, _<_, _+_, _-_, _*_}
 use native.Mathlib.Omega.{arith}
 use borrow.Author.Tests.{not-true, not-false, le-leb, lt-leb}
 use lib.Dec.{eqb}
-use lib.ListN.{length, take, drop, length-drop}
-use lib.Seq.{take-add, drop-drop, length-take-le}
+use lib.ListN.{length, take, drop}
+use lib.Seq.{take-add, drop-drop}
 use Rattle.octets.specs.Pick.{both, all}
 use Rattle.octets.specs.Octets.{part, same}
 use Rattle.octets.proofs.Laws.{all-bad, all-done}
 use Rattle.rows.specs.Body.{memberFormed}
+use Rattle.rows.proofs.NumberSteps.{part-length}
 use Rattle.groups.specs.Clauses.{sameName}
-use Rattle.groups.specs.inner.Work.{placeFrom, differsAt, newNameAt, memberFits}
+use Rattle.groups.specs.inner.Work.{differsAt, newNameAt, memberFits}
 
 -- ---- a name, eight octets at a time
 same-append : (a b c d : List ℕ) → length a ≡ length c → same (a ++ b) (c ++ d) ≡ both (same a c) (same b d)
@@ -26,9 +27,6 @@ same-append (x ∷ a) b (y ∷ c) d e = ap (both (eqb x y)) (same-append a b c d
     go : (u : Bool) → both u (both (same a c) (same b d)) ≡ both (both u (same a c)) (same b d)
     go true = refl
     go false = refl
-
-part-length : (t : List ℕ) (p n : ℕ) → p + n ≤ length t → length (part t p n) ≡ n
-part-length t p n h = length-take-le n (drop p t) (let e = length-drop p t in omega arith)
 
 part-split : (t : List ℕ) (p k n : ℕ) → p + 8 ≡ k → part t p (8 + n) ≡ part t p 8 ++ part t k n
 part-split t p k n e = take-add 8 n (drop p t) ∙ ap (λ (l : List ℕ). part t p 8 ++ take n l) (drop-drop 8 p t ∙ ap (λ (x : ℕ). drop x t) e)

@@ -8,15 +8,17 @@ use Prim.Native.Nat.{ℕ, zero, suc, _≤_, _<_, _+_, _-_, _*_}
 use native.Mathlib.Omega.{arith}
 use native.Mathlib.Numerals.{add-one}
 use native.Mathlib.Nat.{eq-or-lt-of-le, add-zero}
-use borrow.Author.Tests.{eqb-true, ne-eqb, lt-ltb, le-leb}
-use lib.Dec.{ltb, leb, eqb}
-use lib.ListN.{length, getD, drop}
+use borrow.Author.Tests.{eqb-true, eqb-false, ne-eqb, lt-ltb, le-leb}
+use lib.Dec.{ltb, eqb}
+use lib.ListN.{length, drop}
 use lib.Seq.{getD-drop, drop-drop}
 use Rattle.octets.specs.Pick.{pick, both, no, all, consed}
 use Rattle.octets.specs.Octets.{every}
 use Rattle.octets.proofs.Laws.{both-true, all-cong, never}
 use Rattle.rows.specs.Paper.{tableLimits}
-use Rattle.rows.specs.Row.{kindAt, rowAt, rowSize, isGroup, isList, membersAt, rowsFrom, rows, orNone}
+use Rattle.rows.proofs.KindLaws.{member-no-type, kind-of-row}
+use Rattle.groups.proofs.LaterSteps.{follower-member}
+use Rattle.rows.specs.Row.{kindAt, rowAt, rowSize, isTypeKind, isGroup, isList, followerKind, membersAt, rowsFrom, rows, orNone}
 use Rattle.rows.specs.Body.{memberFormed, countFormed, rowFormed}
 use Rattle.groups.specs.Clauses.{everyRow, wholeRows, bodyFormed, isType, firstIsType, standing, membersStand, memberPlace, sameName, differsFrom, newName, namesDiffer}
 use Rattle.groups.specs.inner.Work.{firstPass, placeFrom, differsAt, newNameAt}
@@ -41,6 +43,14 @@ formed t p = rowFormed (tableLimits .members) (tableLimits .name) t p
 pub by-test : {P : Type 0} (x : Bool) → (x ≡ true → P) → (x ≡ false → P) → P
 by-test true f g = f refl
 by-test false f g = g refl
+
+-- so many members are due before these rows
+unfoldable stands : List ℕ → ℕ → List ℕ → Bool
+stands t due [] = eqb due 0
+stands t due (p ∷ ps) =
+    let member = stands t (due - 1) ps in
+    let type = stands t (membersAt t p) ps in
+    pick (eqb (kindAt t p) 16) (both (ltb 0 due) member) (both (eqb due 0) type)
 
 -- ---- the test is those of bodies, of where members stand and of names
 -- the names are new
@@ -75,8 +85,8 @@ pick-both true m c e dm zs nx x l r f g = f
 pick-both false m c e dm zs nx x l r f g = g
 
 passes-split : (t : List ℕ) (due first b : ℕ) (s : List ℕ)
-    → passes t due first b s ≡ both (every (formed t) s) (both (standing t due s) (namesNew t first b s))
-unfolding passes every standing namesNew rowFormed
+    → passes t due first b s ≡ both (every (formed t) s) (both (stands t due s) (namesNew t first b s))
+unfolding passes every stands namesNew rowFormed
 passes-split t due first b [] = go (eqb due 0)
   where
     go : (x : Bool) → x ≡ both x true
@@ -84,14 +94,14 @@ passes-split t due first b [] = go (eqb due 0)
     go false = refl
 passes-split t due first b (p ∷ ps) =
     pick-both (eqb (kindAt t p) 16) (memberFormed (tableLimits .name) t p) (countFormed (tableLimits .members) t p) (every (formed t) ps)
-    (both (ltb 0 due) (standing t (due - 1) ps)) (both (eqb due 0) (standing t (membersAt t p) ps))
+    (both (ltb 0 due) (stands t (due - 1) ps)) (both (eqb due 0) (stands t (membersAt t p) ps))
     (both (newNameAt t first b) (namesNew t first (b + 1) ps)) (namesNew t (p + rowSize (kindAt t p)) 0 ps)
     (both (ltb 0 due) (both (memberFormed (tableLimits .name) t p) (both (newNameAt t first b) (passes t (due - 1) first (b + 1) ps))))
     (both (eqb due 0) (both (countFormed (tableLimits .members) t p) (passes t (membersAt t p) (p + rowSize (kindAt t p)) 0 ps)))
     (ap (λ (x : Bool). both (ltb 0 due) (both (memberFormed (tableLimits .name) t p) (both (newNameAt t first b) x))) (passes-split t (due - 1) first (b + 1) ps)
-    ∙ shuffle-member (ltb 0 due) (memberFormed (tableLimits .name) t p) (newNameAt t first b) (every (formed t) ps) (standing t (due - 1) ps) (namesNew t first (b + 1) ps))
+    ∙ shuffle-member (ltb 0 due) (memberFormed (tableLimits .name) t p) (newNameAt t first b) (every (formed t) ps) (stands t (due - 1) ps) (namesNew t first (b + 1) ps))
     (ap (λ (x : Bool). both (eqb due 0) (both (countFormed (tableLimits .members) t p) x)) (passes-split t (membersAt t p) (p + rowSize (kindAt t p)) 0 ps)
-    ∙ shuffle-type (eqb due 0) (countFormed (tableLimits .members) t p) (every (formed t) ps) (standing t (membersAt t p) ps) (namesNew t (p + rowSize (kindAt t p)) 0 ps))
+    ∙ shuffle-type (eqb due 0) (countFormed (tableLimits .members) t p) (every (formed t) ps) (stands t (membersAt t p) ps) (namesNew t (p + rowSize (kindAt t p)) 0 ps))
 
 -- ---- tests of all rows, from the first on
 swap : (x y z : Bool) → both x (both y z) ≡ both y (both x z)
@@ -181,6 +191,7 @@ pub record View (m : ℕ) (t : List ℕ) (at p : ℕ) (ps : List ℕ) : Type 0 w
   pub left : ℕ
   pub fuel : m ≡ suc left
   pub place : p ≡ at
+  pub sized : rowSize (kindAt t at) ≡ 0 → ⊥
   pub rest : rowsFrom left t (at + rowSize (kindAt t at)) ≡ some ps
 
 rows-view : (m : ℕ) (t : List ℕ) (at p : ℕ) (ps : List ℕ) → rowsFrom m t at ≡ some (p ∷ ps) → View m t at p ps
@@ -190,25 +201,47 @@ rows-view zero t at p ps e = absurd (go (ltb at (length t)) e)
     go : (x : Bool) → _≡_ {A = Option (List ℕ)} (pick x none (some [])) (some (p ∷ ps)) → ⊥
     go true q = Option·none-ne-some (p ∷ ps) q
     go false q = let z : 0 ≡ length (p ∷ ps) = ap (λ (o : Option (List ℕ)). length (orNone o)) q in omega arith
-rows-view (suc m) t at p ps e = go (ltb at (length t)) (eqb (rowSize (kindAt t at)) 0) (ltb (length t - at) (rowSize (kindAt t at))) (rowsFrom m t (at + rowSize (kindAt t at))) refl e
+rows-view (suc m) t at p ps e = go (ltb at (length t)) (eqb (rowSize (kindAt t at)) 0) refl (ltb (length t - at) (rowSize (kindAt t at))) (rowsFrom m t (at + rowSize (kindAt t at))) refl e
   where
-    go : (x y z : Bool) (o : Option (List ℕ)) → rowsFrom m t (at + rowSize (kindAt t at)) ≡ o
+    go : (x y : Bool) → eqb (rowSize (kindAt t at)) 0 ≡ y → (z : Bool) (o : Option (List ℕ)) → rowsFrom m t (at + rowSize (kindAt t at)) ≡ o
         → _≡_ {A = Option (List ℕ)} (pick x (pick y none (pick z none (consed at o))) (some [])) (some (p ∷ ps)) → View (suc m) t at p ps
-    go true true z o f q = absurd (Option·none-ne-some (p ∷ ps) q)
-    go true false true o f q = absurd (Option·none-ne-some (p ∷ ps) q)
-    go true false false none f q = absurd (Option·none-ne-some (p ∷ ps) q)
-    go true false false (some qs) f q =
+    go true true w z o f q = absurd (Option·none-ne-some (p ∷ ps) q)
+    go true false w true o f q = absurd (Option·none-ne-some (p ∷ ps) q)
+    go true false w false none f q = absurd (Option·none-ne-some (p ∷ ps) q)
+    go true false w false (some qs) f q =
         record {
           left = m;
           fuel = refl;
           place = sym (ap (λ (o : Option (List ℕ)). rowAt (orNone o) 0) q);
+          sized = eqb-false (rowSize (kindAt t at)) 0 w;
           rest = f ∙ ap (λ (o : Option (List ℕ)). some (drop 1 (orNone o))) q;
         }
-    go false y z o f q = absurd (let n : 0 ≡ length (p ∷ ps) = ap (λ (o : Option (List ℕ)). length (orNone o)) q in omega arith)
+    go false y w z o f q = absurd (let n : 0 ≡ length (p ∷ ps) = ap (λ (o : Option (List ℕ)). length (orNone o)) q in omega arith)
 
 rows-few : (m : ℕ) (t : List ℕ) (at : ℕ) (s : List ℕ) → rowsFrom m t at ≡ some s → length s ≤ m
 rows-few m t at [] e = omega arith
 rows-few m t at (p ∷ ps) e = let v = rows-view m t at p ps e in let r = rows-few (v .left) t (at + rowSize (kindAt t at)) ps (v .rest) in let f = v .fuel in omega arith
+
+-- ---- where members stand, by members that are due
+stand-same : (t s : List ℕ) (m at k due : ℕ) → rowsFrom m t at ≡ some s → (0 < due → k ≡ 16) → standing t k due s ≡ stands t due s
+unfolding standing stands
+stand-same t [] m at k due rs f = refl
+stand-same t (p ∷ ps) m at k zero rs f =
+    by-test (eqb (kindAt t p) 16)
+    (λ q. rw (q, member-no-type (kindAt t p) (eqb-true (kindAt t p) 16 q)))
+    (λ q.
+    let v = rows-view m t at p ps rs in
+    let type : isTypeKind (kindAt t p) ≡ true = kind-of-row (kindAt t p) (λ z. v .sized (ap (λ (x : ℕ). rowSize (kindAt t x)) (sym (v .place)) ∙ z)) q in
+    rw (q, type) (stand-same t ps (v .left) (at + rowSize (kindAt t at)) (followerKind (kindAt t p)) (membersAt t p) (v .rest) (follower-member t p)))
+stand-same t (p ∷ ps) m at k (suc d) rs f =
+    let v = rows-view m t at p ps rs in
+    let some-due : suc d ≡ 0 → ⊥ = λ z. omega arith in
+    let pos : 0 < suc d = omega arith in
+    let kind : k ≡ 16 = f pos in
+    let next = stand-same t ps (v .left) (at + rowSize (kindAt t at)) k (suc d - 1) (v .rest) (λ l. kind) in
+    by-test (eqb (kindAt t p) 16)
+    (λ q. rw (ne-eqb (suc d) 0 some-due, lt-ltb 0 (suc d) pos, q, ap (eqb (kindAt t p)) kind ∙ q) next)
+    (λ q. rw (ne-eqb (suc d) 0 some-due, q, ap (eqb (kindAt t p)) kind ∙ q))
 
 -- ---- the new names are the names that differ, where members stand as they should
 module _ (t : List ℕ) (p : ℕ) (ps : List ℕ) (k : eqb (kindAt t p) 16 ≡ true) where
@@ -216,15 +249,15 @@ module _ (t : List ℕ) (p : ℕ) (ps : List ℕ) (k : eqb (kindAt t p) 16 ≡ t
   unfolding namesNew
   names-member first b = rw k
 
-  stand-none : standing t 0 (p ∷ ps) ≡ true → ⊥
-  unfolding standing
+  stand-none : stands t 0 (p ∷ ps) ≡ true → ⊥
+  unfolding stands
   stand-none e = false≢true (rw k at e)
 
-  stand-next : (d : ℕ) → standing t (suc d) (p ∷ ps) ≡ true → standing t d ps ≡ true
-  unfolding standing
+  stand-next : (d : ℕ) → stands t (suc d) (p ∷ ps) ≡ true → stands t d ps ≡ true
+  unfolding stands
   stand-next d e =
       let z : suc d - 1 ≡ d = omega arith in
-      ap (λ (x : ℕ). standing t x ps) (sym z) ∙ both-true (ltb 0 (suc d)) (standing t (suc d - 1) ps) (rw k at e) .1
+      ap (λ (x : ℕ). stands t x ps) (sym z) ∙ both-true (ltb 0 (suc d)) (stands t (suc d - 1) ps) (rw k at e) .1
 
   member-size : rowSize (kindAt t p) ≡ 39
   unfolding rowSize isGroup isList
@@ -239,12 +272,12 @@ module _ (t : List ℕ) (p : ℕ) (ps : List ℕ) (k : eqb (kindAt t p) 16 ≡ f
   unfolding namesNew
   names-type first b = rw k
 
-  stand-missing : (d : ℕ) → standing t (suc d) (p ∷ ps) ≡ true → ⊥
-  unfolding standing
+  stand-missing : (d : ℕ) → stands t (suc d) (p ∷ ps) ≡ true → ⊥
+  unfolding stands
   stand-missing d e = let z : suc d ≡ 0 → ⊥ = λ q. omega arith in false≢true (rw (k, ne-eqb (suc d) 0 z) at e)
 
-  stand-group : standing t 0 (p ∷ ps) ≡ true → standing t (membersAt t p) ps ≡ true
-  unfolding standing
+  stand-group : stands t 0 (p ∷ ps) ≡ true → stands t (membersAt t p) ps ≡ true
+  unfolding stands
   stand-group e = rw k at e
 
 -- members found so far stand 39 octets apart
@@ -265,9 +298,9 @@ module _ (p : ℕ) (ps gs : List ℕ) (b : ℕ) (e : p ∷ ps ≡ drop b gs) whe
   unfolding newNameAt differsAt newIn differsIn
   new-is t first q f = all-cong (differsAt t first b) (differsIn t gs b) b (λ a l. ap₂ (λ (x y : ℕ). no (sameName t x y)) (sym (f a l)) (sym q ∙ head-is))
 
-names-are : (t : List ℕ) (ps gs : List ℕ) (m at first b due : ℕ) → standing t due ps ≡ true → rowsFrom m t at ≡ some ps → at ≡ placeFrom first b → ps ≡ drop b gs → Apart gs first b
+names-are : (t : List ℕ) (ps gs : List ℕ) (m at first b due : ℕ) → stands t due ps ≡ true → rowsFrom m t at ≡ some ps → at ≡ placeFrom first b → ps ≡ drop b gs → Apart gs first b
     → namesNew t first b ps ≡ both (allFrom (newIn t gs) b due) (namesIn t ps)
-unfolding namesNew namesIn allFrom standing all
+unfolding namesNew namesIn allFrom stands all
 names-are t [] gs m at first b due st rs pl dr ap' = go due (eqb-true due 0 st)
   where
     go : (d : ℕ) → d ≡ 0 → true ≡ both (allFrom (newIn t gs) b d) true
@@ -304,9 +337,17 @@ names-are t (p ∷ ps) gs m at first b (suc d) st rs pl dr ap' =
 
 -- ---- the clauses together
 module _ (t : List ℕ) (p : ℕ) (ps : List ℕ) (found : rowsFrom (tableLimits .rows) t 0 ≡ some (p ∷ ps)) where
-  first-type : standing t 0 (p ∷ ps) ≡ true → firstIsType t (p ∷ ps) ≡ true
+  stand-is : standing t 0 0 (p ∷ ps) ≡ stands t 0 (p ∷ ps)
+  stand-is = stand-same t (p ∷ ps) (tableLimits .rows) 0 0 0 found (λ h. absurd (omega arith))
+
+  first-type : stands t 0 (p ∷ ps) ≡ true → firstIsType t (p ∷ ps) ≡ true
   unfolding firstIsType isType
-  first-type st = by-test (eqb (kindAt t p) 16) (λ k. absurd (stand-none t p ps k st)) (λ k. let h : 0 < length (p ∷ ps) = omega arith in rw (lt-ltb 0 (length (p ∷ ps)) h, k))
+  first-type st =
+      let v = rows-view (tableLimits .rows) t 0 p ps found in
+      let h : 0 < length (p ∷ ps) = omega arith in
+      by-test (eqb (kindAt t p) 16)
+      (λ k. absurd (stand-none t p ps k st))
+      (λ k. rw (lt-ltb 0 (length (p ∷ ps)) h) (kind-of-row (kindAt t p) (λ z. v .sized (ap (λ (x : ℕ). rowSize (kindAt t x)) (sym (v .place)) ∙ z)) k))
 
   whole : wholeRows (tableLimits .rows) (p ∷ ps) ≡ true
   unfolding wholeRows
@@ -315,17 +356,17 @@ module _ (t : List ℕ) (p : ℕ) (ps : List ℕ) (found : rowsFrom (tableLimits
       let l : 1 ≤ length (p ∷ ps) = omega arith in
       ap₂ both (le-leb 1 (length (p ∷ ps)) l) (le-leb (length (p ∷ ps)) (tableLimits .rows) h)
 
-  new-names : standing t 0 (p ∷ ps) ≡ true → namesNew t 0 0 (p ∷ ps) ≡ everyRow (namesDiffer t (p ∷ ps)) (p ∷ ps)
+  new-names : stands t 0 (p ∷ ps) ≡ true → namesNew t 0 0 (p ∷ ps) ≡ everyRow (namesDiffer t (p ∷ ps)) (p ∷ ps)
   unfolding allFrom
   new-names st = names-are t (p ∷ ps) (p ∷ ps) (tableLimits .rows) 0 0 0 0 st found refl refl (λ a h. absurd (omega arith)) ∙ sym (names-in t (p ∷ ps))
 
-  stand-and : both (standing t 0 (p ∷ ps)) (namesNew t 0 0 (p ∷ ps))
+  stand-and : both (stands t 0 (p ∷ ps)) (namesNew t 0 0 (p ∷ ps))
       ≡ both (firstIsType t (p ∷ ps)) (both (membersStand t (p ∷ ps)) (everyRow (namesDiffer t (p ∷ ps)) (p ∷ ps)))
   unfolding membersStand
-  stand-and = by-test (standing t 0 (p ∷ ps))
-      (λ st. ap₂ both st (new-names st) ∙ sym (ap₂ (λ (x y : Bool). both x (both y (everyRow (namesDiffer t (p ∷ ps)) (p ∷ ps)))) (first-type st) st))
+  stand-and = by-test (stands t 0 (p ∷ ps))
+      (λ st. ap₂ both st (new-names st) ∙ sym (ap₂ (λ (x y : Bool). both x (both y (everyRow (namesDiffer t (p ∷ ps)) (p ∷ ps)))) (first-type st) (stand-is ∙ st)))
       (λ st. ap (λ (x : Bool). both x (namesNew t 0 0 (p ∷ ps))) st
-      ∙ sym (ap (λ (x : Bool). both (firstIsType t (p ∷ ps)) (both x (everyRow (namesDiffer t (p ∷ ps)) (p ∷ ps)))) st ∙ never (firstIsType t (p ∷ ps))))
+      ∙ sym (ap (λ (x : Bool). both (firstIsType t (p ∷ ps)) (both x (everyRow (namesDiffer t (p ∷ ps)) (p ∷ ps)))) (stand-is ∙ st) ∙ never (firstIsType t (p ∷ ps))))
 
   all-clauses : passes t 0 0 0 (p ∷ ps) ≡ firstPass tableLimits t (p ∷ ps)
   unfolding firstPass

@@ -1,5 +1,5 @@
 -- The first pass: one lemma for each return and each turn of its loop; its premises are the facts as the code has them.
-use mathlib.Core.Path.{_≡_, refl, sym, ap, ap₂, _∙_}
+use mathlib.Core.Path.{_≡_, refl, sym, ap, _∙_}
 use mathlib.Core.Bool.{Bool, true, false, not, false≢true}
 use mathlib.Core.Logic.{⊎-elim}
 use mathlib.Core.Option.{Option, none, some}
@@ -18,7 +18,7 @@ use Rattle.rows.specs.Paper.{tableLimits}
 use Rattle.rows.specs.Row.{kindAt, rowAt, rowSize, isGroup, isList, membersAt, rowsFrom, rows, orNone}
 use Rattle.rows.specs.Body.{memberFormed, countFormed}
 use Rattle.rows.specs.inner.Sizes.{typeSize}
-use Rattle.groups.specs.inner.Work.{firstPass, Placed, placeFrom, newNameAt, memberFits}
+use Rattle.groups.specs.inner.Work.{firstPass, Placed, newNameAt, memberFits}
 use Rattle.groups.proofs.PassLaws.{passes, goes, by-test, pass-counts}
 
 abbrev joined : List ℕ → Option (List ℕ) → Option (List ℕ)

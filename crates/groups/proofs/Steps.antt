@@ -12,7 +12,7 @@ use Rattle.octets.specs.Octets.{octet, two, part, same}
 use Rattle.octets.specs.Text.{within}
 use Rattle.octets.proofs.Laws.{octet-past, rest-cons, rest-none, all-bad, all-done}
 use Rattle.der.specs.Contents.{legal}
-use Rattle.rows.specs.Row.{rowAt, membersAt, isList, defaultAt}
+use Rattle.rows.specs.Row.{rowAt, membersAt, isTypeKind, followerKind, isList, defaultAt}
 use Rattle.rows.specs.Body.{rowFormed}
 use Rattle.groups.specs.Clauses.{bodyFormed, isType, laterType, pointsLater, standing, membersStand, memberPlace, sameName, differsFrom, newName, namesDiffer, mandatoryAt, alternativesMandatory, typeKind, noImplicitChoice, defaultAllowed, defaultLegal}
 use Rattle.groups.specs.inner.Work.{membersAgreeAt, rowAgrees}
@@ -31,9 +31,9 @@ pub type-past : (t s : List ℕ) (i : ℕ) → length s ≤ i → false ≡ isTy
 unfolding isType
 type-past t s i h = rw (le-ltb i (length s) h)
 
-pub type-is : (t s : List ℕ) (i p k : ℕ) → i < length s → p ≡ rowAt s i → k ≡ octet t p → not (eqb k 16) ≡ isType t s i
+pub type-is : (t s : List ℕ) (i p k : ℕ) (r : Bool) → i < length s → p ≡ rowAt s i → k ≡ octet t p → r ≡ isTypeKind k → r ≡ isType t s i
 unfolding isType
-type-is t s i p k h e f = rw (lt-ltb i (length s) h, ← e, ← f) (not-no (eqb k 16))
+type-is t s i p k r h e f q = rw (lt-ltb i (length s) h, ← e, ← f) q
 
 pub later-not : (t s : List ℕ) (i j : ℕ) → j ≤ i → false ≡ laterType t s i j
 unfolding laterType
@@ -111,48 +111,39 @@ member-past s i j h = octet-past s (i + 1 + j) (omega arith)
 pub member-end : (s : List ℕ) (i j : ℕ) → length s - i ≤ j → 0 ≡ memberPlace s i j
 member-end s i j h = octet-past s (i + 1 + j) (omega arith)
 
--- so many members are due before row i
-abbrev pub Standing : List ℕ → List ℕ → ℕ → ℕ → Type 0
-Standing t s i due = (i ≤ length s) × (standing t due (drop i s) ≡ membersStand t s)
+-- so many rows of kind f are due before row i
+abbrev pub Standing : List ℕ → List ℕ → ℕ → ℕ → ℕ → Type 0
+Standing t s i f due = (i ≤ length s) × (standing t f due (drop i s) ≡ membersStand t s)
 
-pub stand-start : (t s : List ℕ) → Standing t s 0 0
+pub stand-start : (t s : List ℕ) → Standing t s 0 0 0
 unfolding membersStand
 stand-start t s = (omega arith, refl)
 
-pub stand-done : (t s : List ℕ) (i due : ℕ) → Standing t s i due → length s ≤ i → eqb due 0 ≡ membersStand t s
+pub stand-done : (t s : List ℕ) (i f due : ℕ) → Standing t s i f due → length s ≤ i → eqb due 0 ≡ membersStand t s
 unfolding standing
-stand-done t s i due v h = rw (rest-none s i h) at (v .1)
+stand-done t s i f due v h = rw (rest-none s i h) at (v .1)
 
-module _ (t s : List ℕ) (i due k : ℕ) (v : Standing t s i due) (h : i < length s) (read : k ≡ octet t (octet s i)) where
-  now-stand : standing t due (octet s i ∷ drop (i + 1) s) ≡ membersStand t s
+module _ (t s : List ℕ) (i f due k : ℕ) (v : Standing t s i f due) (h : i < length s) (read : k ≡ octet t (octet s i)) where
+  now-stand : standing t f due (octet s i ∷ drop (i + 1) s) ≡ membersStand t s
   now-stand = rw (rest-cons s i h) at (v .1)
 
-  module _ (is : k ≡ 16) where
-    kind-16 : eqb (octet t (octet s i)) 16 ≡ true
-    kind-16 = eq-eqb _ 16 (sym read ∙ is)
-
-    pub stand-extra : due ≡ 0 → false ≡ membersStand t s
+  module _ (e : due ≡ 0) (u : Bool) (told : u ≡ isTypeKind k) where
+    pub stand-extra : not u ≡ true → false ≡ membersStand t s
     unfolding standing
-    stand-extra e = let z : due ≤ 0 = omega arith in rw (kind-16, le-ltb 0 due z) at now-stand
+    stand-extra n = rw (eq-eqb due 0 e, ← read, sym told ∙ not-true u n) at now-stand
 
-    pub stand-member : (due ≡ 0 → ⊥) → Standing t s (i + 1) (due - 1)
+    pub stand-type : (n g : ℕ) → not u ≡ false → g ≡ followerKind k → n ≡ membersAt t (octet s i) → Standing t s (i + 1) g n
     unfolding standing
-    stand-member e = let z : 0 < due = pos due e in (omega arith, rw (kind-16, lt-ltb 0 due z) at now-stand)
-      where
-        pos : (n : ℕ) → (n ≡ 0 → ⊥) → 0 < n
-        pos n e = omega arith
+    stand-type n g l q c = (omega arith, rw (q, c) (rw (eq-eqb due 0 e, ← read, sym told ∙ not-false u l) at now-stand))
 
-  module _ (isnt : k ≡ 16 → ⊥) where
-    kind-not : eqb (octet t (octet s i)) 16 ≡ false
-    kind-not = ne-eqb _ 16 (λ z. isnt (read ∙ z))
-
-    pub stand-missing : (due ≡ 0 → ⊥) → false ≡ membersStand t s
+  module _ (e : due ≡ 0 → ⊥) where
+    pub stand-missing : (k ≡ f → ⊥) → false ≡ membersStand t s
     unfolding standing
-    stand-missing e = rw (kind-not, ne-eqb due 0 e) at now-stand
+    stand-missing n = rw (ne-eqb due 0 e, ← read, ne-eqb k f n) at now-stand
 
-    pub stand-type : (n : ℕ) → due ≡ 0 → n ≡ membersAt t (octet s i) → Standing t s (i + 1) n
+    pub stand-member : k ≡ f → Standing t s (i + 1) f (due - 1)
     unfolding standing
-    stand-type n e c = (omega arith, rw c (rw (kind-not, eq-eqb due 0 e) at now-stand))
+    stand-member n = (omega arith, rw (ne-eqb due 0 e, ← read, eq-eqb k f n) at now-stand)
 
 -- ---- names
 pub names-same : (t : List ℕ) (p q : ℕ) (a b : List ℕ) (r : Bool) → a ≡ part t (p + 1) 24 → b ≡ part t (q + 1) 24 → r ≡ same a b → r ≡ sameName t p q

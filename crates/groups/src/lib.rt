@@ -69,7 +69,9 @@ fn member_fits(t: &[u8], first: usize, b: usize) -> bool
 // How many rows a table has, with their places in every second number of w; 0 where a clause on bodies, on where rows stand or on names doesn't hold.
 pub fn scan(t: &[u8], w: &mut [u64; 256]) -> usize
     requires space { ⌜ length (now w) ≡ 256 ⌝ }
-    ensures count { λ r. ⌜ r ≡ pick (work.firstPass tableLimits (now (t .entry)) (row.rows (tableLimits .rows) (now (t .entry)))) (length (row.rows (tableLimits .rows) (now (t .entry)))) 0 ⌝ }
+    ensures count { λ r. ⌜ r
+        ≡ pick (work.firstPass tableLimits (now (t .entry)) (row.rows (tableLimits .rows) (now (t .entry))))
+        (length (row.rows (tableLimits .rows) (now (t .entry)))) 0 ⌝ }
     ensures places { λ r. ⌜ work.Placed (now (t .entry)) (now (w .exit)) r ⌝ }
 {
     let mut at = 0;
@@ -128,7 +130,7 @@ pub fn is_type(t: &[u8], s: &[usize], i: usize) -> bool
     if s.len() <= i {
         return false;
     }
-    rows::kind_at(t, rows::row_at(s, i)) != Kind::MEMBER
+    rows::is_type_kind(rows::kind_at(t, rows::row_at(s, i)))
 }
 
 fn later_type(t: &[u8], s: &[usize], i: usize, j: usize) -> bool
@@ -160,20 +162,23 @@ pub fn members_stand(t: &[u8], s: &[usize]) -> bool
     ensures { λ r. ⌜ r ≡ clause.membersStand (now (t .entry)) (now (s .entry)) ⌝ }
 {
     let mut i = 0;
+    let mut follower = 0;
     let mut due = 0;
     while i < s.len() {
         let p = s[i];
-        if rows::kind_at(t, p) == Kind::MEMBER {
-            if due == 0 {
+        let kind = rows::kind_at(t, p);
+        if due == 0 {
+            if !rows::is_type_kind(kind) {
+                return false;
+            }
+            follower = rows::follower_kind(kind);
+            due = rows::members_at(t, p);
+            i += 1;
+        } else {
+            if kind != follower {
                 return false;
             }
             due -= 1;
-            i += 1;
-        } else {
-            if due != 0 {
-                return false;
-            }
-            due = rows::members_at(t, p);
             i += 1;
         }
     }

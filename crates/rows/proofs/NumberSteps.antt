@@ -4,14 +4,14 @@ use mathlib.Core.Bool.{Bool, true, false, not}
 use mathlib.Core.List.{List, [], _∷_, _++_}
 use Prim.Native.Nat.{ℕ, zero, suc, _≤_, _<_, _+_, _-_, _*_, _/_, _^_}
 use native.Mathlib.Omega.{arith}
-use native.Mathlib.Nat.{zero-sub, suc-sub-suc, sub-zero, add-zero, div-one, zero-div, div-div-eq-div-mul}
+use native.Mathlib.Nat.{zero-sub, suc-sub-suc, sub-zero, div-one, zero-div, div-div-eq-div-mul}
 use mir.Val.{Fits}
 use mir.Syntax.{w8}
 use borrow.Author.Tests.{not-true, not-false, eq-eqb, ne-eqb, eqb-true, eqb-false}
 use lib.Dec.{eqb}
-use lib.ListN.{length, take, drop, length-take, length-drop}
+use lib.ListN.{length, take, drop, length-drop}
 use lib.Pow.{pow-add}
-use lib.Seq.{take-add, drop-drop, take-nil, drop-nil, length-take-le}
+use lib.Seq.{take-add, drop-drop, take-nil, length-take-le}
 use Rattle.octets.specs.Pick.{both}
 use Rattle.octets.specs.Octets.{octet, part, every, same}
 use Rattle.octets.proofs.Laws.{rest-cons}
@@ -56,7 +56,7 @@ least-same (p ∷ a) [] l f g = absurd (omega arith)
 least-same (p ∷ a) (q ∷ b) l f g =
     digit-eqb p q (leastFirst a) (leastFirst b) (f 0) (g 0) ∙ ap (both (eqb p q)) (least-same a b (omega arith) (λ i. f (suc i)) (λ i. g (suc i)))
 
-part-bytes : (n k : ℕ) (l : List ℕ) → ((i : ℕ) → octet l i < 256) → (i : ℕ) → octet (take n (drop k l)) i < 256
+pub part-bytes : (n k : ℕ) (l : List ℕ) → ((i : ℕ) → octet l i < 256) → (i : ℕ) → octet (take n (drop k l)) i < 256
 part-bytes zero k l f i = omega arith
 part-bytes (suc n) zero [] f i = omega arith
 part-bytes (suc n) zero (x ∷ l) f zero = f 0
@@ -64,7 +64,7 @@ part-bytes (suc n) zero (x ∷ l) f (suc i) = part-bytes n 0 l (λ j. f (suc j))
 part-bytes (suc n) (suc k) [] f i = omega arith
 part-bytes (suc n) (suc k) (x ∷ l) f i = part-bytes (suc n) k l (λ j. f (suc j)) i
 
-part-length : (t : List ℕ) (p n : ℕ) → p + n ≤ length t → length (part t p n) ≡ n
+pub part-length : (t : List ℕ) (p n : ℕ) → p + n ≤ length t → length (part t p n) ≡ n
 part-length t p n h = length-take-le n (drop p t) (let e = length-drop p t in omega arith)
 
 pub eight-same : (t : List ℕ) (p q x y : ℕ) → p + 8 ≤ length t → q + 8 ≤ length t → x ≡ leastFirst (part t p 8) → y ≡ leastFirst (part t q 8)

@@ -151,6 +151,12 @@ pub fn default_at(t: &[u8], p: usize) -> &[u8]
 }
 
 // ---- the rows
+pub fn is_type_kind(kind: u8) -> bool
+    ensures { λ r. ⌜ r ≡ row.isTypeKind kind ⌝ }
+{
+    octets::within(Kind::BOOLEAN, Kind::SET_OF, kind)
+}
+
 pub fn is_group(kind: u8) -> bool
     ensures { λ r. ⌜ r ≡ row.isGroup kind ⌝ }
 {
@@ -212,6 +218,16 @@ pub fn scan(t: &[u8], s: &mut [usize]) -> usize
         at += size;
     }
     n
+}
+
+// The kind of the rows that follow a row of a kind, 0 where none follow.
+pub fn follower_kind(kind: u8) -> u8
+    ensures { λ r. ⌜ r ≡ row.followerKind kind ⌝ }
+{
+    if is_group(kind) {
+        return Kind::MEMBER;
+    }
+    0
 }
 
 // How many members stand after a row.
@@ -410,7 +426,7 @@ fn filled_24(t: &[u8], p: usize, n: usize) -> bool
 }
 
 // ---- the body of a member row that is whole
-// Whether each octet of a name may follow the one before it. Where the fill starts, all that is left of the name has to be fill. A lowercase letter may follow any.
+// Whether each octet of a name may follow the one before it; a lowercase letter may follow any. Where the fill starts, all that is left has to be fill.
 fn name_spelt(t: &[u8], p: usize) -> bool
     requires whole { ⌜ p + 39 ≤ length (now t) ⌝ }
     requires begins { ⌜ 0 < octet (now t) (p + 1) ⌝ }

@@ -8,4 +8,5 @@ is-type-spec = tie.close (tie.spec
     (λ c. search type-past)  -- returns
     (λ c κs. search needs)  -- row-at-requires
     (λ c κs. search needs)  -- kind-at-requires
+    (λ c κs. search needs)  -- is-type-kind-requires
     (λ c. search type-is))  -- returns-2

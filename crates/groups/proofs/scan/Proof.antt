@@ -32,14 +32,14 @@ scan-spec =
     (λ c. search needs)  -- add-before
     (λ c. search needs)  -- loop-less
     (λ c. pass-member _ _ _ _ _ _ _
-      (c .before .before .before .before .before .before .before .loop .inv)
-      (c .before .before .before .before .before .before .loop-test .taken)
-      (c .before .before .before .before .before .if1 .left)
-      (c .before .before .before .if2 .taken)
-      _
-      (c .before .member-fits .ensures)
-      (c .before .before .if3 .left)
-      (c .if4 .left))  -- loop-again
+    (c .before .before .before .before .before .before .before .loop .inv)
+    (c .before .before .before .before .before .before .loop-test .taken)
+    (c .before .before .before .before .before .if1 .left)
+    (c .before .before .before .if2 .taken)
+    _
+    (c .before .member-fits .ensures)
+    (c .before .before .if3 .left)
+    (c .if4 .left))  -- loop-again
     (λ c. fails _ _ (search pass-missing))  -- returns-4
     (λ c κs. search needs)  -- type-size-requires
     (λ c. fails _ _ (search pass-unsized))  -- returns-5
@@ -48,15 +48,15 @@ scan-spec =
     (λ c. search needs)  -- add-n-2
     (λ c. search needs)  -- loop-less-2
     (λ c. pass-type _ _ _ _ _ _ _
-      (c .before .before .before .before .before .before .before .before .loop .inv)
-      (c .before .before .before .before .before .before .before .loop-test .taken)
-      (c .before .before .before .before .before .before .if1 .left)
-      (c .before .before .before .before .if2 .left)
-      _
-      (c .before .before .type-size .ensures .0)
-      _
-      (c .before .before .before .if5 .left)
-      (c .before .if6 .left)
-      (c .members-at .ensures))  -- loop-again-2
+    (c .before .before .before .before .before .before .before .before .loop .inv)
+    (c .before .before .before .before .before .before .before .loop-test .taken)
+    (c .before .before .before .before .before .before .if1 .left)
+    (c .before .before .before .before .if2 .left)
+    _
+    (c .before .before .type-size .ensures .0)
+    _
+    (c .before .before .before .if5 .left)
+    (c .before .if6 .left)
+    (c .members-at .ensures))  -- loop-again-2
     (λ c. fails _ _ (search pass-due))  -- returns-6
     (λ c. pass-done _ _ _ _ _ _ _ (c .before .before .loop .inv) (c .before .loop-test .left) (c .if7 .left)))  -- returns-7

@@ -9,7 +9,7 @@ use Rattle.octets.specs.Pick.{pick, both, no, all}
 use Rattle.octets.specs.Octets.{larger}
 use Rattle.rows.specs.Limits.{Limits}
 use Rattle.rows.specs.Paper.{tableLimits}
-use Rattle.rows.specs.Row.{kindAt, elementAt, typeRowAt, isList, rows, rowAt, membersAt}
+use Rattle.rows.specs.Row.{memberSize, kindAt, elementAt, typeRowAt, isList, rows, rowAt, membersAt}
 use Rattle.rows.specs.Body.{memberFormed}
 use Rattle.groups.specs.Clauses.{everyRow, wholeRows, bodyFormed, firstIsType, pointsLater, membersStand, memberPlace, sameName, namesDiffer, alternativesMandatory, noImplicitChoice, defaultLegal}
 
@@ -26,9 +26,9 @@ firstPass l t s =
 pub record Placed (t w : List ℕ) (n : ℕ) : Type 0 where
   pub at : (i : ℕ) → i < n → getD w (2 * i) 0 ≡ rowAt (rows (tableLimits .rows) t) i
 
--- member b of a group whose first member stands at `first`: member rows of one group stand 39 octets apart
+-- member b of a group whose first member stands at `first`: member rows of one group stand directly one after another
 abbrev pub placeFrom : ℕ → ℕ → ℕ
-placeFrom first b = first + 39 * b
+placeFrom first b = first + memberSize * b
 
 -- its name is not that of member a
 unfoldable pub differsAt : List ℕ → ℕ → ℕ → ℕ → Bool
@@ -41,7 +41,7 @@ newNameAt t first b = all (differsAt t first b) b
 -- it is a whole row, with its body formed and a new name
 unfoldable pub memberFits : ℕ → List ℕ → ℕ → ℕ → Bool
 memberFits name t first b =
-    both (leb 39 (length t - placeFrom first b))
+    both (leb memberSize (length t - placeFrom first b))
     (both (memberFormed name t (placeFrom first b))
     (newNameAt t first b))
 
