@@ -62,8 +62,8 @@ Fails t = goes t 0 0 0 (rowsFrom (tableLimits .rows) t 0) ≡ false
 abbrev Counted : List ℕ → ℕ → Type 0
 Counted t r = r ≡ pick (firstPass tableLimits t (rows (tableLimits .rows) t)) (length (rows (tableLimits .rows) t)) 0
 
-pub fails : (t w : List ℕ) → Fails t → (Counted t 0) × (Placed t w 0)
-fails t w e = (sym (ap (λ (x : Bool). pick x (length (rows (tableLimits .rows) t)) 0) e) ∙ pass-counts t, record { at = λ i h. absurd (omega arith) })
+pub fails : (t w : List ℕ) → length w ≡ 256 → Fails t → (Counted t 0) × ((Placed t w 0) × (length w ≡ 256))
+fails t w space e = (sym (ap (λ (x : Bool). pick x (length (rows (tableLimits .rows) t)) 0) e) ∙ pass-counts t, (record { at = λ i h. absurd (omega arith) }, space))
 
 -- ---- one row of what is left
 none-left : (k : ℕ) (t : List ℕ) (at : ℕ) → length t ≤ at → rowsFrom k t at ≡ some []
@@ -121,11 +121,11 @@ module _ (t w : List ℕ) (at n due first before : ℕ) (inv : Passing t w at n 
     unfolding rows
     all-found = sym (append-nil (inv .found)) ∙ ap orNone (sym (ap (joined (inv .found)) ended) ∙ inv .rest)
 
-    pub pass-done : due ≡ 0 → (Counted t n) × (Placed t w n)
+    pub pass-done : due ≡ 0 → (Counted t n) × ((Placed t w n) × (length w ≡ 256))
     pass-done e = (
       sym (inv .counted) ∙ ap length all-found
           ∙ sym (ap (λ (x : Bool). pick x (length (rows (tableLimits .rows) t)) 0) (sym told ∙ eq-eqb due 0 e)) ∙ pass-counts t,
-      record { at = λ i l. inv .places i l ∙ ap (λ (s : List ℕ). rowAt s i) all-found },
+      (record { at = λ i l. inv .places i l ∙ ap (λ (s : List ℕ). rowAt s i) all-found }, inv .space),
     )
 
   module _ (inside : at < length t) where

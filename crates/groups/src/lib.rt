@@ -73,6 +73,7 @@ pub fn scan(t: &[u8], w: &mut [u64; 256]) -> usize
         ≡ pick (work.firstPass tableLimits (now (t .entry)) (row.rows (tableLimits .rows) (now (t .entry))))
         (length (row.rows (tableLimits .rows) (now (t .entry)))) 0 ⌝ }
     ensures places { λ r. ⌜ work.Placed (now (t .entry)) (now (w .exit)) r ⌝ }
+    ensures kept { λ r. ⌜ length (now (w .exit)) ≡ 256 ⌝ }
 {
     let mut at = 0;
     let mut n = 0;

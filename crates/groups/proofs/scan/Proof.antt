@@ -18,14 +18,14 @@ scan-spec =
     Inv-loop
     μ-loop
     (λ c. search pass-start)  -- loop-holds
-    (λ c. fails _ _ (search pass-many))  -- returns
+    (λ c. fails _ _ (search needs) (search pass-many))  -- returns
     (λ c. search needs)  -- mul-w
     (λ c. search needs)  -- mul-w-2
     (λ c. search needs)  -- element-write-w
     (λ c. search needs)  -- shared-slice-read-if2
-    (λ c. fails _ _ (search pass-extra))  -- returns-2
+    (λ c. fails _ _ (search needs) (search pass-extra))  -- returns-2
     (λ c κs. search needs)  -- member-fits-requires
-    (λ c. fails _ _ (search pass-misfit))  -- returns-3
+    (λ c. fails _ _ (search needs) (search pass-misfit))  -- returns-3
     (λ c. search needs)  -- add-at
     (λ c. search needs)  -- add-n
     (λ c. search needs)  -- sub-due
@@ -40,9 +40,9 @@ scan-spec =
     (c .before .member-fits .ensures)
     (c .before .before .if3 .left)
     (c .if4 .left))  -- loop-again
-    (λ c. fails _ _ (search pass-missing))  -- returns-4
+    (λ c. fails _ _ (search needs) (search pass-missing))  -- returns-4
     (λ c κs. search needs)  -- type-size-requires
-    (λ c. fails _ _ (search pass-unsized))  -- returns-5
+    (λ c. fails _ _ (search needs) (search pass-unsized))  -- returns-5
     (λ c κs. search needs)  -- members-at-requires
     (λ c. search needs)  -- add-at-2
     (λ c. search needs)  -- add-n-2
@@ -58,5 +58,5 @@ scan-spec =
     (c .before .before .before .if5 .left)
     (c .before .if6 .left)
     (c .members-at .ensures))  -- loop-again-2
-    (λ c. fails _ _ (search pass-due))  -- returns-6
+    (λ c. fails _ _ (search needs) (search pass-due))  -- returns-6
     (λ c. pass-done _ _ _ _ _ _ _ (c .before .before .loop .inv) (c .before .loop-test .left) (c .if7 .left)))  -- returns-7
