@@ -2,20 +2,23 @@
 use mathlib.Core.Path.{_≡_, refl, sym, ap, ap₂, _∙_}
 use mathlib.Core.Bool.{Bool, true, false, not}
 use mathlib.Core.List.{List, _∷_}
-use Prim.Native.Nat.{ℕ, _≤_, _<_, _+_, _-_}
+use Prim.Native.Nat.{ℕ, zero, suc, _≤_, _<_, _+_, _-_, _*_}
 use native.Mathlib.Omega.{arith}
-use borrow.Author.Tests.{not-true, not-false, eq-eqb, ne-eqb, lt-ltb, le-ltb}
+use borrow.Author.Tests.{not-true, not-false, eq-eqb, ne-eqb, lt-ltb, le-ltb, lt-leb, le-leb}
+use borrow.Author.Count.{below-more}
 use lib.Dec.{eqb}
-use lib.ListN.{length, drop}
-use Rattle.octets.specs.Pick.{no, all}
-use Rattle.octets.specs.Octets.{octet, two, part, same}
+use lib.ListN.{length, drop, take, getD, set}
+use lib.Seq.{getD-set-same, getD-set-other}
+use Rattle.octets.specs.Pick.{pick, both, no, all}
+use Rattle.octets.specs.Octets.{octet, part, same}
 use Rattle.octets.specs.Text.{within}
 use Rattle.octets.proofs.Laws.{octet-past, rest-cons, rest-none, all-bad, all-done}
 use Rattle.der.specs.Contents.{legal}
-use Rattle.rows.specs.Row.{rowAt, membersAt, isList, defaultAt}
+use Rattle.rows.specs.Row.{rows, rowAt, membersAt}
 use Rattle.rows.specs.Body.{rowFormed}
-use Rattle.groups.specs.Clauses.{bodyFormed, isType, laterType, pointsLater, standing, membersStand, memberPlace, sameName, differsFrom, newName, namesDiffer, mandatoryAt, alternativesMandatory, typeKind, noImplicitChoice, defaultAllowed, defaultLegal}
-use Rattle.groups.specs.inner.Work.{membersAgreeAt, rowAgrees}
+use Rattle.rows.specs.Paper.{tableLimits}
+use Rattle.groups.specs.Clauses.{everyRow, wholeRows, bodyFormed, isType, firstIsType, standing, membersStand, memberPlace, sameName, differsFrom, newName, namesDiffer, defaultAllowed}
+use Rattle.groups.specs.inner.Work.{rowAgrees, firstPass, Placed, Copied}
 
 pub not-no : (t : Bool) → not t ≡ no t
 not-no true = refl
@@ -34,67 +37,6 @@ type-past t s i h = rw (le-ltb i (length s) h)
 pub type-is : (t s : List ℕ) (i p k : ℕ) → i < length s → p ≡ rowAt s i → k ≡ octet t p → not (eqb k 16) ≡ isType t s i
 unfolding isType
 type-is t s i p k h e f = rw (lt-ltb i (length s) h, ← e, ← f) (not-no (eqb k 16))
-
-pub later-not : (t s : List ℕ) (i j : ℕ) → j ≤ i → false ≡ laterType t s i j
-unfolding laterType
-later-not t s i j h = rw (le-ltb i j h)
-
-pub later-is : (t s : List ℕ) (i j : ℕ) (r : Bool) → i < j → r ≡ isType t s j → r ≡ laterType t s i j
-unfolding laterType
-later-is t s i j r h e = rw (lt-ltb i j h) e
-
-module _ (t s : List ℕ) (i p k : ℕ) (placed : p ≡ rowAt s i) (read : k ≡ octet t p) where
-  module _ (l : Bool) (list : l ≡ isList k) where
-    pub points-list : (c : ℕ) (r : Bool) → l ≡ true → c ≡ two t (p + 1) → r ≡ laterType t s i c → r ≡ pointsLater t s i
-    unfolding pointsLater
-    points-list c r h e q = rw (← placed, ← read, sym list ∙ h, ← e) q
-
-    pub points-member : (c : ℕ) (r : Bool) → l ≡ false → k ≡ 16 → c ≡ two t (p + 25) → r ≡ laterType t s i c → r ≡ pointsLater t s i
-    unfolding pointsLater
-    points-member c r h m e q = rw (← placed, ← read, sym list ∙ h, eq-eqb k 16 m, ← e) q
-
-    pub points-none : l ≡ false → (k ≡ 16 → ⊥) → true ≡ pointsLater t s i
-    unfolding pointsLater
-    points-none h m = rw (← placed, ← read, sym list ∙ h, ne-eqb k 16 m)
-
-  -- ---- alternatives
-  pub alternatives-none : (k ≡ 13 → ⊥) → true ≡ alternativesMandatory t s i
-  unfolding alternativesMandatory
-  alternatives-none n = rw (← placed, ← read, ne-eqb k 13 n)
-
-  pub alternatives-all : (n : ℕ) (r : Bool) → k ≡ 13 → n ≡ membersAt t p → r ≡ all (mandatoryAt t s i) n → r ≡ alternativesMandatory t s i
-  unfolding alternativesMandatory
-  alternatives-all n r e f q = rw (← placed, ← read, eq-eqb k 13 e, ← f) q
-
-  -- ---- tags of CHOICEs, defaults
-  pub implicit-none : (k ≡ 16 → ⊥) → true ≡ noImplicitChoice t s i
-  unfolding noImplicitChoice
-  implicit-none n = rw (← placed, ← read, ne-eqb k 16 n)
-
-  pub default-none : (k ≡ 16 → ⊥) → true ≡ defaultLegal t s i
-  unfolding defaultLegal
-  default-none n = rw (← placed, ← read, ne-eqb k 16 n)
-
-  module _ (e : k ≡ 16) where
-    pub implicit-other : (m : ℕ) → m ≡ octet t (p + 27) → (m ≡ 2 → ⊥) → true ≡ noImplicitChoice t s i
-    unfolding noImplicitChoice
-    implicit-other m f n = rw (← placed, ← read, eq-eqb k 16 e, ← f, ne-eqb m 2 n)
-
-    pub implicit-is : (m c : ℕ) → m ≡ octet t (p + 27) → m ≡ 2 → c ≡ typeKind t s i → not (eqb c 13) ≡ noImplicitChoice t s i
-    unfolding noImplicitChoice
-    implicit-is m c f n q = rw (← q, ← placed, ← read, eq-eqb k 16 e, ← f, eq-eqb m 2 n) (not-no (eqb c 13))
-
-    module _ (n m : ℕ) (size : n ≡ octet t (p + 30)) (presence : m ≡ octet t (p + 29)) where
-      pub default-other : (m ≡ 2 → ⊥) → eqb n 0 ≡ defaultLegal t s i
-      unfolding defaultLegal
-      default-other h = rw (← placed, ← read, eq-eqb k 16 e, ← presence, ne-eqb m 2 h, ← size)
-
-      pub default-is : (c : ℕ) (d : List ℕ) (r : Bool) → m ≡ 2 → c ≡ typeKind t s i → d ≡ defaultAt t p → r ≡ defaultAllowed c d → r ≡ defaultLegal t s i
-      unfolding defaultLegal
-      default-is c d r h a f q = rw (← a, ← placed, ← read, eq-eqb k 16 e, ← presence, eq-eqb m 2 h) (q ∙ ap (defaultAllowed c) f)
-
-pub kind-is : (t s : List ℕ) (i p c q k : ℕ) → p ≡ rowAt s i → c ≡ two t (p + 25) → q ≡ rowAt s c → k ≡ octet t q → k ≡ typeKind t s i
-kind-is t s i p c q k a b d e = rw (← a, ← b, ← d) e
 
 pub allowed-not : (k : ℕ) (c : List ℕ) (r : Bool) → r ≡ within 1 3 k → not r ≡ true → false ≡ defaultAllowed k c
 unfolding defaultAllowed
@@ -192,41 +134,95 @@ module _ (t s : List ℕ) (i n p b : ℕ) (placed : p ≡ rowAt s i) (counted : 
   unfolding namesDiffer
   names-done e h m = rw (← total) (all-done (newName t s i) b n e h m)
 
-pub mandatory-is : (t s : List ℕ) (i j p o : ℕ) → p ≡ memberPlace s i j → o ≡ octet t (p + 29) → eqb o 0 ≡ mandatoryAt t s i j
-unfolding mandatoryAt
-mandatory-is t s i j p o e f = rw (← e, f)
-
 -- ---- the clauses on one row
-module _ (t s : List ℕ) (i : ℕ) where
-  module _ (a : Bool) (names : a ≡ namesDiffer t s i) where
-    pub agree-names : not a ≡ true → false ≡ membersAgreeAt t s i
-    unfolding membersAgreeAt
-    agree-names e = rw (sym names ∙ not-true a e)
+module _ (most name : ℕ) (t s : List ℕ) (i : ℕ) (a : Bool) (formed : a ≡ bodyFormed most name t s i) where
+  pub row-unformed : not a ≡ true → false ≡ rowAgrees most name t s i
+  unfolding rowAgrees
+  row-unformed e = rw (sym formed ∙ not-true a e)
 
-    module _ (ea : not a ≡ false) (b : Bool) (alternatives : b ≡ alternativesMandatory t s i) where
-      pub agree-alternatives : not b ≡ true → false ≡ membersAgreeAt t s i
-      unfolding membersAgreeAt
-      agree-alternatives e = rw (sym names ∙ not-false a ea, sym alternatives ∙ not-true b e)
+  pub row-is : (u : Bool) → not a ≡ false → u ≡ namesDiffer t s i → u ≡ rowAgrees most name t s i
+  unfolding rowAgrees
+  row-is u e q = rw (sym formed ∙ not-false a e) q
 
-      module _ (eb : not b ≡ false) (c : Bool) (implicits : c ≡ noImplicitChoice t s i) where
-        pub agree-implicits : not c ≡ true → false ≡ membersAgreeAt t s i
-        unfolding membersAgreeAt
-        agree-implicits e = rw (sym names ∙ not-false a ea, sym alternatives ∙ not-false b eb, sym implicits ∙ not-true c e)
+-- ---- the first pass
+all-both : (f g : ℕ → Bool) (n : ℕ) → all (λ (i : ℕ). both (f i) (g i)) n ≡ both (all f n) (all g n)
+unfolding all
+all-both f g zero = refl
+all-both f g (suc n) = ap (both (both (f n) (g n))) (all-both f g n) ∙ crossed (f n) (g n) (all f n) (all g n)
+  where
+    crossed : (a b c d : Bool) → both (both a b) (both c d) ≡ both (both a c) (both b d)
+    crossed true true c d = refl
+    crossed true false true d = refl
+    crossed true false false d = refl
+    crossed false b c d = refl
 
-        pub agree-is : (u : Bool) → not c ≡ false → u ≡ defaultLegal t s i → u ≡ membersAgreeAt t s i
-        unfolding membersAgreeAt
-        agree-is u e q = rw (sym names ∙ not-false a ea, sym alternatives ∙ not-false b eb, sym implicits ∙ not-false c e) q
+module _ (t s : List ℕ) where
+  pub first-none : length s < 1 → false ≡ firstPass tableLimits t s
+  unfolding firstPass wholeRows
+  first-none h = rw (lt-leb 1 (length s) h)
 
-  module _ (most name : ℕ) (a : Bool) (formed : a ≡ bodyFormed most name t s i) where
-    pub row-unformed : not a ≡ true → false ≡ rowAgrees most name t s i
+  module _ (h : 1 ≤ length s) (few : length s ≤ tableLimits .rows) (a : Bool) (told : a ≡ everyRow (rowAgrees (tableLimits .members) (tableLimits .name) t s) s) where
+    agreed : a ≡ both (everyRow (bodyFormed (tableLimits .members) (tableLimits .name) t s) s) (everyRow (namesDiffer t s) s)
     unfolding rowAgrees
-    row-unformed e = rw (sym formed ∙ not-true a e)
+    agreed = told ∙ all-both (bodyFormed (tableLimits .members) (tableLimits .name) t s) (namesDiffer t s) (length s)
 
-    module _ (ea : not a ≡ false) (b : Bool) (later : b ≡ pointsLater t s i) where
-      pub row-unnamed : not b ≡ true → false ≡ rowAgrees most name t s i
-      unfolding rowAgrees
-      row-unnamed e = rw (sym formed ∙ not-false a ea, sym later ∙ not-true b e)
+    by-rows : firstPass tableLimits t s ≡ both a (both (isType t s 0) (membersStand t s))
+    unfolding firstPass wholeRows firstIsType
+    by-rows = rw (le-leb 1 (length s) h, le-leb (length s) (tableLimits .rows) few, agreed)
+        (ordered (everyRow (bodyFormed (tableLimits .members) (tableLimits .name) t s) s) (isType t s 0) (membersStand t s) (everyRow (namesDiffer t s) s))
+      where
+        ordered : (p q r u : Bool) → both p (both q (both r u)) ≡ both (both p u) (both q r)
+        ordered true true true true = refl
+        ordered true true true false = refl
+        ordered true true false true = refl
+        ordered true true false false = refl
+        ordered true false r true = refl
+        ordered true false r false = refl
+        ordered false q r u = refl
 
-      pub row-is : (u : Bool) → not b ≡ false → u ≡ membersAgreeAt t s i → u ≡ rowAgrees most name t s i
-      unfolding rowAgrees
-      row-is u e q = rw (sym formed ∙ not-false a ea, sym later ∙ not-false b e) q
+    pub first-unagreed : not a ≡ true → false ≡ firstPass tableLimits t s
+    first-unagreed e = sym (by-rows ∙ ap (λ (x : Bool). both x (both (isType t s 0) (membersStand t s))) (not-true a e))
+
+    module _ (e : not a ≡ false) (b : Bool) (typed : b ≡ isType t s 0) where
+      pub first-untyped : not b ≡ true → false ≡ firstPass tableLimits t s
+      first-untyped f = sym (by-rows ∙ ap₂ (λ (x y : Bool). both x (both y (membersStand t s))) (not-false a e) (sym typed ∙ not-true b f))
+
+      pub first-is : (u : Bool) → not b ≡ false → u ≡ membersStand t s → u ≡ firstPass tableLimits t s
+      first-is u f q = q ∙ sym (by-rows ∙ ap₂ (λ (x y : Bool). both x (both y (membersStand t s))) (not-false a e) (sym typed ∙ not-false b f))
+
+pub copy-start : (s w : List ℕ) → Copied s w 0
+copy-start s w = record { at = λ i h. absurd (omega arith) }
+
+pub copy-again : (s w : List ℕ) (i : ℕ) → Copied s w i → i < length s → length s ≤ tableLimits .rows → length w ≡ 256 → Copied s (set w (2 * i) (octet s i)) (i + 1)
+copy-again s w i so-far h few wide = record { at = below-more _ i old new }
+  where
+    old : (j : ℕ) → j < i → getD (set w (2 * i) (octet s i)) (2 * j) 0 ≡ rowAt s j
+    old j l = getD-set-other w (2 * i) (2 * j) (octet s i) 0 (λ z. omega arith) ∙ so-far .at j l
+
+    new : getD (set w (2 * i) (octet s i)) (2 * i) 0 ≡ rowAt s i
+    new = let g : 2 * i < length w = omega arith in getD-set-same w (2 * i) (octet s i) 0 g
+
+pub copy-done : (s w : List ℕ) (i : ℕ) → Copied s w i → i ≤ length s → length s ≤ i → Copied s w (length s)
+copy-done s w i c h l = let e : i ≡ length s = omega arith in rw e at c
+
+module _ (t s : List ℕ) (n : ℕ) (a : Bool) (found : take n s ≡ rows (tableLimits .rows) t) (told : a ≡ firstPass tableLimits t (take n s)) where
+  passed : firstPass tableLimits t (rows (tableLimits .rows) t) ≡ a
+  passed = sym (rw found at told)
+
+  pub scan-not : not a ≡ true → 0 ≡ pick (firstPass tableLimits t (rows (tableLimits .rows) t)) (length (rows (tableLimits .rows) t)) 0
+  scan-not e = rw (passed ∙ not-true a e)
+
+  pub scan-is : n ≡ length (rows (tableLimits .rows) t) → not a ≡ false → n ≡ pick (firstPass tableLimits t (rows (tableLimits .rows) t)) (length (rows (tableLimits .rows) t)) 0
+  scan-is c e = rw (passed ∙ not-false a e) c
+
+pub places-none : (t w : List ℕ) → Placed t w 0
+places-none t w = record { at = λ i h. absurd (omega arith) }
+
+pub places-are : (t s w : List ℕ) (n : ℕ) → take n s ≡ rows (tableLimits .rows) t → n ≡ length (rows (tableLimits .rows) t) → Copied (take n s) w (length (take n s)) → Placed t w n
+places-are t s w n e c f = record { at = λ i h. f .at i (rw e (omega arith)) ∙ ap (λ (x : List ℕ). rowAt x i) e }
+
+pub scan-few : (t l : List ℕ) (n : ℕ) → n ≡ length (rows (tableLimits .rows) t) → take n l ≡ rows (tableLimits .rows) t → n ≤ tableLimits .rows → length (take n l) ≤ tableLimits .rows
+scan-few t l n e f h = rw (f, ← e) h
+
+pub scan-counted : (t l : List ℕ) (n : ℕ) → n ≡ length (rows (tableLimits .rows) t) → take n l ≡ rows (tableLimits .rows) t → n ≡ length (take n l)
+scan-counted t l n e f = e ∙ ap length (sym f)

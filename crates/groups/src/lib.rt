@@ -1,11 +1,9 @@
-// Clauses of "Admitted": each row's body, the rows that rows name, members and their names, alternatives, defaults, and chains.
+// Clauses of "Admitted": each row's body, where members stand, and their names.
 use der::Kind;
 ghost use mathlib.Core.Path.{_≡_};
-ghost use mathlib.Core.Bool.{true};
 ghost use Prim.Native.Nat.{_≤_};
 ghost use lib.ListN.{length};
-ghost use Rattle.octets.specs.Pick.{all};
-ghost use Rattle.octets.specs.Octets.{larger};
+ghost use Rattle.octets.specs.Pick.{all, pick};
 ghost use Rattle.rows.specs.Row as row;
 ghost use Rattle.groups.specs.Clauses as clause;
 ghost use Rattle.groups.specs.inner.Work as work;
@@ -26,29 +24,6 @@ pub fn is_type(t: &[u8], s: &[usize], i: usize) -> bool
         return false;
     }
     rows::kind_at(t, rows::row_at(s, i)) != Kind::MEMBER
-}
-
-fn later_type(t: &[u8], s: &[usize], i: usize, j: usize) -> bool
-    ensures { λ r. ⌜ r ≡ clause.laterType (now (t .entry)) (now (s .entry)) i j ⌝ }
-{
-    if j <= i {
-        return false;
-    }
-    is_type(t, s, j)
-}
-
-fn points_later(t: &[u8], s: &[usize], i: usize) -> bool
-    ensures { λ r. ⌜ r ≡ clause.pointsLater (now (t .entry)) (now (s .entry)) i ⌝ }
-{
-    let p = rows::row_at(s, i);
-    let kind = rows::kind_at(t, p);
-    if rows::is_list(kind) {
-        return later_type(t, s, i, rows::element_at(t, p));
-    }
-    if kind == Kind::MEMBER {
-        return later_type(t, s, i, rows::type_row_at(t, p));
-    }
-    true
 }
 
 // ---- members
@@ -132,57 +107,8 @@ fn names_differ(t: &[u8], s: &[usize], i: usize) -> bool
     true
 }
 
-pub fn is_mandatory(t: &[u8], s: &[usize], i: usize, j: usize) -> bool
-    ensures { λ r. ⌜ r ≡ clause.mandatoryAt (now (t .entry)) (now (s .entry)) i j ⌝ }
-{
-    rows::presence_at(t, member_place(s, i, j)) == 0
-}
-
-fn all_mandatory(t: &[u8], s: &[usize], i: usize, n: usize) -> bool
-    ensures { λ r. ⌜ r ≡ all (clause.mandatoryAt (now (t .entry)) (now (s .entry)) i) n ⌝ }
-{
-    let mut j = 0;
-    while j < n {
-        if !is_mandatory(t, s, i, j) {
-            return false;
-        }
-        j += 1;
-    }
-    true
-}
-
-fn alternatives_mandatory(t: &[u8], s: &[usize], i: usize) -> bool
-    ensures { λ r. ⌜ r ≡ clause.alternativesMandatory (now (t .entry)) (now (s .entry)) i ⌝ }
-{
-    let p = rows::row_at(s, i);
-    if rows::kind_at(t, p) != Kind::CHOICE {
-        return true;
-    }
-    all_mandatory(t, s, i, rows::members_at(t, p))
-}
-
-// The kind of a member row's type.
-pub fn type_kind(t: &[u8], s: &[usize], i: usize) -> u8
-    ensures { λ r. ⌜ r ≡ clause.typeKind (now (t .entry)) (now (s .entry)) i ⌝ }
-{
-    let type_row = rows::type_row_at(t, rows::row_at(s, i));
-    rows::kind_at(t, rows::row_at(s, type_row))
-}
-
-fn no_implicit_choice(t: &[u8], s: &[usize], i: usize) -> bool
-    ensures { λ r. ⌜ r ≡ clause.noImplicitChoice (now (t .entry)) (now (s .entry)) i ⌝ }
-{
-    let p = rows::row_at(s, i);
-    if rows::kind_at(t, p) != Kind::MEMBER {
-        return true;
-    }
-    if rows::mode_at(t, p) != 2 {
-        return true;
-    }
-    type_kind(t, s, i) != Kind::CHOICE
-}
-
-fn default_allowed(k: u8, c: &[u8]) -> bool
+// Whether a default of these contents is allowed on a kind.
+pub fn default_allowed(k: u8, c: &[u8]) -> bool
     ensures { λ r. ⌜ r ≡ clause.defaultAllowed k (now (c .entry)) ⌝ }
 {
     if !octets::within(Kind::BOOLEAN, Kind::ENUMERATED, k) {
@@ -191,48 +117,15 @@ fn default_allowed(k: u8, c: &[u8]) -> bool
     der::legal_contents(k, c)
 }
 
-fn default_legal(t: &[u8], s: &[usize], i: usize) -> bool
-    ensures { λ r. ⌜ r ≡ clause.defaultLegal (now (t .entry)) (now (s .entry)) i ⌝ }
-{
-    let p = rows::row_at(s, i);
-    if rows::kind_at(t, p) != Kind::MEMBER {
-        return true;
-    }
-    let n = rows::default_length_at(t, p);
-    if rows::presence_at(t, p) != 2 {
-        return n == 0;
-    }
-    default_allowed(type_kind(t, s, i), rows::default_at(t, p))
-}
-
 // ---- every row
-// Whether the clauses on members hold of one row: names, alternatives, implicit tags, defaults.
-fn members_agree(t: &[u8], s: &[usize], i: usize) -> bool
-    ensures { λ r. ⌜ r ≡ work.membersAgreeAt (now (t .entry)) (now (s .entry)) i ⌝ }
-{
-    if !names_differ(t, s, i) {
-        return false;
-    }
-    if !alternatives_mandatory(t, s, i) {
-        return false;
-    }
-    if !no_implicit_choice(t, s, i) {
-        return false;
-    }
-    default_legal(t, s, i)
-}
-
-// Whether the clauses on one row hold of it: its body, the row that it names, its members.
+// Whether the clauses on one row hold of it: its body, its members' names.
 fn row_agrees(t: &[u8], s: &[usize], i: usize) -> bool
     ensures { λ r. ⌜ r ≡ work.rowAgrees (tableLimits .members) (tableLimits .name) (now (t .entry)) (now (s .entry)) i ⌝ }
 {
     if !body_formed(t, s, i) {
         return false;
     }
-    if !points_later(t, s, i) {
-        return false;
-    }
-    members_agree(t, s, i)
+    names_differ(t, s, i)
 }
 
 // The same of all rows, in one pass.
@@ -249,16 +142,6 @@ pub fn rows_agree(t: &[u8], s: &[usize]) -> bool
     true
 }
 
-// ---- chains: the longest chain from each row on, in an array that is filled from the last row to the first
-fn larger(a: usize, b: usize) -> usize
-    ensures { λ r. ⌜ r ≡ larger a b ⌝ }
-{
-    if a < b {
-        return b;
-    }
-    a
-}
-
 // The row of member j's type.
 pub fn member_type(t: &[u8], s: &[usize], i: usize, j: usize) -> usize
     ensures { λ r. ⌜ r ≡ work.memberType (now (t .entry)) (now (s .entry)) i j ⌝ }
@@ -266,50 +149,49 @@ pub fn member_type(t: &[u8], s: &[usize], i: usize, j: usize) -> usize
     rows::type_row_at(t, member_place(s, i, j))
 }
 
-fn member_depth(d: &[usize], t: &[u8], s: &[usize], i: usize, j: usize) -> usize
-    ensures { λ r. ⌜ r ≡ work.memberDepth (now (d .entry)) (now (t .entry)) (now (s .entry)) i j ⌝ }
+// ---- the first pass
+// Whether bodies, names and where rows stand are as "Admitted" has them.
+fn rows_stand(t: &[u8], s: &[usize]) -> bool
+    requires few { ⌜ length (now s) ≤ tableLimits .rows ⌝ }
+    ensures { λ r. ⌜ r ≡ work.firstPass tableLimits (now (t .entry)) (now (s .entry)) ⌝ }
 {
-    rows::row_at(d, member_type(t, s, i, j))
+    if s.len() < 1 {
+        return false;
+    }
+    if !rows_agree(t, s) {
+        return false;
+    }
+    if !is_type(t, s, 0) {
+        return false;
+    }
+    members_stand(t, s)
 }
 
-fn tallest(d: &[usize], t: &[u8], s: &[usize], i: usize, n: usize) -> usize
-    ensures { λ r. ⌜ r ≡ work.tallest (work.memberDepth (now (d .entry)) (now (t .entry)) (now (s .entry)) i) n ⌝ }
+fn copy_places(s: &[usize], w: &mut [u64; 256])
+    requires few { ⌜ length (now s) ≤ tableLimits .rows ⌝ }
+    requires space { ⌜ length (now w) ≡ 256 ⌝ }
+    ensures { λ r. ⌜ work.Copied (now (s .entry)) (now (w .exit)) (length (now (s .entry))) ⌝ }
 {
-    let mut most = 0;
-    let mut j = 0;
-    while j < n {
-        most = larger(member_depth(d, t, s, i, j), most);
-        j += 1;
+    let mut i = 0;
+    while i < s.len() {
+        w[2 * i] = s[i] as u64;
+        i += 1;
     }
-    most
 }
 
-fn deepest(d: &[usize], t: &[u8], s: &[usize], i: usize) -> usize
-    ensures { λ r. ⌜ r ≡ work.deepest (now (d .entry)) (now (t .entry)) (now (s .entry)) i ⌝ }
+// How many rows a table has that passes; 0 where it does not. The first word of each row is then its place.
+pub fn scan(t: &[u8], w: &mut [u64; 256]) -> usize
+    requires space { ⌜ length (now w) ≡ 256 ⌝ }
+    ensures count { λ r. ⌜ r
+        ≡ pick (work.firstPass tableLimits (now (t .entry)) (row.rows (tableLimits .rows) (now (t .entry))))
+        (length (row.rows (tableLimits .rows) (now (t .entry)))) 0 ⌝ }
+    ensures places { λ r. ⌜ work.Placed (now (t .entry)) (now (w .exit)) r ⌝ }
 {
-    let p = rows::row_at(s, i);
-    if rows::is_list(rows::kind_at(t, p)) {
-        return rows::row_at(d, rows::element_at(t, p));
+    let mut starts = [0usize; rows::Table::MAX_ROWS];
+    let n = rows::scan(t, &mut starts);
+    if !rows_stand(t, &starts[..n]) {
+        return 0;
     }
-    tallest(d, t, s, i, rows::members_at(t, p))
-}
-
-// Whether chains of rows, each naming the next, are within the limit.
-pub fn chains_short(t: &[u8], s: &[usize]) -> bool
-    requires few { ⌜ length (now s) ≤ (tableLimits .rows) ⌝ }
-    requires later { ⌜ clause.everyRow (clause.pointsLater (now t) (now s)) (now s) ≡ true ⌝ }
-    requires stand { ⌜ clause.membersStand (now t) (now s) ≡ true ⌝ }
-    ensures { λ r. ⌜ r ≡ clause.everyRow (clause.chainFits (tableLimits .chain) (now (t .entry)) (now (s .entry))) (now (s .entry)) ⌝ }
-{
-    let mut d = [0usize; rows::Table::MAX_ROWS];
-    let mut i = s.len();
-    while 0 < i {
-        i -= 1;
-        let below = deepest(&d, t, s, i);
-        if rows::Table::MAX_CHAIN <= below {
-            return false;
-        }
-        d[i] = below + 1;
-    }
-    true
+    copy_places(&starts[..n], w);
+    n
 }

@@ -1,4 +1,4 @@
-use Rattle.groups.proofs.Steps.{row-unformed, row-unnamed, row-is}
+use Rattle.groups.proofs.Steps.{row-unformed, row-is}
 use borrow.Author.Needs.{needs}
 use Rattle.groups.proofs.row_agrees.Statement.{statement}
 use Rattle.groups.proofs.row_agrees.Tie as tie
@@ -9,7 +9,5 @@ row-agrees-spec =
     (tie.spec
     (λ c κs. search needs)  -- body-formed-requires
     (λ c. search row-unformed)  -- returns
-    (λ c κs. search needs)  -- points-later-requires
-    (λ c. search row-unnamed)  -- returns-2
-    (λ c κs. search needs)  -- members-agree-requires
-    (λ c. search row-is))  -- returns-3
+    (λ c κs. search needs)  -- names-differ-requires
+    (λ c. search row-is))  -- returns-2
