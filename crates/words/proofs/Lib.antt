@@ -1,3 +1,5 @@
 pub mod Steps
 pub mod Places
 pub mod Reading
+pub mod PassLaws
+pub mod PassSteps
