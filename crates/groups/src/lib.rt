@@ -170,7 +170,8 @@ fn rows_stand(t: &[u8], s: &[usize]) -> bool
 fn copy_places(s: &[usize], w: &mut [u64; 256])
     requires few { ⌜ length (now s) ≤ tableLimits .rows ⌝ }
     requires space { ⌜ length (now w) ≡ 256 ⌝ }
-    ensures { λ r. ⌜ work.Copied (now (s .entry)) (now (w .exit)) (length (now (s .entry))) ⌝ }
+    ensures copied { λ r. ⌜ work.Copied (now (s .entry)) (now (w .exit)) (length (now (s .entry))) ⌝ }
+    ensures kept { λ r. ⌜ length (now (w .exit)) ≡ 256 ⌝ }
 {
     let mut i = 0;
     while i < s.len() {
@@ -186,6 +187,7 @@ pub fn scan(t: &[u8], w: &mut [u64; 256]) -> usize
         ≡ pick (work.firstPass tableLimits (now (t .entry)) (row.rows (tableLimits .rows) (now (t .entry))))
         (length (row.rows (tableLimits .rows) (now (t .entry)))) 0 ⌝ }
     ensures places { λ r. ⌜ work.Placed (now (t .entry)) (now (w .exit)) r ⌝ }
+    ensures kept { λ r. ⌜ length (now (w .exit)) ≡ 256 ⌝ }
 {
     let mut starts = [0usize; rows::Table::MAX_ROWS];
     let n = rows::scan(t, &mut starts);

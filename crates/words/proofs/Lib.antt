@@ -3,3 +3,4 @@ pub mod Places
 pub mod Reading
 pub mod PassLaws
 pub mod PassSteps
+pub mod Writing

@@ -40,6 +40,10 @@ module _ (t : List ℕ) (ok : firstPass tableLimits t (tableRows t) ≡ true) wh
   unfolding firstPass wholeRows
   few-rows = leb-true (length (tableRows t)) 128 (both-true (leb 1 (length (tableRows t))) (leb (length (tableRows t)) 128) (both-true (wholeRows 128 (tableRows t)) _ ok .0) .1)
 
+  pub some-rows : 1 ≤ length (tableRows t)
+  unfolding firstPass wholeRows
+  some-rows = leb-true 1 (length (tableRows t)) (both-true (leb 1 (length (tableRows t))) (leb (length (tableRows t)) 128) (both-true (wholeRows 128 (tableRows t)) _ ok .0) .0)
+
   pub members-stand : membersStand t (tableRows t) ≡ true
   members-stand = both-true (membersStand t (tableRows t)) _ (both-true (firstIsType t (tableRows t)) _ (both-true (everyRow (bodyFormed 16 24 t (tableRows t)) (tableRows t)) _ after-whole .1) .1) .0
 

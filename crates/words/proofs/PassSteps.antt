@@ -233,6 +233,9 @@ module _ (t w : List ℕ) (n i p : ℕ) (next : Next t w n i p) where
   first-ok : firstPass tableLimits t (tableRows t) ≡ true
   first-ok = next .going .first
 
+  pub next-size : length w ≡ 256
+  next-size = next .going .size
+
   pub next-place : p < 65536
   next-place = rw (next .placed) (place-small t first-ok i (next .here))
 
@@ -374,10 +377,6 @@ module _ (t w : List ℕ) (n i p : ℕ) (next : Next t w n i p) where
             no-member v list-chain (own-small b q) (own-bits b q no-choice)
 
   -- ---- a row without members or element
-  pub no-element : isList (kindAt t p) ≡ false → elementRow t p < 256
-  unfolding elementRow
-  no-element e = rw e (omega arith)
-
   pub basic-made : (a b : ℕ) → Basic (kindAt t p) → Packed a (kindAt t p) (firstOctet untagged (kindAt t p)) (membersAt t p) (elementRow t p) 1 0 0 0 p → b ≡ 2 ^ universal (kindAt t p)
       → Says t w i (Made.Words a b)
   basic-made a b basic v q =
@@ -516,6 +515,21 @@ module _ (t w : List ℕ) (n i p : ℕ) (next : Next t w n i p) where
                   union-bits t (tableRows t) (i + 1) (i + 1 + membersAt t (placeAt t i)) (setAt w) (typeFrom k t (tableRows t)) small (right k c) h l (membersAt t (placeAt t i)) (i + 1) 0 (omega arith) (omega arith)
                   ∙ ap (λ (x : Bool). either x (someBegins (membersFrom (typeFrom k t (tableRows t)) t (tableRows t) (i + 1) (membersAt t (placeAt t i))) h)) (bit-none h)
                   ∙ sym (bits-choice t (tableRows t) i k is-choice h)
+
+-- ---- no element
+module _ (t : List ℕ) (p : ℕ) where
+  no-list-element : isList (kindAt t p) ≡ false → elementRow t p < 256
+  unfolding elementRow
+  no-list-element e = rw e (omega arith)
+
+  pub sequence-element : kindAt t p ≡ 12 → elementRow t p < 256
+  sequence-element e = no-list-element (sequence-no-list (kindAt t p) e)
+
+  pub choice-element : kindAt t p ≡ 13 → elementRow t p < 256
+  choice-element e = no-list-element (choice-no-list (kindAt t p) e)
+
+  pub basic-element : Basic (kindAt t p) → elementRow t p < 256
+  basic-element b = no-list-element (b .list)
 
 -- ---- the kind of a row
 module _ (t : List ℕ) (p k : ℕ) (read : k ≡ kindAt t p) where

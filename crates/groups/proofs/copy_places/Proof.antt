@@ -28,4 +28,4 @@ copy-places-spec =
     (λ c. search needs)                         -- add-i
     (λ c. search needs)                         -- loop-less
     (λ c. (search needs, search needs, search copy-again))  -- loop-again
-    (λ c. search copy-done))  -- returns
+    (λ c. (search copy-done, search needs)))  -- returns

@@ -12,8 +12,8 @@ scan-spec =
     (λ c. search needs)                         -- array-share-prefix-starts
     (λ c. search scan-counted)  -- slice-aggregate-rows-stand
     (λ c κs. search scan-few)  -- rows-stand-requires
-    (λ c. (search scan-not, places-none _ _))  -- returns
+    (λ c. (search scan-not, (places-none _ _, search needs)))  -- returns
     (λ c. search needs)                         -- array-share-prefix-starts-2
     (λ c. search scan-counted)  -- slice-aggregate-copy-places
     (λ c κs. (search scan-few, search needs))  -- copy-places-requires
-    (λ c. (search scan-is, search places-are)))  -- returns-2
+    (λ c. (search scan-is, (search places-are, search needs))))  -- returns-2
