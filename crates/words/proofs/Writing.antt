@@ -31,7 +31,7 @@ use Rattle.rows.specs.declared.Table.{Table}
 use Rattle.words.specs.declared.Made.{Made}
 use Rattle.words.specs.inner.Rows.{tableRows, placeAt, MemberRow, TypeRow}
 use Rattle.words.specs.inner.Words.{secondOf, Filled, Worded}
-use Rattle.words.specs.inner.Pass.{firstAt, secondAt, memberSecond, isMade, RowWords, Going, Next, Says, Leaves}
+use Rattle.words.specs.inner.Pass.{firstAt, secondAt, memberSecond, isMade, RowWords, Going, Next, Says, Leaves, rowSet}
 use Rattle.words.proofs.PassLaws.{Named, some-rows, few-rows, is-named, fits-points, fits-chain, points-member}
 use Rattle.words.proofs.Reading.{ready}
 
@@ -122,9 +122,31 @@ listed-at f zero j h = absurd (omega arith)
 listed-at f (suc n) zero h = refl
 listed-at f (suc n) (suc j) h = listed-at (λ j. f (suc j)) n j (omega arith)
 
--- the set of tags of each row; a member row's is not asked for
-unfoldable setOf : List ℕ → List ℕ → ℕ → ℕ
-setOf t w j = pick (eqb (kindAt t (placeAt t j)) 16) (2 ^ universal (kindAt t (placeAt t j))) (secondAt w j)
+-- the set of tags of each row
+abbrev pub setOf : List ℕ → List ℕ → ℕ → ℕ
+setOf t w j = rowSet (kindAt t (placeAt t j)) (secondAt w j)
+
+pub set-of-member : (t w : List ℕ) (j : ℕ) → MemberRow t j → setOf t w j ≡ 2 ^ universal (kindAt t (placeAt t j))
+unfolding rowSet
+set-of-member t w j h = rw (eq-eqb (kindAt t (placeAt t j)) 16 h)
+
+pub set-of-type : (t w : List ℕ) (j : ℕ) → TypeRow t j → setOf t w j ≡ secondAt w j
+unfolding rowSet
+set-of-type t w j h = rw (ne-eqb (kindAt t (placeAt t j)) 16 h)
+
+-- where the sets of type rows are right, all are
+pub all-masked : (t w m : List ℕ) → ((j : ℕ) → j < length (tableRows t) → getD m j 0 ≡ setOf t w j)
+    → ((j : ℕ) → j < length (tableRows t) → TypeRow t j → (g : ℕ) → g < 64 → bitOf (secondAt w j) g ≡ begins (typeFrom 16 t (tableRows t) j) g)
+    → Masked 16 t (tableRows t) m
+all-masked t w m is typed = record { says = λ j l g b. go j l g b (eqb (kindAt t (placeAt t j)) 16) refl }
+  where
+    go : (j : ℕ) → j < length (tableRows t) → (g : ℕ) → g < 64 → (x : Bool) → eqb (kindAt t (placeAt t j)) 16 ≡ x → bitOf (getD m j 0) g ≡ begins (typeFrom 16 t (tableRows t) j) g
+    go j l g b true q =
+        let h = eqb-true (kindAt t (placeAt t j)) 16 q in
+        ap (λ (x : ℕ). bitOf x g) (is j l ∙ set-of-member t w j h) ∙ bits-one t (tableRows t) j 15 (λ y. let c : _≡_ {A = ℕ} 16 13 = sym h ∙ y in omega arith) g
+    go j l g b false q =
+        let h = eqb-false (kindAt t (placeAt t j)) 16 q in
+        ap (λ (x : ℕ). bitOf x g) (is j l ∙ set-of-type t w j h) ∙ typed j l h g b
 
 module _ (t w : List ℕ) (i : ℕ) (going : Going t w i) (z : i ≤ 0) where
   pub going-done : true ≡ secondPass (tableLimits .chain) t (tableRows t)
@@ -134,25 +156,12 @@ module _ (t w : List ℕ) (i : ℕ) (going : Going t w i) (z : i ≤ 0) where
   unfoldable sets : List ℕ
   sets = listed (setOf t w) (length (tableRows t))
 
-  set-of-type : (j : ℕ) → j < length (tableRows t) → TypeRow t j → getD sets j 0 ≡ secondAt w j
-  unfolding setOf sets
-  set-of-type j l h = listed-at (setOf t w) (length (tableRows t)) j l ∙ rw (ne-eqb (kindAt t (placeAt t j)) 16 h)
-
-  set-of-member : (j : ℕ) → j < length (tableRows t) → MemberRow t j → getD sets j 0 ≡ 2 ^ universal (kindAt t (placeAt t j))
-  unfolding setOf sets
-  set-of-member j l h = listed-at (setOf t w) (length (tableRows t)) j l ∙ rw (eq-eqb (kindAt t (placeAt t j)) 16 h)
+  sets-at : (j : ℕ) → j < length (tableRows t) → getD sets j 0 ≡ setOf t w j
+  unfolding sets
+  sets-at j l = listed-at (setOf t w) (length (tableRows t)) j l
 
   masked : Masked 16 t (tableRows t) sets
-  masked = record { says = λ j l g b. go j l g b (eqb (kindAt t (placeAt t j)) 16) refl }
-    where
-      go : (j : ℕ) → j < length (tableRows t) → (g : ℕ) → g < 64 → (x : Bool) → eqb (kindAt t (placeAt t j)) 16 ≡ x → bitOf (getD sets j 0) g ≡ begins (typeFrom 16 t (tableRows t) j) g
-      go j l g b true q =
-          let h = eqb-true (kindAt t (placeAt t j)) 16 q in
-          ap (λ (x : ℕ). bitOf x g) (set-of-member j l h) ∙ bits-one t (tableRows t) j 15 (λ y. let c : _≡_ {A = ℕ} 16 13 = sym h ∙ y in omega arith) g
-      go j l g b false q =
-          let h = eqb-false (kindAt t (placeAt t j)) 16 q in
-          let v : i ≤ j = omega arith in
-          ap (λ (x : ℕ). bitOf x g) (set-of-type j l h) ∙ going .words j v l .tags h 16 (fits-chain 16 t (tableRows t) j (going .fits j v l)) g b
+  masked = all-masked t w sets sets-at (λ j l h g b. let v : i ≤ j = omega arith in going .words j v l .tags h 16 (fits-chain 16 t (tableRows t) j (going .fits j v l)) g b)
 
   is-admitted : admitted tableLimits t ≡ true
   unfolding admitted
@@ -170,8 +179,8 @@ module _ (t w : List ℕ) (i : ℕ) (going : Going t w i) (z : i ≤ 0) where
       go true q =
           let h = eqb-true (kindAt t (placeAt t j)) 16 q in
           let k = names-later t j (going .fits j v l) h in
-          going .words j v l .stored h ∙ ap (pick (eqb (presenceAt t (placeAt t j)) 2) (baseFrom 0 (defaultAt t (placeAt t j)))) (sym (set-of-type (typeRowAt t (placeAt t j)) (k .1) (k .2)))
-      go false q = sym (set-of-type j l (eqb-false (kindAt t (placeAt t j)) 16 q))
+          going .words j v l .stored h ∙ ap (pick (eqb (presenceAt t (placeAt t j)) 2) (baseFrom 0 (defaultAt t (placeAt t j)))) (sym (sets-at (typeRowAt t (placeAt t j)) (k .1) ∙ set-of-type t w (typeRowAt t (placeAt t j)) (k .2)))
+      go false q = sym (sets-at j l ∙ set-of-type t w j (eqb-false (kindAt t (placeAt t j)) 16 q))
 
   pub going-worded : Worded t w
   going-worded = record {

@@ -4,7 +4,7 @@ use rows::Table;
 ghost use mathlib.Core.Path.{_≡_};
 ghost use mathlib.Core.Bool.{true};
 ghost use Prim.Native.Nat.{_≤_, _<_, _+_, _-_, _*_, _^_};
-ghost use lib.ListN.{length, getD, take};
+ghost use lib.ListN.{length, getD};
 ghost use lib.Bits.{bitOr};
 ghost use Rattle.octets.specs.Pick.{pick, all};
 ghost use Rattle.octets.specs.Octets.{baseFrom, larger};
@@ -13,10 +13,10 @@ ghost use Rattle.der.specs.Tag.{universal};
 ghost use Rattle.rows.specs.Row as row;
 ghost use Rattle.rows.specs.Paper.{tableLimits};
 ghost use Rattle.groups.specs.Clauses.{laterType};
-ghost use Rattle.groups.specs.inner.Work.{firstPass, tallest};
+ghost use Rattle.groups.specs.inner.Work.{tallest};
 ghost use Rattle.table.specs.Types.{untagged, taggingOf};
 ghost use Rattle.table.specs.Check.{tableReport};
-ghost use Rattle.table.specs.inner.Work.{apartFrom, unionFrom, never, secondPass, rowCount, Sound};
+ghost use Rattle.table.specs.inner.Work.{apartFrom, unionFrom, never, secondPass, rowCount, Admits};
 ghost use Rattle.words.specs.Check.{report};
 ghost use Rattle.words.specs.declared.Tags.{Tags};
 ghost use Rattle.words.specs.inner.Rows.{tableRows, MemberRow, TypeRow, placeAt, taggingAt, memberKindAt};
@@ -713,4 +713,31 @@ pub fn default_number(t: &[u8], w: &[u64; 256], i: usize) -> u64
     ensures { λ r. ⌜ r ≡ baseFrom 0 (row.defaultAt (now (t .entry)) (placeAt (now (t .entry)) i)) ⌝ }
 {
     second_word(w, i)
+}
+
+// ---- for the layers that go by places and sets of tags
+// The set of tags of a row of a kind, whose second word is y; of a member row that of a type of its kind.
+fn row_set(kind: u8, y: u64) -> u64
+    ensures { λ r. ⌜ r ≡ pass.rowSet kind y ⌝ }
+{
+    if kind == Kind::MEMBER {
+        return table::bit(der::universal(kind));
+    }
+    y
+}
+
+// Writes the places of an admitted table's rows and their sets of tags.
+pub fn unpack(t: &[u8], w: &[u64; 256], n: usize, starts: &mut [usize], masks: &mut [u64])
+    requires worded { ⌜ Worded (now t) (now w) ⌝ }
+    requires count { ⌜ n ≡ length (tableRows (now t)) ⌝ }
+    requires places { ⌜ length (now starts) ≡ tableLimits .rows ⌝ }
+    requires sets { ⌜ length (now masks) ≡ tableLimits .rows ⌝ }
+    ensures { λ r. ⌜ Admits (tableLimits .rows) (tableLimits .chain) (now (t .entry)) n (now (starts .exit)) (now (masks .exit)) ⌝ }
+{
+    let mut i = 0;
+    while i < n {
+        starts[i] = place(t, w, i);
+        masks[i] = row_set(kind(t, w, i), second_word(w, i));
+        i += 1;
+    }
 }
