@@ -79,7 +79,7 @@ no-members : (t : List ℕ) (p : ℕ) → kindAt t p ≡ 16 → membersAt t p �
 unfolding membersAt isGroup
 no-members t p k = rw k
 
-module _ (t s : List ℕ) (points : everyRow (pointsLater t s) s ≡ true) (stands : membersStand t s ≡ true) where
+module _ (t s : List ℕ) (stands : membersStand t s ≡ true) where
   -- the members of row i follow it
   behind : (i : ℕ) → i < length s → (j : ℕ) → j < membersAt t (rowAt s i) → standing t 16 (membersAt t (rowAt s i)) (drop (suc i) s) ≡ true
   unfolding standing membersStand
@@ -101,6 +101,7 @@ module _ (t s : List ℕ) (points : everyRow (pointsLater t s) s ≡ true) (stan
       let n = length-drop (suc i) s in
       (omega arith, ap (λ (x : ℕ). kindAt t (getD s x 0)) (sym q) ∙ ap (kindAt t) (sym (getD-drop (suc i) s j 0)) ∙ w .1)
 
+module _ (t s : List ℕ) (points : everyRow (pointsLater t s) s ≡ true) (stands : membersStand t s ≡ true) where
   list-row : (i : ℕ) → i < length s → isList (kindAt t (rowAt s i)) ≡ true → laterType t s i (elementAt t (rowAt s i)) ≡ true
   unfolding pointsLater
   list-row i h k = rw k at (all-at (pointsLater t s) (length s) i points h)
@@ -113,7 +114,7 @@ module _ (t s : List ℕ) (points : everyRow (pointsLater t s) s ≡ true) (stan
   is-later = record {
     of-list = λ i h k. later t s i (elementAt t (rowAt s i)) (list-row i h k);
     of-member = λ i h j l.
-        let f = member-follows i h j l in
+        let f = member-follows t s stands i h j l in
         let w = later t s (i + 1 + j) (memberType t s i j) (member-row (i + 1 + j) (f .0) (f .1)) in
         (omega arith, w .1);
   }

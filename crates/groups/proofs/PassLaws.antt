@@ -222,26 +222,6 @@ rows-few : (m : ℕ) (t : List ℕ) (at : ℕ) (s : List ℕ) → rowsFrom m t a
 rows-few m t at [] e = omega arith
 rows-few m t at (p ∷ ps) e = let v = rows-view m t at p ps e in let r = rows-few (v .left) t (at + rowSize (kindAt t at)) ps (v .rest) in let f = v .fuel in omega arith
 
--- the kind of each row of a table is a kind of rows: a type's where it is no member's
-row-kind : (m : ℕ) (t : List ℕ) (at : ℕ) (s : List ℕ) (j : ℕ) → rowsFrom m t at ≡ some s → j < length s → rowSize (kindAt t (rowAt s j)) ≡ 0 → ⊥
-row-kind m t at [] j e h z = omega arith
-row-kind m t at (p ∷ ps) zero e h z = let v = rows-view m t at p ps e in v .sized (ap (λ (x : ℕ). rowSize (kindAt t x)) (sym (v .place)) ∙ z)
-row-kind m t at (p ∷ ps) (suc j) e h z = let v = rows-view m t at p ps e in row-kind (v .left) t (at + rowSize (kindAt t at)) ps j (v .rest) (omega arith) z
-
-typed : (t s : List ℕ) (j : ℕ) → j < length s → (rowSize (kindAt t (rowAt s j)) ≡ 0 → ⊥) → isType t s j ≡ no (eqb (kindAt t (rowAt s j)) 16)
-unfolding isType
-typed t s j h sized = by-test (eqb (kindAt t (rowAt s j)) 16)
-    (λ k. rw (lt-ltb j (length s) h, k) (member-no-type (kindAt t (rowAt s j)) (eqb-true (kindAt t (rowAt s j)) 16 k)))
-    (λ k. rw (lt-ltb j (length s) h, k) (kind-of-row (kindAt t (rowAt s j)) sized k))
-
-pub type-by-kind : (m : ℕ) (t : List ℕ) (j : ℕ) → j < length (rows m t) → isType t (rows m t) j ≡ no (eqb (kindAt t (rowAt (rows m t) j)) 16)
-unfolding rows
-type-by-kind m t j = go (rowsFrom m t 0) refl
-  where
-    go : (o : Option (List ℕ)) → rowsFrom m t 0 ≡ o → j < length (orNone o) → isType t (orNone o) j ≡ no (eqb (kindAt t (rowAt (orNone o) j)) 16)
-    go none e h = absurd (omega arith)
-    go (some s) e h = typed t s j h (row-kind m t 0 s j e h)
-
 -- ---- where members stand, by members that are due
 stand-same : (t s : List ℕ) (m at k due : ℕ) → rowsFrom m t at ≡ some s → (0 < due → k ≡ 16) → standing t k due s ≡ stands t due s
 unfolding standing stands

@@ -11,12 +11,11 @@ use lib.ListN.{length, take, drop, length-take}
 use lib.Seq.{take-nil, getD-take, getD-drop, drop-drop}
 use Rattle.octets.specs.Pick.{no, all}
 use Rattle.octets.specs.Octets.{octet, two, part, every}
-use Rattle.octets.specs.inner.Answers.{highest}
 use Rattle.octets.specs.Text.{within, isLower, isLetter, isAlnum, mayFollow}
 use Rattle.octets.proofs.Laws.{octet-past, rest-none, part-rest, both-true, all-at, all-is, all-more, all-bad}
-use Rattle.octets.proofs.TextLaws.{every-is, every-at, highest-nought}
+use Rattle.octets.proofs.TextLaws.{every-is, every-at}
 use Rattle.rows.specs.Row.{nameOctetAt, defaultAt, isGroup, isList, rowSize, rowAt, membersAt}
-use Rattle.rows.specs.Body.{countFormed, follows, followed, nameFormed, taggingFormed, tagFormed, presenceFormed, isZero, defaultFilled, memberFormed, rowFormed}
+use Rattle.rows.specs.Body.{countFormed, follows, followed, nameFormed, taggingFormed, tagFormed, presenceFormed, isZero, defaultFilled, memberFormed}
 use Rattle.rows.specs.inner.Sizes.{typeSize}
 use Rattle.rows.specs.Paper.{tableLimits}
 
@@ -228,24 +227,6 @@ module _ (t : List ℕ) (p j a b : ℕ) (u : Bool) (last : a ≡ nameOctetAt t p
         let left : tableLimits .name - (j + 1) ≡ tableLimits .name - 1 - j = omega arith in
         q ∙ ap₂ (λ (x y : ℕ). every isZero (part t x y)) place left ∙ named-rest z
 
-module _ (t row : List ℕ) (p j a b : ℕ) (u : Bool) (rest : row ≡ drop p t) (last : a ≡ nameOctetAt t p j) (read : b ≡ octet row (j + 2)) (told : u ≡ follows a b) where
-  here : b ≡ octet t (p + (j + 2))
-  here = field-is t row p rest (j + 2) b read
-
-  pub spelt-next : b ≡ nameOctetAt t p (j + 1)
-  spelt-next = named-next t p j a b u last here told
-
-  pub spelt-bad : j < tableLimits .name - 1 → not u ≡ true → false ≡ all (followed t p) (tableLimits .name - 1)
-  spelt-bad h n = named-bad t p j a b u last here told h n
-
-  module _ (before : all (followed t p) j ≡ true) (n : not u ≡ false) where
-    pub spelt-more : all (followed t p) (j + 1) ≡ true
-    spelt-more = named-more t p j a b u last here told before n
-
-    pub spelt-fill : (c : List ℕ) (r : Bool) → b ≡ 0 → c ≡ part row (j + 2) (tableLimits .name - 1 - j) → r ≡ every isZero c → r ≡ all (followed t p) (tableLimits .name - 1)
-    spelt-fill c r z e q =
-        q ∙ ap (every isZero) (fields-are t row p rest (j + 2) (tableLimits .name - 1 - j) c e) ∙ named-rest t p j a b u last here told before n z
-
 module _ (t : List ℕ) (p o : ℕ) (low : Bool) (read : o ≡ octet t (p + 1)) (told : low ≡ isLower o) where
   pub name-high : not low ≡ true → false ≡ nameFormed (tableLimits .name) t p
   unfolding nameFormed
@@ -256,7 +237,7 @@ module _ (t : List ℕ) (p o : ℕ) (low : Bool) (read : o ≡ octet t (p + 1)) 
     unfolding nameFormed
     name-hyphen q = rw (← read, sym told ∙ not-false low h, ← last, eq-eqb l 45 q)
 
-    pub name-spelt : (r : Bool) → (l ≡ 45 → ⊥) → r ≡ all (followed t p) (tableLimits .name - 1) → r ≡ nameFormed (tableLimits .name) t p
+    name-spelt : (r : Bool) → (l ≡ 45 → ⊥) → r ≡ all (followed t p) (tableLimits .name - 1) → r ≡ nameFormed (tableLimits .name) t p
     unfolding nameFormed
     name-spelt r q e = rw (← read, sym told ∙ not-false low h, ← last, ne-eqb l 45 q) e
 
@@ -267,9 +248,6 @@ pub name-whole : (t : List ℕ) (p o : ℕ) (low r : Bool) → o ≡ octet t (p 
     → r ≡ all (followed t p) (tableLimits .name - 1) → r ≡ nameFormed (tableLimits .name) t p
 name-whole t p o low r read told h q e = name-spelt t p o low read told (octet t (p + tableLimits .name)) h refl r q e
 
-pub zeros-are : (c : List ℕ) (most : ℕ) → most ≡ highest c → eqb most 0 ≡ every isZero c
-zeros-are c most e = ap (λ (b : ℕ). eqb b 0) e ∙ highest-nought c
-
 module _ (t : List ℕ) (p o n : ℕ) (read : o ≡ octet t (p + 30)) (wide : n ≡ o) where
   pub filled-long : 8 < n → false ≡ defaultFilled t p
   unfolding defaultFilled
@@ -278,10 +256,6 @@ module _ (t : List ℕ) (p o n : ℕ) (read : o ≡ octet t (p + 30)) (wide : n 
   pub filled-here : (r : Bool) → n ≤ 8 → r ≡ every isZero (part t (p + 31 + n) (8 - n)) → r ≡ defaultFilled t p
   unfolding defaultFilled
   filled-here r h q = let place : p + 31 + n ≡ p + (31 + n) = omega arith in rw (← read, ← wide, le-leb n 8 h) (q ∙ ap (λ (x : ℕ). every isZero (part t x (8 - n))) place)
-
-  pub filled-is : (c : List ℕ) (r : Bool) → n ≤ 8 → c ≡ part t (p + (31 + n)) (8 - n) → r ≡ every isZero c → r ≡ defaultFilled t p
-  unfolding defaultFilled
-  filled-is c r h e q = rw (← read, ← wide, le-leb n 8 h) (q ∙ ap (every isZero) e)
 
 module _ (t : List ℕ) (p : ℕ) (r : Bool) (named : r ≡ nameFormed (tableLimits .name) t p) where
   pub member-name : not r ≡ true → false ≡ memberFormed (tableLimits .name) t p
@@ -305,11 +279,3 @@ module _ (t : List ℕ) (p : ℕ) (r : Bool) (named : r ≡ nameFormed (tableLim
       pub member-filled : (w : Bool) → c ≤ 2 → w ≡ defaultFilled t p → w ≡ memberFormed (tableLimits .name) t p
       unfolding memberFormed presenceFormed
       member-filled w l k = rw (sym named ∙ not-false r h, sym tag ∙ not-false u g, ← q, le-leb c 2 l) k
-
-pub row-member : (most : ℕ) (t : List ℕ) (p k : ℕ) (r : Bool) → k ≡ octet t p → k ≡ 16 → r ≡ memberFormed (tableLimits .name) t p → r ≡ rowFormed most 24 t p
-unfolding rowFormed
-row-member most t p k r e f q = rw (← e, eq-eqb k 16 f) q
-
-pub row-type : (most : ℕ) (t : List ℕ) (p k : ℕ) (r : Bool) → k ≡ octet t p → (k ≡ 16 → ⊥) → r ≡ countFormed most t p → r ≡ rowFormed most 24 t p
-unfolding rowFormed
-row-type most t p k r e f q = rw (← e, ne-eqb k 16 f) q

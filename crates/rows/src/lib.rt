@@ -2,7 +2,7 @@
 use der::Kind;
 ghost use mathlib.Core.Path.{_≡_};
 ghost use Prim.Native.Nat.{_≤_, _<_, _+_, _-_, _*_};
-ghost use lib.ListN.{length, take, drop};
+ghost use lib.ListN.{length, drop};
 ghost use Rattle.octets.specs.Pick.{all};
 ghost use Rattle.octets.specs.Octets.{octet, two, part, every, same};
 ghost use Rattle.rows.specs.Row as row;
@@ -193,43 +193,6 @@ fn row_size(kind: u8) -> usize
     0
 }
 
-// Writes the places of a table's rows, and answers how many there are; none where it isn't a table of whole rows within the limit.
-pub fn scan(t: &[u8], s: &mut [usize]) -> usize
-    requires { ⌜ length (now s) ≡ tableLimits .rows ⌝ }
-    ensures count { λ r. ⌜ r ≡ length (row.rows (tableLimits .rows) (now (t .entry))) ⌝ }
-    ensures places { λ r. ⌜ take r (now (s .exit)) ≡ row.rows (tableLimits .rows) (now (t .entry)) ⌝ }
-    ensures few { λ r. ⌜ r ≤ tableLimits .rows ⌝ }
-{
-    let mut at = 0;
-    let mut n = 0;
-    while at < t.len() {
-        if n == Table::MAX_ROWS {
-            return 0;
-        }
-        let size = row_size(t[at]);
-        if size == 0 {
-            return 0;
-        }
-        if t.len() - at < size {
-            return 0;
-        }
-        s[n] = at;
-        n += 1;
-        at += size;
-    }
-    n
-}
-
-// The kind of the rows that follow a row of a kind, 0 where none follow.
-pub fn follower_kind(kind: u8) -> u8
-    ensures { λ r. ⌜ r ≡ row.followerKind kind ⌝ }
-{
-    if is_group(kind) {
-        return Kind::MEMBER;
-    }
-    0
-}
-
 // How many members stand after a row.
 pub fn members_at(t: &[u8], p: usize) -> usize
     ensures { λ r. ⌜ r ≡ row.membersAt (now (t .entry)) p ⌝ }
@@ -266,40 +229,6 @@ fn follows(a: u8, b: u8) -> bool
     octets::may_follow(a, b)
 }
 
-// Whether each octet of a name may follow the one before it. Where the fill starts, all that is left of the name has to be fill.
-fn total_name_spelt(t: &[u8], p: usize) -> bool
-    ensures { λ r. ⌜ r ≡ all (body.followed (now (t .entry)) p) (tableLimits .name - 1) ⌝ }
-{
-    let row = from(t, p);
-    let mut j = 0;
-    let mut a = octets::octet(row, 1);
-    while j < Table::MAX_NAME - 1 {
-        let b = octets::octet(row, j + 2);
-        if !follows(a, b) {
-            return false;
-        }
-        if b == 0 {
-            let left = Table::MAX_NAME - 1 - j;
-            return all_zero(octets::part(row, j + 2, left));
-        }
-        a = b;
-        j += 1;
-    }
-    true
-}
-
-fn total_name_formed(t: &[u8], p: usize) -> bool
-    ensures { λ r. ⌜ r ≡ body.nameFormed (tableLimits .name) (now (t .entry)) p ⌝ }
-{
-    if !octets::is_lower(field(t, p, 1)) {
-        return false;
-    }
-    if field(t, p, Table::MAX_NAME) == 45 {
-        return false;
-    }
-    total_name_spelt(t, p)
-}
-
 fn tag_formed(mode: u8, number: u8) -> bool
     ensures { λ r. ⌜ r ≡ body.taggingFormed mode number ⌝ }
 {
@@ -313,47 +242,6 @@ fn tag_formed(mode: u8, number: u8) -> bool
         return number == 0;
     }
     true
-}
-
-fn all_zero(c: &[u8]) -> bool
-    ensures { λ r. ⌜ r ≡ every body.isZero (now (c .entry)) ⌝ }
-{
-    octets::highest(c) == 0
-}
-
-fn total_default_filled(t: &[u8], p: usize) -> bool
-    ensures { λ r. ⌜ r ≡ body.defaultFilled (now (t .entry)) p ⌝ }
-{
-    let n = octets::wide(default_length_at(t, p));
-    if 8 < n {
-        return false;
-    }
-    all_zero(fields(t, p, 31 + n, 8 - n))
-}
-
-fn total_member_formed(t: &[u8], p: usize) -> bool
-    ensures { λ r. ⌜ r ≡ body.memberFormed (tableLimits .name) (now (t .entry)) p ⌝ }
-{
-    if !total_name_formed(t, p) {
-        return false;
-    }
-    if !tag_formed(mode_at(t, p), number_at(t, p)) {
-        return false;
-    }
-    if 2 < presence_at(t, p) {
-        return false;
-    }
-    total_default_filled(t, p)
-}
-
-// Whether a row's body is as the type table has it.
-pub fn row_formed(t: &[u8], p: usize) -> bool
-    ensures { λ r. ⌜ r ≡ body.rowFormed (tableLimits .members) (tableLimits .name) (now (t .entry)) p ⌝ }
-{
-    if kind_at(t, p) == Kind::MEMBER {
-        return total_member_formed(t, p);
-    }
-    count_formed(t, p)
 }
 
 // ---- eight octets as one number, the least first

@@ -599,14 +599,10 @@ pub fn is_stored(t: &[u8], w: &[u64; 256], v: &[u8]) -> bool
 fn check_storage(table: &[u8], value: &[u8]) -> ValueCheck
     ensures { λ r. ⌜ report r ≡ storage tableLimits (now (table .entry)) (now (value .entry)) ⌝ }
 {
-    let mut starts = [0usize; Table::MAX_ROWS];
-    let mut masks = [0u64; Table::MAX_ROWS];
-    let n = table::admit_table(table, &mut starts, &mut masks);
-    if n == 0 {
+    let mut w = [0u64; 256];
+    if words::admit_table(table, &mut w) == 0 {
         return ValueCheck::Refused(2);
     }
-    let mut w = [0u64; 256];
-    words::fill(table, &starts[..n], &masks, &mut w);
     if !is_stored(table, &w, value) {
         return ValueCheck::Refused(4);
     }
