@@ -8,7 +8,7 @@ use Prim.Native.Nat.{ℕ, zero, suc, _≤_, _<_, _+_, _-_, _*_}
 use native.Mathlib.Omega.{arith}
 use native.Mathlib.Numerals.{add-one}
 use native.Mathlib.Nat.{eq-or-lt-of-le, add-zero}
-use borrow.Author.Tests.{eqb-true, eqb-false, ne-eqb, lt-ltb, le-leb}
+use borrow.Author.Tests.{eqb-true, eqb-false, ltb-true, ltb-false, ne-eqb, lt-ltb, le-leb}
 use lib.Dec.{ltb, eqb}
 use lib.ListN.{length, drop}
 use lib.Seq.{getD-drop, drop-drop}
@@ -192,6 +192,7 @@ pub record View (m : ℕ) (t : List ℕ) (at p : ℕ) (ps : List ℕ) : Type 0 w
   pub fuel : m ≡ suc left
   pub place : p ≡ at
   pub sized : rowSize (kindAt t at) ≡ 0 → ⊥
+  pub inside : at + rowSize (kindAt t at) ≤ length t
   pub rest : rowsFrom left t (at + rowSize (kindAt t at)) ≡ some ps
 
 rows-view : (m : ℕ) (t : List ℕ) (at p : ℕ) (ps : List ℕ) → rowsFrom m t at ≡ some (p ∷ ps) → View m t at p ps
@@ -201,26 +202,47 @@ rows-view zero t at p ps e = absurd (go (ltb at (length t)) e)
     go : (x : Bool) → _≡_ {A = Option (List ℕ)} (pick x none (some [])) (some (p ∷ ps)) → ⊥
     go true q = Option·none-ne-some (p ∷ ps) q
     go false q = let z : 0 ≡ length (p ∷ ps) = ap (λ (o : Option (List ℕ)). length (orNone o)) q in omega arith
-rows-view (suc m) t at p ps e = go (ltb at (length t)) (eqb (rowSize (kindAt t at)) 0) refl (ltb (length t - at) (rowSize (kindAt t at))) (rowsFrom m t (at + rowSize (kindAt t at))) refl e
+rows-view (suc m) t at p ps e =
+    go (ltb at (length t)) refl (eqb (rowSize (kindAt t at)) 0) refl (ltb (length t - at) (rowSize (kindAt t at))) refl (rowsFrom m t (at + rowSize (kindAt t at))) refl e
   where
-    go : (x y : Bool) → eqb (rowSize (kindAt t at)) 0 ≡ y → (z : Bool) (o : Option (List ℕ)) → rowsFrom m t (at + rowSize (kindAt t at)) ≡ o
+    go : (x : Bool) → ltb at (length t) ≡ x → (y : Bool) → eqb (rowSize (kindAt t at)) 0 ≡ y → (z : Bool) → ltb (length t - at) (rowSize (kindAt t at)) ≡ z
+        → (o : Option (List ℕ)) → rowsFrom m t (at + rowSize (kindAt t at)) ≡ o
         → _≡_ {A = Option (List ℕ)} (pick x (pick y none (pick z none (consed at o))) (some [])) (some (p ∷ ps)) → View (suc m) t at p ps
-    go true true w z o f q = absurd (Option·none-ne-some (p ∷ ps) q)
-    go true false w true o f q = absurd (Option·none-ne-some (p ∷ ps) q)
-    go true false w false none f q = absurd (Option·none-ne-some (p ∷ ps) q)
-    go true false w false (some qs) f q =
+    go true v true w z u o f q = absurd (Option·none-ne-some (p ∷ ps) q)
+    go true v false w true u o f q = absurd (Option·none-ne-some (p ∷ ps) q)
+    go true v false w false u none f q = absurd (Option·none-ne-some (p ∷ ps) q)
+    go true v false w false u (some qs) f q =
         record {
           left = m;
           fuel = refl;
           place = sym (ap (λ (o : Option (List ℕ)). rowAt (orNone o) 0) q);
           sized = eqb-false (rowSize (kindAt t at)) 0 w;
+          inside = let a = ltb-true at (length t) v in let b = ltb-false (length t - at) (rowSize (kindAt t at)) u in omega arith;
           rest = f ∙ ap (λ (o : Option (List ℕ)). some (drop 1 (orNone o))) q;
         }
-    go false y w z o f q = absurd (let n : 0 ≡ length (p ∷ ps) = ap (λ (o : Option (List ℕ)). length (orNone o)) q in omega arith)
+    go false v y w z u o f q = absurd (let n : 0 ≡ length (p ∷ ps) = ap (λ (o : Option (List ℕ)). length (orNone o)) q in omega arith)
 
 rows-few : (m : ℕ) (t : List ℕ) (at : ℕ) (s : List ℕ) → rowsFrom m t at ≡ some s → length s ≤ m
 rows-few m t at [] e = omega arith
 rows-few m t at (p ∷ ps) e = let v = rows-view m t at p ps e in let r = rows-few (v .left) t (at + rowSize (kindAt t at)) ps (v .rest) in let f = v .fuel in omega arith
+
+-- each row of a table is whole
+whole-row : (m : ℕ) (t : List ℕ) (at : ℕ) (s : List ℕ) (j : ℕ) → rowsFrom m t at ≡ some s → j < length s → rowAt s j + rowSize (kindAt t (rowAt s j)) ≤ length t
+whole-row m t at [] j e h = absurd (omega arith)
+whole-row m t at (p ∷ ps) zero e h = let v = rows-view m t at p ps e in rw (v .place) (v .inside)
+whole-row m t at (p ∷ ps) (suc j) e h = let v = rows-view m t at p ps e in whole-row (v .left) t (at + rowSize (kindAt t at)) ps j (v .rest) (omega arith)
+
+pub row-whole : (m : ℕ) (t : List ℕ) (j : ℕ) → j < length (rows m t) → rowAt (rows m t) j + rowSize (kindAt t (rowAt (rows m t) j)) ≤ length t
+unfolding rows
+row-whole m t j = go (rowsFrom m t 0) refl
+  where
+    go : (o : Option (List ℕ)) → rowsFrom m t 0 ≡ o → j < length (orNone o) → rowAt (orNone o) j + rowSize (kindAt t (rowAt (orNone o) j)) ≤ length t
+    go none e h = absurd (omega arith)
+    go (some s) e h = whole-row m t 0 s j e h
+
+pub member-whole : (m : ℕ) (t : List ℕ) (j : ℕ) → j < length (rows m t) → kindAt t (rowAt (rows m t) j) ≡ 16 → rowAt (rows m t) j + 39 ≤ length t
+unfolding rowSize isGroup isList
+member-whole m t j h k = rw k at (row-whole m t j h)
 
 -- ---- where members stand, by members that are due
 stand-same : (t s : List ℕ) (m at k due : ℕ) → rowsFrom m t at ≡ some s → (0 < due → k ≡ 16) → standing t k due s ≡ stands t due s

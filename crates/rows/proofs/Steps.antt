@@ -14,7 +14,7 @@ use Rattle.octets.specs.Octets.{octet, two, part, every}
 use Rattle.octets.specs.Text.{within, isLower, isLetter, isAlnum, mayFollow}
 use Rattle.octets.proofs.Laws.{octet-past, rest-none, part-rest, both-true, all-at, all-is, all-more, all-bad}
 use Rattle.octets.proofs.TextLaws.{every-is, every-at}
-use Rattle.rows.specs.Row.{nameOctetAt, defaultAt, isGroup, isList, rowSize, rowAt, membersAt}
+use Rattle.rows.specs.Row.{nameOctetAt, typeRowAt, defaultAt, isGroup, isList, rowSize, rowAt, membersAt}
 use Rattle.rows.specs.Body.{countFormed, follows, followed, nameFormed, taggingFormed, tagFormed, presenceFormed, isZero, defaultFilled, memberFormed}
 use Rattle.rows.specs.inner.Sizes.{typeSize}
 use Rattle.rows.specs.Paper.{tableLimits}
@@ -43,6 +43,12 @@ row-past s i h = octet-past s i h
 
 pub default-is : (t a : List ℕ) (p n w : ℕ) → n ≡ octet t (p + 30) → w ≡ n → a ≡ part t (p + 31) w → a ≡ defaultAt t p
 default-is t a p n w e f g = g ∙ ap (part t (p + 31)) (f ∙ e)
+
+pub default-whole : (t : List ℕ) (p n w : ℕ) → n ≡ octet t (p + 30) → w ≡ n → take (p + 31 + w - (p + 31)) (drop (p + 31) t) ≡ defaultAt t p
+default-whole t p n w e f = let size : p + 31 + w - (p + 31) ≡ w = omega arith in ap (part t (p + 31)) (size ∙ f ∙ e)
+
+pub type-row-whole : (t : List ℕ) (p r : ℕ) → r ≡ octet t (p + 25) * 256 + octet t (p + 26) → r ≡ typeRowAt t p
+type-row-whole t p r e = number-is t p 25 (octet t (p + 25)) (octet t (p + 26)) r refl refl e
 
 -- ---- the rows
 module _ (k : ℕ) (a : Bool) (basic : a ≡ within 1 11 k) where

@@ -8,7 +8,7 @@ ghost use Rattle.octets.specs.Octets.{octet, two, part, every, same};
 ghost use Rattle.rows.specs.Row as row;
 ghost use Rattle.rows.specs.Body as body;
 ghost use Rattle.rows.specs.inner.Numbers.{leastFirst};
-ghost use Rattle.rows.specs.inner.Sizes.{typeSize};
+ghost use Rattle.rows.specs.inner.Sizes.{typeSize, WholeMember};
 ghost use Rattle.rows.specs.Limits.{tableFits};
 ghost use Rattle.rows.specs.Paper.{tableLimits};
 
@@ -148,6 +148,51 @@ pub fn default_at(t: &[u8], p: usize) -> &[u8]
     ensures { λ r. ⌜ now r ≡ row.defaultAt (now (t .entry)) p ⌝ }
 {
     fields(t, p, 31, octets::wide(default_length_at(t, p)))
+}
+
+// ---- the parts of the member row at p, where it is whole
+pub fn member_mode(t: &[u8], p: usize) -> u8
+    requires { ⌜ WholeMember (now t) p ⌝ }
+    ensures { λ r. ⌜ r ≡ row.modeAt (now (t .entry)) p ⌝ }
+{
+    t[p + 27]
+}
+
+pub fn member_number(t: &[u8], p: usize) -> u8
+    requires { ⌜ WholeMember (now t) p ⌝ }
+    ensures { λ r. ⌜ r ≡ row.numberAt (now (t .entry)) p ⌝ }
+{
+    t[p + 28]
+}
+
+pub fn member_presence(t: &[u8], p: usize) -> u8
+    requires { ⌜ WholeMember (now t) p ⌝ }
+    ensures { λ r. ⌜ r ≡ row.presenceAt (now (t .entry)) p ⌝ }
+{
+    t[p + 29]
+}
+
+pub fn member_default_length(t: &[u8], p: usize) -> u8
+    requires { ⌜ WholeMember (now t) p ⌝ }
+    ensures { λ r. ⌜ r ≡ row.defaultLengthAt (now (t .entry)) p ⌝ }
+{
+    t[p + 30]
+}
+
+pub fn member_type_row(t: &[u8], p: usize) -> usize
+    requires { ⌜ WholeMember (now t) p ⌝ }
+    ensures { λ r. ⌜ r ≡ row.typeRowAt (now (t .entry)) p ⌝ }
+{
+    octets::wide_two(t[p + 25], t[p + 26])
+}
+
+pub fn member_default(t: &[u8], p: usize) -> &[u8]
+    requires { ⌜ WholeMember (now t) p ⌝ }
+    ensures { λ r. ⌜ now r ≡ row.defaultAt (now (t .entry)) p ⌝ }
+{
+    let start = p + 31;
+    let end = start + octets::wide(member_default_length(t, p));
+    &t[start..end]
 }
 
 // ---- the rows

@@ -13,9 +13,11 @@ use Rattle.octets.specs.Octets.{larger, baseFrom}
 use Rattle.octets.proofs.Laws.{octet-past, all-more, all-bad, all-done, both-true}
 use Rattle.der.specs.Tag.{universal}
 use Rattle.rows.specs.Paper.{tableLimits}
+use Rattle.rows.specs.inner.Sizes.{WholeMember}
 use Rattle.rows.specs.Row.{rowAt, kindAt, isTypeKind, elementAt, typeRowAt, membersAt, isList, modeAt, numberAt, presenceAt, defaultLengthAt, defaultAt}
 use Rattle.groups.specs.Clauses.{isType, laterType, pointsLater, typeKind, alternativesMandatory, noImplicitChoice, defaultLegal, defaultAllowed, chainFits}
 use Rattle.groups.specs.inner.Work.{firstPass, tallest}
+use Rattle.groups.proofs.PassLaws.{member-whole}
 use Rattle.groups.proofs.ChainSteps.{tallest-none, tallest-more}
 use Rattle.table.specs.Types.{untagged, memberOf, membersFrom, typeFrom}
 use Rattle.table.specs.Begins.{begins, someBegins, memberBegins}
@@ -267,6 +269,13 @@ module _ (t w : List ℕ) (n i p : ℕ) (next : Next t w n i p) where
       rw (lt-ltb i j h, lt-ltb j (length (tableRows t)) b, v) told
 
   -- ---- a member
+  pub next-whole : kindAt t p ≡ 16 → WholeMember t p
+  next-whole member =
+      record {
+        inside = rw (next .placed) (member-whole (tableLimits .rows) t i (next .here) (the-kind 16 member));
+        short = rw (next .placed) (member-formed t first-ok i (next .here) (the-kind 16 member) .length);
+      }
+
   module _ (member : kindAt t p ≡ 16) (j : ℕ) (points : j ≡ typeRowAt t p) (r : Bool) (told : r ≡ laterType t (tableRows t) i j) where
     is-member : MemberRow t i
     is-member = the-kind 16 member

@@ -11,6 +11,7 @@ ghost use Rattle.octets.specs.Octets.{baseFrom, larger};
 ghost use Rattle.der.specs.Kind as kind;
 ghost use Rattle.der.specs.Tag.{universal};
 ghost use Rattle.rows.specs.Row as row;
+ghost use Rattle.rows.specs.inner.Sizes.{WholeMember};
 ghost use Rattle.rows.specs.Paper.{tableLimits};
 ghost use Rattle.groups.specs.Clauses.{laterType};
 ghost use Rattle.groups.specs.inner.Work.{tallest};
@@ -206,6 +207,7 @@ fn type_word(t: &[u8], p: usize, chain: usize) -> u64
 
 // The word of the member row at p, whose type is of a kind.
 fn member_word(t: &[u8], p: usize, kind: u8) -> u64
+    requires whole { ⌜ WholeMember (now t) p ⌝ }
     requires number { ⌜ row.numberAt (now t) p ≤ 30 ⌝ }
     requires target { ⌜ row.typeRowAt (now t) p < tableLimits .rows ⌝ }
     requires size { ⌜ length (row.defaultAt (now t) p) ≤ 8 ⌝ }
@@ -213,16 +215,16 @@ fn member_word(t: &[u8], p: usize, kind: u8) -> u64
     requires place { ⌜ p < 65536 ⌝ }
     ensures { λ r. ⌜ word.MemberWord (now (t .entry)) p kind r ⌝ }
 {
-    let mode = rows::mode_at(t, p);
-    let first = first_octet(mode, rows::number_at(t, p), kind);
-    let target = rows::type_row_at(t, p);
-    let size = rows::default_at(t, p).len();
+    let mode = rows::member_mode(t, p);
+    let first = first_octet(mode, rows::member_number(t, p), kind);
+    let target = rows::member_type_row(t, p);
+    let size = rows::member_default(t, p).len();
     pack_member(
         first,
         target,
         kind,
         how(kind, mode),
-        rows::presence_at(t, p),
+        rows::member_presence(t, p),
         size,
         p,
     )
@@ -385,9 +387,10 @@ fn later_type(t: &[u8], w: &[u64; 256], n: usize, i: usize, p: usize, j: usize) 
 }
 
 fn implicit_choice(t: &[u8], p: usize, kind: u8) -> bool
+    requires { ⌜ WholeMember (now t) p ⌝ }
     ensures { λ r. ⌜ r ≡ pass.implicitChoice (now (t .entry)) p kind ⌝ }
 {
-    if rows::mode_at(t, p) == 2 {
+    if rows::member_mode(t, p) == 2 {
         return kind == Kind::CHOICE;
     }
     false
@@ -395,24 +398,26 @@ fn implicit_choice(t: &[u8], p: usize, kind: u8) -> bool
 
 // Whether the member row at p, whose type is of a kind, may be tagged and have a default as it has.
 fn member_allowed(t: &[u8], p: usize, kind: u8) -> bool
+    requires { ⌜ WholeMember (now t) p ⌝ }
     ensures { λ r. ⌜ r ≡ pass.memberAllowed (now (t .entry)) p kind ⌝ }
 {
     if implicit_choice(t, p, kind) {
         return false;
     }
-    if rows::presence_at(t, p) == 2 {
-        return groups::default_allowed(kind, rows::default_at(t, p));
+    if rows::member_presence(t, p) == 2 {
+        return groups::default_allowed(kind, rows::member_default(t, p));
     }
-    rows::default_length_at(t, p) == 0
+    rows::member_default_length(t, p) == 0
 }
 
 // The second word of the member row at p, whose type's row has the second word y.
 fn member_second(t: &[u8], p: usize, y: u64) -> u64
-    requires { ⌜ length (row.defaultAt (now t) p) ≤ 8 ⌝ }
+    requires whole { ⌜ WholeMember (now t) p ⌝ }
+    requires size { ⌜ length (row.defaultAt (now t) p) ≤ 8 ⌝ }
     ensures { λ r. ⌜ r ≡ pass.memberSecond (now (t .entry)) p y ⌝ }
 {
-    if rows::presence_at(t, p) == 2 {
-        return der::plain(rows::default_at(t, p));
+    if rows::member_presence(t, p) == 2 {
+        return der::plain(rows::member_default(t, p));
     }
     y
 }
@@ -422,7 +427,7 @@ fn member_row(t: &[u8], w: &[u64; 256], n: usize, i: usize, p: usize) -> Made
     requires member { ⌜ row.kindAt (now t) p ≡ kind.member ⌝ }
     ensures { λ r. ⌜ Says (now (t .entry)) (now (w .entry)) i r ⌝ }
 {
-    let j = rows::type_row_at(t, p);
+    let j = rows::member_type_row(t, p);
     if !later_type(t, w, n, i, p, j) {
         return Made::Refused;
     }

@@ -5,6 +5,6 @@ use Rattle.words.proofs.implicit_choice.Tie as tie
 
 pub implicit-choice-spec : {M : Type 1} → statement M
 implicit-choice-spec = tie.close (tie.spec
-    (λ c κs. search needs)  -- mode-at-requires
+    (λ c κs. search needs)  -- member-mode-requires
     (λ c. search implicit-is)  -- returns
     (λ c. search implicit-not))  -- returns-2

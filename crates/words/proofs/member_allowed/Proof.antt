@@ -9,9 +9,9 @@ member-allowed-spec =
     (tie.spec
     (λ c κs. search needs)  -- implicit-choice-requires
     (λ c. search allowed-not)  -- returns
-    (λ c κs. search needs)  -- presence-at-requires
-    (λ c κs. search needs)  -- default-at-requires
+    (λ c κs. search needs)  -- member-presence-requires
+    (λ c κs. search needs)  -- member-default-requires
     (λ c κs. search needs)  -- default-allowed-requires
     (λ c. search allowed-default)  -- returns-2
-    (λ c κs. search needs)  -- default-length-at-requires
+    (λ c κs. search needs)  -- member-default-length-requires
     (λ c. search allowed-none))  -- returns-3
