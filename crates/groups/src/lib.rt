@@ -1,5 +1,6 @@
 // Clauses of "Admitted" in one pass from the first row to the last: each row's body, where rows stand, members' names.
 use der::Kind;
+use rows::Table;
 ghost use mathlib.Core.Path.{_≡_};
 ghost use mathlib.Core.Bool.{true};
 ghost use Prim.Native.Nat.{_≤_, _<_, _+_, _*_};
@@ -12,8 +13,8 @@ ghost use Rattle.rows.specs.Paper.{tableLimits};
 
 // ---- the first pass: bodies, where rows stand, names
 fn same_name(t: &[u8], p: usize, q: usize) -> bool
-    requires one { ⌜ p + 39 ≤ length (now t) ⌝ }
-    requires other { ⌜ q + 39 ≤ length (now t) ⌝ }
+    requires one { ⌜ p + row.memberSize ≤ length (now t) ⌝ }
+    requires other { ⌜ q + row.memberSize ≤ length (now t) ⌝ }
     ensures { λ r. ⌜ r ≡ clause.sameName (now (t .entry)) p q ⌝ }
 {
     if !rows::same_eight(t, p + 1, q + 1) {
@@ -28,17 +29,21 @@ fn same_name(t: &[u8], p: usize, q: usize) -> bool
 // Whether the names of members a and b differ, in a group whose first member stands at a place.
 fn differs_at(t: &[u8], first: usize, b: usize, a: usize) -> bool
     requires before { ⌜ a < b ⌝ }
-    requires whole { ⌜ first + 39 * b + 39 ≤ length (now t) ⌝ }
+    requires whole { ⌜ work.placeFrom first b + row.memberSize ≤ length (now t) ⌝ }
     ensures { λ r. ⌜ r ≡ work.differsAt (now (t .entry)) first b a ⌝ }
 {
-    if same_name(t, first + 39 * a, first + 39 * b) {
+    if same_name(
+        t,
+        first + Table::MEMBER_BYTES * a,
+        first + Table::MEMBER_BYTES * b,
+    ) {
         return false;
     }
     true
 }
 
 fn new_name(t: &[u8], first: usize, b: usize) -> bool
-    requires whole { ⌜ first + 39 * b + 39 ≤ length (now t) ⌝ }
+    requires whole { ⌜ work.placeFrom first b + row.memberSize ≤ length (now t) ⌝ }
     ensures { λ r. ⌜ r ≡ work.newNameAt (now (t .entry)) first b ⌝ }
 {
     let mut a = 0;
@@ -52,11 +57,11 @@ fn new_name(t: &[u8], first: usize, b: usize) -> bool
 }
 
 fn member_fits(t: &[u8], first: usize, b: usize) -> bool
-    requires { ⌜ first + 39 * b ≤ length (now t) ⌝ }
+    requires { ⌜ work.placeFrom first b ≤ length (now t) ⌝ }
     ensures { λ r. ⌜ r ≡ work.memberFits (tableLimits .name) (now (t .entry)) first b ⌝ }
 {
-    let p = first + 39 * b;
-    if t.len() - p < 39 {
+    let p = first + Table::MEMBER_BYTES * b;
+    if t.len() - p < Table::MEMBER_BYTES {
         return false;
     }
     if !rows::member_formed(t, p) {
@@ -80,7 +85,7 @@ pub fn scan(t: &[u8], w: &mut [u64; 256]) -> usize
     let mut first = 0;
     let mut before = 0;
     while at < t.len() {
-        if n == rows::Table::MAX_ROWS {
+        if n == Table::MAX_ROWS {
             return 0;
         }
         w[2 * n] = at as u64;
@@ -91,7 +96,7 @@ pub fn scan(t: &[u8], w: &mut [u64; 256]) -> usize
             if !member_fits(t, first, before) {
                 return 0;
             }
-            at += 39;
+            at += Table::MEMBER_BYTES;
             n += 1;
             due -= 1;
             before += 1;

@@ -31,6 +31,9 @@ impl Table {
     // A name's octets, and the width of its field.
     pub const MAX_NAME: usize = 24;
 
+    // The octets of a member row.
+    pub const MEMBER_BYTES: usize = 39;
+
     pub fn of(rows: usize) -> Self
         ensures { λ r. ⌜ r .rows ≡ rows ⌝ }
     {
@@ -233,7 +236,7 @@ fn row_size(kind: u8) -> usize
         return 3;
     }
     if kind == Kind::MEMBER {
-        return 39;
+        return Table::MEMBER_BYTES;
     }
     0
 }
@@ -361,7 +364,7 @@ fn filled_24(t: &[u8], p: usize, n: usize) -> bool
 // ---- the body of a member row that is whole
 // Whether each octet of a name may follow the one before it; a lowercase letter may follow any. Where the fill starts, all that is left has to be fill.
 fn name_spelt(t: &[u8], p: usize) -> bool
-    requires whole { ⌜ p + 39 ≤ length (now t) ⌝ }
+    requires whole { ⌜ p + row.memberSize ≤ length (now t) ⌝ }
     requires begins { ⌜ 0 < octet (now t) (p + 1) ⌝ }
     ensures { λ r. ⌜ r ≡ all (body.followed (now (t .entry)) p) (tableLimits .name - 1) ⌝ }
 {
@@ -387,7 +390,7 @@ fn name_spelt(t: &[u8], p: usize) -> bool
 }
 
 fn name_formed(t: &[u8], p: usize) -> bool
-    requires { ⌜ p + 39 ≤ length (now t) ⌝ }
+    requires { ⌜ p + row.memberSize ≤ length (now t) ⌝ }
     ensures { λ r. ⌜ r ≡ body.nameFormed (tableLimits .name) (now (t .entry)) p ⌝ }
 {
     if !octets::is_lower(t[p + 1]) {
@@ -400,7 +403,7 @@ fn name_formed(t: &[u8], p: usize) -> bool
 }
 
 fn default_filled(t: &[u8], p: usize) -> bool
-    requires { ⌜ p + 39 ≤ length (now t) ⌝ }
+    requires { ⌜ p + row.memberSize ≤ length (now t) ⌝ }
     ensures { λ r. ⌜ r ≡ body.defaultFilled (now (t .entry)) p ⌝ }
 {
     let n = octets::wide(t[p + 30]);
@@ -411,7 +414,7 @@ fn default_filled(t: &[u8], p: usize) -> bool
 }
 
 pub fn member_formed(t: &[u8], p: usize) -> bool
-    requires { ⌜ p + 39 ≤ length (now t) ⌝ }
+    requires { ⌜ p + row.memberSize ≤ length (now t) ⌝ }
     ensures { λ r. ⌜ r ≡ body.memberFormed (tableLimits .name) (now (t .entry)) p ⌝ }
 {
     if !name_formed(t, p) {
