@@ -2,8 +2,8 @@
 use engine::Answer;
 use engine::Listed;
 use quote::Quoted;
-use words::TableCheck;
 use value::ValueCheck;
+use words::TableCheck;
 ghost use mathlib.Core.Path.{_≡_};
 ghost use Rattle.table.specs.Check as tables;
 ghost use Rattle.words.specs.Check as check;

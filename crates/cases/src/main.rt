@@ -5,9 +5,9 @@ use filter::Filter;
 use libc::STDIN_FILENO;
 use libc::STDOUT_FILENO;
 use rows::Table;
-use words::TableCheck;
 use value::Value;
 use value::ValueCheck;
+use words::TableCheck;
 ghost use Prim.Native.Nat.{_≤_};
 
 // A number that was read, or none.

@@ -1,8 +1,8 @@
 // The demands, as contracts of functions that call the entries.
 use engine::Answer;
 use engine::Listed;
-use words::TableCheck;
 use value::ValueCheck;
+use words::TableCheck;
 ghost use mathlib.Core.Path.{_≡_};
 ghost use Rattle.words.specs.Check as check;
 ghost use Rattle.value.specs.Check as values;

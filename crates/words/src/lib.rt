@@ -46,14 +46,7 @@ enum Tags {
 
 // ---- the fields of a word
 // The first word of a type row.
-fn pack_type(
-    kind: u8,
-    first: usize,
-    count: usize,
-    target: usize,
-    chain: usize,
-    place: usize,
-) -> u64
+fn pack_type(kind: u8, first: usize, count: usize, target: usize, chain: usize, place: usize) -> u64
     requires first { ⌜ first < 256 ⌝ }
     requires count { ⌜ count < 256 ⌝ }
     requires target { ⌜ target < 256 ⌝ }

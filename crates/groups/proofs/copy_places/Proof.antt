@@ -20,12 +20,12 @@ copy-places-spec =
     Inv-loop
     μ-loop
     (λ c. (search needs, search needs, search copy-start))  -- loop-holds
-    (λ c. search needs)                         -- mul-w
-    (λ c. search needs)                         -- shared-slice-read-w
-    (λ c. search needs)                         -- mul-w-2
-    (λ c. search needs)                         -- mul-w-3
-    (λ c. search needs)                         -- element-write-w
-    (λ c. search needs)                         -- add-i
-    (λ c. search needs)                         -- loop-less
+    (λ c. search needs)  -- mul-w
+    (λ c. search needs)  -- shared-slice-read-w
+    (λ c. search needs)  -- mul-w-2
+    (λ c. search needs)  -- mul-w-3
+    (λ c. search needs)  -- element-write-w
+    (λ c. search needs)  -- add-i
+    (λ c. search needs)  -- loop-less
     (λ c. (search needs, search needs, search copy-again))  -- loop-again
     (λ c. (search copy-done, search needs)))  -- returns

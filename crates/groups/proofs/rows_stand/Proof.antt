@@ -8,9 +8,9 @@ rows-stand-spec =
     tie.close
     (tie.spec
     (λ c. search first-none)  -- returns
-    (λ c κs. search needs)                      -- rows-agree-requires
+    (λ c κs. search needs)  -- rows-agree-requires
     (λ c. search first-unagreed)  -- returns-2
-    (λ c κs. search needs)                      -- is-type-requires
+    (λ c κs. search needs)  -- is-type-requires
     (λ c. search first-untyped)  -- returns-3
-    (λ c κs. search needs)                      -- members-stand-requires
+    (λ c κs. search needs)  -- members-stand-requires
     (λ c. search first-is))  -- returns-4

@@ -23,10 +23,10 @@ all-mandatory-spec =
     Inv-loop
     μ-loop
     (λ c. (search needs, all-none (mandatoryAfter _ _)))  -- loop-holds
-    (λ c. search needs)                         -- add-is-mandatory
-    (λ c κs. search needs)                      -- is-mandatory-requires
+    (λ c. search needs)  -- add-is-mandatory
+    (λ c κs. search needs)  -- is-mandatory-requires
     (λ c. search mandatory-bad)  -- returns
-    (λ c. search needs)                         -- add-j
-    (λ c. search needs)                         -- loop-less
+    (λ c. search needs)  -- add-j
+    (λ c. search needs)  -- loop-less
     (λ c. (omega arith, search mandatory-more))  -- loop-again
     (λ c. search all-done))  -- returns-2

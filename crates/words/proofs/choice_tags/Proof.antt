@@ -17,11 +17,11 @@ choice-tags-spec =
     (tie.spec
     Inv-loop
     μ-loop
-    (λ c. search needs)                         -- add-last
+    (λ c. search needs)  -- add-last
     (λ c. (search gather-start, search join-start))  -- loop-holds
-    (λ c κs. search needs)                      -- set-at-requires
+    (λ c κs. search needs)  -- set-at-requires
     (λ c. search choice-bad)  -- returns
-    (λ c. search needs)                         -- add-j
-    (λ c. search needs)                         -- loop-less
+    (λ c. search needs)  -- add-j
+    (λ c. search needs)  -- loop-less
     (λ c. (search choice-again, search join-again))  -- loop-again
     (λ c. search choice-done))  -- returns-2

@@ -4,7 +4,7 @@ use Rattle.words.proofs.gathered.Statement.{statement}
 use Rattle.words.proofs.gathered.Tie as tie
 
 pub gathered-spec : {M : Type 1} → statement M
-gathered-spec = tie.close (tie.spec 
-    (λ c κs. search needs)                      -- is-mandatory-requires
+gathered-spec = tie.close (tie.spec
+    (λ c κs. search needs)  -- is-mandatory-requires
     (λ c. search gathered-none)  -- returns
     (λ c. search gathered-more))  -- returns-2

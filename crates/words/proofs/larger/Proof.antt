@@ -6,6 +6,6 @@ use Rattle.words.proofs.larger.Tie as tie
 
 pub larger-spec : {M : Type 1} → statement M
 unfolding larger
-larger-spec = tie.close (tie.spec 
+larger-spec = tie.close (tie.spec
     (λ c. search tests)  -- returns
     (λ c. search tests))  -- returns-2

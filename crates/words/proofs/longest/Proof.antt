@@ -22,10 +22,10 @@ longest-spec =
     Inv-loop
     μ-loop
     (λ c. (search needs, tallest-none (chainAfter _ _)))  -- loop-holds
-    (λ c. search needs)                         -- add-type-chain
-    (λ c κs. search needs)                      -- type-chain-requires
-    (λ c κs. search needs)                      -- larger-requires
-    (λ c. search needs)                         -- add-j
-    (λ c. search needs)                         -- loop-less
+    (λ c. search needs)  -- add-type-chain
+    (λ c κs. search needs)  -- type-chain-requires
+    (λ c κs. search needs)  -- larger-requires
+    (λ c. search needs)  -- add-j
+    (λ c. search needs)  -- loop-less
     (λ c. (omega arith, search longest-more))  -- loop-again
     (λ c. search tallest-done))  -- returns

@@ -7,11 +7,11 @@ pub member-allowed-spec : {M : Type 1} → statement M
 member-allowed-spec =
     tie.close
     (tie.spec
-    (λ c κs. search needs)                      -- implicit-choice-requires
+    (λ c κs. search needs)  -- implicit-choice-requires
     (λ c. search allowed-not)  -- returns
-    (λ c κs. search needs)                      -- presence-at-requires
-    (λ c κs. search needs)                      -- default-at-requires
-    (λ c κs. search needs)                      -- default-allowed-requires
+    (λ c κs. search needs)  -- presence-at-requires
+    (λ c κs. search needs)  -- default-at-requires
+    (λ c κs. search needs)  -- default-allowed-requires
     (λ c. search allowed-default)  -- returns-2
-    (λ c κs. search needs)                      -- default-length-at-requires
+    (λ c κs. search needs)  -- default-length-at-requires
     (λ c. search allowed-none))  -- returns-3

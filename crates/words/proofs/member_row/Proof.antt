@@ -7,14 +7,14 @@ pub member-row-spec : {M : Type 1} → statement M
 member-row-spec =
     tie.close
     (tie.spec
-    (λ c κs. search needs)                      -- type-row-at-requires
-    (λ c κs. search needs)                      -- later-type-requires
+    (λ c κs. search needs)  -- type-row-at-requires
+    (λ c κs. search needs)  -- later-type-requires
     (λ c. search member-unnamed)  -- returns
-    (λ c κs. search needs)                      -- first-at-requires
-    (λ c κs. search needs)                      -- kind-of-requires
-    (λ c κs. search needs)                      -- member-allowed-requires
+    (λ c κs. search needs)  -- first-at-requires
+    (λ c κs. search needs)  -- kind-of-requires
+    (λ c κs. search needs)  -- member-allowed-requires
     (λ c. search member-unallowed)  -- returns-2
     (λ c κs. (search member-number, (search member-target, (search member-size, (search member-presence, search next-place)))))  -- member-word-requires
-    (λ c κs. search needs)                      -- second-at-requires
+    (λ c κs. search needs)  -- second-at-requires
     (λ c κs. search member-size)  -- member-second-requires
     (λ c. search member-made))  -- returns-3

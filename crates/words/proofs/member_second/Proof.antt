@@ -5,9 +5,9 @@ use Rattle.words.proofs.member_second.Tie as tie
 
 pub member-second-spec : {M : Type 1} → statement M
 member-second-spec =
-    tie.close (tie.spec 
-    (λ c κs. search needs)                      -- presence-at-requires
-    (λ c κs. search needs)                      -- default-at-requires
+    tie.close (tie.spec
+    (λ c κs. search needs)  -- presence-at-requires
+    (λ c κs. search needs)  -- default-at-requires
     (λ c κs. search default-short)  -- plain-requires
     (λ c. search second-default)  -- returns
     (λ c. search second-set))  -- returns-2

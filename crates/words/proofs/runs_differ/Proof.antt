@@ -17,12 +17,12 @@ runs-differ-spec =
     (tie.spec
     Inv-loop
     μ-loop
-    (λ c. search needs)                         -- add-last
+    (λ c. search needs)  -- add-last
     (λ c. search gather-start)  -- loop-holds
-    (λ c κs. search needs)                      -- set-at-requires
+    (λ c κs. search needs)  -- set-at-requires
     (λ c. search runs-bad)  -- returns
-    (λ c κs. search needs)                      -- gathered-requires
-    (λ c. search needs)                         -- add-j
-    (λ c. search needs)                         -- loop-less
+    (λ c κs. search needs)  -- gathered-requires
+    (λ c. search needs)  -- add-j
+    (λ c. search needs)  -- loop-less
     (λ c. search runs-again)  -- loop-again
     (λ c. search runs-done))  -- returns-2

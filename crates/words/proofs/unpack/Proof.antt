@@ -19,17 +19,17 @@ unpack-spec =
     Inv-loop
     μ-loop
     (λ c. (search needs, search unpack-small, search needs, search needs, search unpack-start))  -- loop-holds
-    (λ c κs. search needs)                      -- place-requires
-    (λ c. search needs)                         -- mul-starts
-    (λ c. search needs)                         -- slice-write-starts
-    (λ c κs. (search needs, search row-here))                      -- kind-requires
-    (λ c κs. search needs)                      -- second-word-requires
-    (λ c κs. search needs)                      -- row-set-requires
-    (λ c. search needs)                         -- mul-masks
-    (λ c. search needs)                         -- slice-write-masks
-    (λ c. search needs)                         -- add-i
-    (λ c. search needs)                         -- loop-less
+    (λ c κs. search needs)  -- place-requires
+    (λ c. search needs)  -- mul-starts
+    (λ c. search needs)  -- slice-write-starts
+    (λ c κs. (search needs, search row-here))  -- kind-requires
+    (λ c κs. search needs)  -- second-word-requires
+    (λ c κs. search needs)  -- row-set-requires
+    (λ c. search needs)  -- mul-masks
+    (λ c. search needs)  -- slice-write-masks
+    (λ c. search needs)  -- add-i
+    (λ c. search needs)  -- loop-less
     (λ c. (search needs, search needs, search needs, search needs, search unpack-again))  -- loop-again
-    (λ c. search needs)                         -- same-length
-    (λ c. search needs)                         -- same-length-2
+    (λ c. search needs)  -- same-length
+    (λ c. search needs)  -- same-length-2
     (λ c. search unpack-done))  -- returns

@@ -18,19 +18,19 @@ write-rows-spec =
     Inv-loop
     μ-loop
     (λ c. (search needs, search going-few, search needs))  -- loop-holds
-    (λ c. search needs)                         -- sub-i
-    (λ c κs. search needs)                      -- first-at-requires
+    (λ c. search needs)  -- sub-i
+    (λ c κs. search needs)  -- first-at-requires
     (λ c κs. search going-next)  -- one-row-requires
-    (λ c. search needs)                         -- enum-known-x
-    (λ c. search needs)                         -- enum-told
+    (λ c. search needs)  -- enum-known-x
+    (λ c. search needs)  -- enum-told
     (λ c. (search going-bad, search not-worded))  -- returns
-    (λ c. search needs)                         -- mul-w
-    (λ c. search needs)                         -- mul-w-2
-    (λ c. search needs)                         -- element-write-w
-    (λ c. search needs)                         -- mul-w-3
-    (λ c. search needs)                         -- add-w
-    (λ c. search needs)                         -- mul-w-4
-    (λ c. search needs)                         -- element-write-w-2
-    (λ c. search needs)                         -- loop-less
+    (λ c. search needs)  -- mul-w
+    (λ c. search needs)  -- mul-w-2
+    (λ c. search needs)  -- element-write-w
+    (λ c. search needs)  -- mul-w-3
+    (λ c. search needs)  -- add-w
+    (λ c. search needs)  -- mul-w-4
+    (λ c. search needs)  -- element-write-w-2
+    (λ c. search needs)  -- loop-less
     (λ c. (search needs, search needs, search going-again))  -- loop-again
     (λ c. (search going-done, λ _. search going-worded)))  -- returns-2
