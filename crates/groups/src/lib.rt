@@ -3,7 +3,7 @@ use der::Kind;
 ghost use mathlib.Core.Path.{_≡_};
 ghost use Prim.Native.Nat.{_≤_};
 ghost use lib.ListN.{length};
-ghost use Rattle.octets.specs.Pick.{all, pick};
+ghost use Rattle.octets.specs.Pick.{pick};
 ghost use Rattle.rows.specs.Row as row;
 ghost use Rattle.groups.specs.Clauses as clause;
 ghost use Rattle.groups.specs.inner.Work as work;
