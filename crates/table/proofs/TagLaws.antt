@@ -8,11 +8,11 @@ use borrow.Author.Tests.{ltb-true, ltb-false, eqb-true, eq-eqb, ne-eqb}
 use lib.Dec.{ltb, eqb}
 use lib.Pow.{pow-lt}
 use lib.Bits.{bitAnd, bitOr, or-lt, and-le-l}
-use Rattle.octets.specs.Pick.{pick, both, either, no, all}
+use Rattle.octets.specs.Pick.{pick, both, either, no}
 use Rattle.octets.proofs.Laws.{all-cong}
 use Rattle.der.specs.Tag.{context, universal, universalText}
-use Rattle.rows.specs.Row.{kindAt, modeAt, numberAt, presenceAt, defaultAt, elementAt, typeRowAt, rowAt, membersAt, isList}
-use Rattle.table.specs.Types.{untagged, explicit, implicit, mandatory, optional, default, Member, Ty, basic, sequence, choice, listOf, Members, taggingOf, presenceOf, memberOf, membersFrom, typed, typeFrom}
+use Rattle.rows.specs.Row.{kindAt, modeAt, numberAt, presenceAt, defaultAt, typeRowAt, rowAt, membersAt, isList}
+use Rattle.table.specs.Types.{untagged, explicit, implicit, mandatory, optional, default, Member, Ty, basic, sequence, choice, listOf, Members, taggingOf, presenceOf, memberOf, membersFrom, typeFrom}
 use Rattle.table.specs.Begins.{asTagged, begins, someBegins, memberBegins, isMandatory, apartAt, apart, apartFromAll, alternativesDiffer, apartInRun, runsDiffer, tagsApart}
 use Rattle.table.specs.inner.Work.{bitOf, contextBit, memberSet, apartFrom, unionFrom, never}
 use Rattle.table.proofs.BitSets.{bit-none, bit-or, bit-one, sets-apart, all-both}

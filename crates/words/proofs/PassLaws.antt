@@ -4,7 +4,7 @@ use mathlib.Core.Bool.{Bool, true, false, false≢true}
 use mathlib.Core.List.{List}
 use Prim.Native.Nat.{ℕ, zero, suc, _≤_, _<_, _+_, _-_, _*_, _%_, _^_}
 use native.Mathlib.Omega.{arith}
-use borrow.Author.Tests.{eq-eqb, ne-eqb, eqb-true, eqb-false, lt-ltb, le-ltb, ltb-true, leb-true}
+use borrow.Author.Tests.{eq-eqb, ne-eqb, eqb-true, eqb-false, lt-ltb, le-ltb, leb-true}
 use lib.ListN.{length}
 use lib.Dec.{ltb, leb, eqb}
 use Rattle.octets.specs.Pick.{pick, both, either, no, all}
@@ -14,20 +14,21 @@ use Rattle.der.specs.Kind.{isConstructed}
 use Rattle.rows.specs.Paper.{tableLimits}
 use Rattle.rows.specs.Row.{rowAt, kindAt, elementAt, typeRowAt, membersAt, isGroup, isList, modeAt, numberAt, presenceAt, defaultLengthAt, defaultAt}
 use Rattle.rows.proofs.Laws.{MemberFacts, member-facts}
-use Rattle.groups.specs.Clauses.{everyRow, wholeRows, bodyFormed, isType, firstIsType, laterType, pointsLater, membersStand, memberPlace, namesDiffer, mandatoryAt, alternativesMandatory, typeKind, noImplicitChoice, defaultAllowed, defaultLegal, chainFits}
-use Rattle.groups.specs.inner.Work.{firstPass, memberType, tallest}
+use Rattle.groups.specs.Clauses.{everyRow, wholeRows, bodyFormed, firstIsType, laterType, pointsLater, membersStand, namesDiffer, mandatoryAt, alternativesMandatory, typeKind, noImplicitChoice, defaultAllowed, defaultLegal, chainFits}
+use Rattle.groups.specs.inner.Work.{firstPass, tallest}
 use Rattle.groups.proofs.LaterSteps.{member-follows, type-row, later-row}
 use Rattle.groups.proofs.ChainSteps.{chain-list, chain-members}
-use Rattle.table.specs.Types.{Ty, untagged, explicit, implicit, taggingOf, memberOf, typeFrom}
-use Rattle.table.specs.Begins.{begins, memberBegins, isMandatory}
+use Rattle.table.specs.Types.{untagged, explicit, implicit, taggingOf, memberOf, typeFrom}
+use Rattle.table.specs.Begins.{memberBegins, isMandatory}
 use Rattle.table.specs.Admitted.{tagsDiffer}
 use Rattle.table.specs.inner.Work.{bitOf, contextBit, memberSet, rowFits}
 use Rattle.table.proofs.TagLaws.{presence-as, set-small, set-bits, universal-fits}
 use Rattle.table.proofs.TypeLaws.{member-fits}
 use Rattle.words.specs.inner.Rows.{tableRows, placeAt, MemberRow, TypeRow}
-use Rattle.words.specs.inner.Fields.{firstOf, targetOf, chainOf, presenceOf}
+use Rattle.words.specs.inner.Fields.{chainOf}
 use Rattle.words.specs.inner.Words.{firstOctet, MemberWord}
 use Rattle.words.specs.inner.Pass.{firstAt, secondAt, setAt, typeChain, mandatoryIn, chainAfter, mandatoryAfter, implicitChoice, memberAllowed, RowWords, Going}
+use Rattle.words.proofs.Steps.{form-small}
 use Rattle.words.proofs.Places.{row-place}
 
 -- ---- by the first pass
@@ -196,10 +197,6 @@ pub other-kind : (k a b : ℕ) → k ≡ a → (a ≡ b → ⊥) → k ≡ b →
 other-kind k a b e n h = n (sym e ∙ h)
 
 -- ---- the class of a first tag octet
-form-small : (x : Bool) → pick x 32 0 ≤ 32
-form-small true = omega arith
-form-small false = omega arith
-
 low-number : (x : Bool) (n : ℕ) → n ≤ 30 → (128 + pick x 32 0 + n) % 32 ≡ n
 low-number true n h = omega arith
 low-number false n h = omega arith

@@ -8,9 +8,9 @@ use borrow.Author.Tests.{not-true, not-false, eq-eqb, ne-eqb, lt-ltb, le-ltb, lt
 use lib.ListN.{length, getD, length-take}
 use lib.Dec.{ltb, leb, eqb}
 use lib.Bits.{bitAnd, bitOr}
-use Rattle.octets.specs.Pick.{pick, both, either, no, all}
+use Rattle.octets.specs.Pick.{pick, both, either, all}
 use Rattle.octets.specs.Octets.{larger, baseFrom}
-use Rattle.octets.proofs.Laws.{octet-past, all-more, all-bad, all-done, both-true}
+use Rattle.octets.proofs.Laws.{octet-past, all-more, all-bad, both-true}
 use Rattle.der.specs.Tag.{universal}
 use Rattle.rows.specs.Paper.{tableLimits}
 use Rattle.rows.specs.inner.Sizes.{WholeMember}
@@ -29,8 +29,8 @@ use Rattle.words.specs.declared.Made.{Made}
 use Rattle.words.specs.declared.Tags.{Tags}
 use Rattle.words.specs.inner.Rows.{tableRows, placeAt, MemberRow, TypeRow}
 use Rattle.words.specs.inner.Fields.{kindOf, firstOf, targetOf, chainOf, presenceOf, Packed}
-use Rattle.words.specs.inner.Words.{firstOctet, elementRow, TypeWord, MemberWord, Shaped}
-use Rattle.words.specs.inner.Pass.{firstAt, secondAt, setAt, typeChain, mandatoryIn, chainAfter, mandatoryAfter, implicitChoice, memberAllowed, memberSecond, Basic, RowWords, Going, Next, Says}
+use Rattle.words.specs.inner.Words.{firstOctet, elementRow, TypeWord, MemberWord}
+use Rattle.words.specs.inner.Pass.{firstAt, secondAt, setAt, typeChain, mandatoryIn, chainAfter, mandatoryAfter, implicitChoice, memberAllowed, memberSecond, Basic, RowWords, Next, Says}
 use Rattle.words.proofs.PassLaws.{Named, is-named, few-rows, member-formed, place-small, group-ends, unfit, fit, fits-points, fits-alternatives, fits-implicit, fits-default, fits-chain, fits-tags, points-list, points-member, points-none, alternatives-none, alternatives-all, implicit-none, default-none, allowed-as, list-no-sequence, list-no-choice, list-no-member, sequence-no-list, choice-no-list, member-no-list, no-members, other-kind, later-kind, group-small, group-bits, group-mandatory, group-chain, alternatives-as, element-chain}
 
 -- ---- reading the words

@@ -1,24 +1,20 @@
 -- One lemma for each return and each turn of a loop; its premises are the facts as the code has them.
-use mathlib.Core.Path.{_≡_, refl, sym, ap, _∙_}
+use mathlib.Core.Path.{_≡_, refl, ap, _∙_}
 use mathlib.Core.Bool.{Bool, true, false}
 use mathlib.Core.List.{List}
-use Prim.Native.Nat.{ℕ, zero, suc, _≤_, _<_, _+_, _-_, _*_}
+use Prim.Native.Nat.{ℕ, _≤_, _<_, _+_, _-_, _*_}
 use native.Mathlib.Omega.{arith}
 use borrow.Author.Tests.{eq-eqb, ne-eqb}
-use borrow.Author.Count.{below-more}
-use lib.ListN.{length, getD, set, length-set, length-take}
-use lib.Seq.{getD-set-same, getD-set-other}
+use lib.ListN.{length}
 use lib.Dec.{leb, eqb}
 use Rattle.octets.specs.Pick.{pick}
-use Rattle.octets.specs.Octets.{baseFrom}
 use Rattle.der.specs.Tag.{universal, ownOctet, implicitOctet, wrapperOctet}
 use Rattle.der.specs.Kind.{isConstructed}
-use Rattle.rows.specs.Row.{rowAt, kindAt, elementAt, typeRowAt, membersAt, isList, modeAt, numberAt, presenceAt, defaultAt}
-use Rattle.groups.specs.Clauses.{typeKind}
+use Rattle.rows.specs.Row.{kindAt, elementAt, typeRowAt, membersAt, isList, modeAt, numberAt, presenceAt, defaultAt}
 use Rattle.table.specs.Types.{Tagging, untagged, explicit, implicit, taggingOf}
 use Rattle.table.proofs.TagLaws.{universal-fits}
 use Rattle.words.specs.inner.Fields.{Packed}
-use Rattle.words.specs.inner.Words.{firstOctet, how, elementRow, TypeWord, MemberWord, secondOf, Shaped, Filled, Ready}
+use Rattle.words.specs.inner.Words.{firstOctet, how, elementRow, MemberWord}
 use Rattle.rows.specs.Paper.{tableLimits}
 
 -- ---- the first tag octet
@@ -40,7 +36,7 @@ unfolding taggingOf firstOctet
 octet-none mode n k h g = rw (eq-eqb mode 0 h, eq-eqb k 13 g)
 
 -- it is one octet
-form-small : (x : Bool) → pick x 32 0 ≤ 32
+pub form-small : (x : Bool) → pick x 32 0 ≤ 32
 form-small true = omega arith
 form-small false = omega arith
 

@@ -1,6 +1,5 @@
 -- The places and sets of tags of an admitted table's rows, from its words.
-use mathlib.Core.Path.{_≡_, refl, sym, ap, ap₂, _∙_}
-use mathlib.Core.Bool.{Bool, true, false}
+use mathlib.Core.Path.{_≡_, ap, ap₂, _∙_}
 use mathlib.Core.List.{List}
 use Prim.Native.Nat.{ℕ, _≤_, _<_, _+_, _*_, _^_}
 use native.Mathlib.Omega.{arith}
@@ -8,8 +7,6 @@ use borrow.Author.Tests.{eq-eqb, ne-eqb}
 use borrow.Author.Count.{below-more}
 use lib.ListN.{length, getD, take, set}
 use lib.Seq.{getD-set-same, getD-set-other, getD-take, ext-getD, length-take-le}
-use lib.Dec.{eqb}
-use Rattle.octets.specs.Pick.{pick}
 use Rattle.der.specs.Tag.{universal}
 use Rattle.rows.specs.Paper.{tableLimits}
 use Rattle.rows.specs.Row.{kindAt}

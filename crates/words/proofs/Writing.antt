@@ -17,7 +17,6 @@ use Rattle.der.specs.Tag.{universal}
 use Rattle.rows.specs.Limits.{tableFits}
 use Rattle.rows.specs.Paper.{tableLimits}
 use Rattle.rows.specs.Row.{rows, kindAt, typeRowAt, presenceAt, defaultAt}
-use Rattle.groups.specs.Clauses.{laterType}
 use Rattle.groups.specs.inner.Work.{firstPass, Placed}
 use Rattle.table.specs.Types.{typeFrom}
 use Rattle.table.specs.Begins.{begins}
@@ -30,7 +29,7 @@ use Rattle.table.proofs.TagLaws.{bits-one}
 use Rattle.rows.specs.declared.Table.{Table}
 use Rattle.words.specs.declared.Made.{Made}
 use Rattle.words.specs.inner.Rows.{tableRows, placeAt, MemberRow, TypeRow}
-use Rattle.words.specs.inner.Words.{secondOf, Filled, Worded}
+use Rattle.words.specs.inner.Words.{secondOf, Worded}
 use Rattle.words.specs.inner.Pass.{firstAt, secondAt, memberSecond, isMade, RowWords, Going, Next, Says, Leaves, rowSet}
 use Rattle.words.proofs.PassLaws.{Named, some-rows, few-rows, is-named, fits-points, fits-chain, points-member}
 use Rattle.words.proofs.Reading.{ready}

@@ -1,6 +1,5 @@
 use Rattle.octets.proofs.Tests.{tests}
 use Rattle.octets.specs.Octets.{larger}
-use borrow.Author.Needs.{needs}
 use Rattle.words.proofs.larger.Statement.{statement}
 use Rattle.words.proofs.larger.Tie as tie
 

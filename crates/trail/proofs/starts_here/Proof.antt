@@ -1,7 +1,7 @@
 use Rattle.value.proofs.LeafSteps.{marked-past, marked-is}
 use borrow.Author.Needs.{needs}
-use Rattle.value.proofs.starts_here.Statement.{statement}
-use Rattle.value.proofs.starts_here.Tie as tie
+use Rattle.trail.proofs.starts_here.Statement.{statement}
+use Rattle.trail.proofs.starts_here.Tie as tie
 
 pub starts-here-spec : {M : Type 1} → statement M
 starts-here-spec = tie.close (tie.spec

@@ -1,11 +1,11 @@
 use Prim.Native.Nat.{_-_, _≤_}
 use mathlib.Core.Path.{_≡_}
 use native.Mathlib.Omega.{arith}
 use Rattle.value.specs.inner.Work.{first, markedOf}
 use Rattle.value.proofs.LeafSteps.{first-start, first-found, first-again, first-done, marked-here}
 use borrow.Author.Needs.{needs}
-use Rattle.value.proofs.find_alternative.Statement.{statement}
-use Rattle.value.proofs.find_alternative.Tie as tie
+use Rattle.trail.proofs.find_alternative.Statement.{statement}
+use Rattle.trail.proofs.find_alternative.Tie as tie
 
 abbrev Inv-loop : tie.InvT-loop
 Inv-loop t s m v row n at end j₀ j = (j ≤ n) × (first (markedOf m t s row v end at) n 0 ≡ first (markedOf m t s row v end at) (n - j) j)

@@ -1,7 +1,7 @@
 use Rattle.table.proofs.SoundLaws.{set-begins}
 use borrow.Author.Needs.{needs}
-use Rattle.table.proofs.member_begins.Statement.{statement}
-use Rattle.table.proofs.member_begins.Tie as tie
+use Rattle.trail.proofs.member_begins.Statement.{statement}
+use Rattle.trail.proofs.member_begins.Tie as tie
 
 pub member-begins-spec : {M : Type 1} → statement M
 member-begins-spec = tie.close (tie.spec
