@@ -8,8 +8,8 @@ use Rattle.octets.specs.Pick.{pick}
 use Rattle.octets.specs.Octets.{part}
 use Rattle.octets.proofs.Laws.{pick-cases}
 use Rattle.rows.specs.declared.Table.{Table}
-use Rattle.table.specs.Check as tables
-use Rattle.table.specs.declared.TableCheck.{TableCheck}
+use Rattle.words.specs.Check as check
+use Rattle.words.specs.declared.TableCheck.{TableCheck}
 use Rattle.value.specs.Limits.{Limits}
 use Rattle.value.specs.Check as values
 use Rattle.value.specs.Check.{valueFits}
@@ -26,11 +26,11 @@ use Rattle.capi.specs.declared.CAnswer.{CAnswer}
 
 -- ---- each kind of answer as two numbers
 module _ (r : CAnswer) where
-  pub table-admitted : (a : TableCheck) (t : Table) → a ≡ TableCheck.Admitted t → r ≡ numbers 0 (t .rows) → r ≡ ofTable (tables.report a)
+  pub table-admitted : (a : TableCheck) (t : Table) → a ≡ TableCheck.Admitted t → r ≡ numbers 0 (t .rows) → r ≡ ofTable (check.report a)
   table-admitted a t e q = rw e q
 
   module _ (n : ℕ) where
-    pub table-refused : (a : TableCheck) → a ≡ TableCheck.Refused n → r ≡ numbers n 0 → r ≡ ofTable (tables.report a)
+    pub table-refused : (a : TableCheck) → a ≡ TableCheck.Refused n → r ≡ numbers n 0 → r ≡ ofTable (check.report a)
     table-refused a e q = rw e q
 
     pub value-refused : (a : ValueCheck) → a ≡ ValueCheck.Refused n → r ≡ numbers n 0 → r ≡ ofValue (values.report a)

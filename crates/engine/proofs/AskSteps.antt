@@ -135,20 +135,20 @@ typed-ready t s m v x sound names here places short stored e =
 module _ (t v s : List ℕ) (budget n : ℕ) (count : n ≡ rowCount tableLimits t) where
   pub admitted-not : n ≡ 0 → refused 2 ≡ questionOf limits knownRules t v s budget
   unfolding questionOf
-  admitted-not z = rw (not-admitted tableLimits t [] [] n count z)
+  admitted-not z = rw (not-admitted tableLimits t n count z)
 
   module _ (starts masks : List ℕ) (z : n ≡ 0 → ⊥) (left : Admits (tableLimits .rows) (tableLimits .chain) t n starts masks) where
     the-rows : take n starts ≡ rows (tableLimits .rows) t
-    the-rows = rows-are tableLimits t starts masks n count z left
+    the-rows = rows-are tableLimits t n count starts masks z left
 
     pub names-here : NamesDiffer t (take n starts)
-    names-here = subst (λ (s : List ℕ). NamesDiffer t s) (sym the-rows) (names-apart tableLimits t (is-admitted tableLimits t starts masks n count z) refl)
+    names-here = subst (λ (s : List ℕ). NamesDiffer t s) (sym the-rows) (names-apart tableLimits t (is-admitted tableLimits t n count z) refl)
 
     pub admitted-is : (a : Answer) → report a ≡ withFilter knownRules (typeFrom (tableLimits .chain) t (take n starts) 0) v budget (parse filterLimits s) → report a ≡ questionOf limits knownRules t v s budget
     unfolding questionOf typeAt
     admitted-is a told =
         told ∙ ap (λ (y : List ℕ). withFilter knownRules (typeFrom (tableLimits .chain) t y 0) v budget (parse filterLimits s)) the-rows
-        ∙ rw (is-admitted tableLimits t starts masks n count z)
+        ∙ rw (is-admitted tableLimits t n count z)
 
 -- ---- 1, then the others
 module _ (t v s : List ℕ) (budget : ℕ) (b : Bool) (fits : b ≡ questionFits limits t v s budget) where

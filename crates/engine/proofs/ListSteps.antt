@@ -156,14 +156,14 @@ typed-read ty given r b asked e = allowed-read ty (givenIds given r) (sym asked 
 module _ (t v r m : List ℕ) (given d : Bool) (n : ℕ) (count : n ≡ rowCount tableLimits t) where
   pub admitted-not : n ≡ 0 → listing (Listed.Refused 2) m ≡ listingOf limits t v given r d m
   unfolding listingOf
-  admitted-not z = rw (not-admitted tableLimits t [] [] n count z)
+  admitted-not z = rw (not-admitted tableLimits t n count z)
 
   pub admitted-typed : (starts masks : List ℕ) (l : Listing) → (n ≡ 0 → ⊥) → Admits (tableLimits .rows) (tableLimits .chain) t n starts masks → l ≡ withIds (typeFrom (tableLimits .chain) t (take n starts) 0) v d m (givenIds given r)
       → l ≡ listingOf limits t v given r d m
   unfolding listingOf typeAt
   admitted-typed starts masks l z left q =
-      let e = rows-are tableLimits t starts masks n count z left in
-      q ∙ ap (λ (s : List ℕ). withIds (typeFrom (tableLimits .chain) t s 0) v d m (givenIds given r)) e ∙ rw (is-admitted tableLimits t starts masks n count z)
+      let e = rows-are tableLimits t n count starts masks z left in
+      q ∙ ap (λ (s : List ℕ). withIds (typeFrom (tableLimits .chain) t s 0) v d m (givenIds given r)) e ∙ rw (is-admitted tableLimits t n count z)
 
 -- ---- 1, then the others
 module _ (t v r m : List ℕ) (given d b : Bool) (fits : b ≡ listingFits limits t v given r) where

@@ -178,14 +178,14 @@ fn list_admitted(
     ensures { λ a. ⌜ listing a (now (room .exit))
         ≡ listingOf limits (now (table .entry)) (now (value .entry)) given (now (reference .entry)) defaults (now (room .entry)) ⌝ }
 {
-    let mut starts = [0usize; Table::MAX_ROWS];
-    let mut masks = [0u64; Table::MAX_ROWS];
-    let n = table::admit_table(table, &mut starts, &mut masks);
+    let mut w = [0u64; 256];
+    let n = words::admit_table(table, &mut w);
     if n == 0 {
         return Listed::Refused(2);
     }
-    let mut w = [0u64; 256];
-    words::fill(table, &starts[..n], &masks, &mut w);
+    let mut starts = [0usize; Table::MAX_ROWS];
+    let mut masks = [0u64; Table::MAX_ROWS];
+    words::unpack(table, &w, n, &mut starts, &mut masks);
     list_typed(
         table,
         &starts[..n],
@@ -304,14 +304,14 @@ fn ask_admitted(table: &[u8], value: &[u8], filter: &[u8], budget: usize) -> Ans
     requires short { ⌜ length (now value) ≤ 65536 ⌝ }
     ensures { λ a. ⌜ answer.report a ≡ answer.questionOf limits knownRules (now (table .entry)) (now (value .entry)) (now (filter .entry)) budget ⌝ }
 {
-    let mut starts = [0usize; Table::MAX_ROWS];
-    let mut masks = [0u64; Table::MAX_ROWS];
-    let n = table::admit_table(table, &mut starts, &mut masks);
+    let mut w = [0u64; 256];
+    let n = words::admit_table(table, &mut w);
     if n == 0 {
         return Answer::Refused(2);
     }
-    let mut w = [0u64; 256];
-    words::fill(table, &starts[..n], &masks, &mut w);
+    let mut starts = [0usize; Table::MAX_ROWS];
+    let mut masks = [0u64; Table::MAX_ROWS];
+    words::unpack(table, &w, n, &mut starts, &mut masks);
     ask_typed(table, &starts[..n], &masks, &w, value, filter, budget)
 }
 

@@ -9,7 +9,7 @@ use Rattle.octets.specs.Octets.{same}
 use Rattle.octets.specs.Text.{within}
 use Rattle.der.specs.Kind as kind
 use Rattle.der.specs.Contents.{legal}
-use Rattle.rows.specs.Row.{nameAt, kindAt, elementAt, typeRowAt, modeAt, presenceAt, defaultLengthAt, defaultAt, isList, rowAt, membersAt}
+use Rattle.rows.specs.Row.{nameAt, kindAt, elementAt, typeRowAt, modeAt, presenceAt, defaultLengthAt, defaultAt, isTypeKind, isList, rowAt, followerKind, membersAt}
 use Rattle.rows.specs.Body.{rowFormed}
 
 -- a test of every row, by its number
@@ -26,7 +26,7 @@ bodyFormed most name t s i = rowFormed most name t (rowAt s i)
 
 -- "row 0 is a type"
 unfoldable pub isType : List ℕ → List ℕ → ℕ → Bool
-isType t s i = both (ltb i (length s)) (no (eqb (kindAt t (rowAt s i)) kind.member))
+isType t s i = both (ltb i (length s)) (isTypeKind (kindAt t (rowAt s i)))
 
 unfoldable pub firstIsType : List ℕ → List ℕ → Bool
 firstIsType t s = isType t s 0
@@ -41,16 +41,17 @@ pointsLater t s i =
     (pick (eqb (kindAt t (rowAt s i)) kind.member) (laterType t s i (typeRowAt t (rowAt s i)))
     true)
 
--- "member rows stand directly after their SEQUENCE or CHOICE and nowhere else": so many members are still due before these rows
-unfoldable pub standing : List ℕ → ℕ → List ℕ → Bool
-standing t due [] = eqb due 0
-standing t due (p ∷ ps) =
-    let member = standing t (due - 1) ps in
-    let type = standing t (membersAt t p) ps in
-    pick (eqb (kindAt t p) kind.member) (both (ltb 0 due) member) (both (eqb due 0) type)
+-- "member rows stand directly after their SEQUENCE or CHOICE and nowhere else": so many rows of kind k are still due before these rows;
+-- where none is due, a row is a type's, and the rows that follow it are due
+unfoldable pub standing : List ℕ → ℕ → ℕ → List ℕ → Bool
+standing t k due [] = eqb due 0
+standing t k due (p ∷ ps) =
+    let type = standing t (followerKind (kindAt t p)) (membersAt t p) ps in
+    let follower = standing t k (due - 1) ps in
+    pick (eqb due 0) (both (isTypeKind (kindAt t p)) type) (both (eqb (kindAt t p) k) follower)
 
 unfoldable pub membersStand : List ℕ → List ℕ → Bool
-membersStand t s = standing t 0 s
+membersStand t s = standing t 0 0 s
 
 -- "names in one type differ": members a and b of row i
 abbrev pub memberPlace : List ℕ → ℕ → ℕ → ℕ

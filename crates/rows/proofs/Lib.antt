@@ -1,4 +1,4 @@
 pub mod Steps
 pub mod Laws
-pub mod ScanSteps
 pub mod KindLaws
+pub mod NumberSteps

@@ -5,18 +5,18 @@ use mathlib.Core.List.{List}
 use Prim.Native.Nat.{ℕ, zero, suc, _≤_, _<_, _+_, _-_, _*_}
 use native.Mathlib.Omega.{arith}
 use native.Mathlib.Nat.{add-zero}
-use borrow.Author.Tests.{not-true, not-false, eq-eqb, ne-eqb, eqb-true, lt-leb, le-leb, ltb-true, ltb-false}
+use borrow.Author.Tests.{not-true, not-false, eq-eqb, ne-eqb, eqb-true, leb-true, lt-ltb, le-ltb, lt-leb, le-leb, ltb-true, ltb-false}
 use lib.Dec.{ltb, leb, eqb}
 use lib.ListN.{length, take, drop, length-take}
 use lib.Seq.{take-nil, getD-take, getD-drop, drop-drop}
 use Rattle.octets.specs.Pick.{no, all}
 use Rattle.octets.specs.Octets.{octet, two, part, every}
-use Rattle.octets.specs.inner.Answers.{highest}
-use Rattle.octets.specs.Text.{within, isLower, mayFollow}
-use Rattle.octets.proofs.Laws.{octet-past, rest-none, part-rest, all-at, all-is, all-more, all-bad}
-use Rattle.octets.proofs.TextLaws.{every-is, every-at, highest-nought}
-use Rattle.rows.specs.Row.{nameOctetAt, defaultAt, isGroup, isList, rowSize, rowAt, membersAt}
-use Rattle.rows.specs.Body.{countFormed, follows, followed, nameFormed, taggingFormed, tagFormed, presenceFormed, isZero, defaultFilled, memberFormed, rowFormed}
+use Rattle.octets.specs.Text.{within, isLower, isLetter, isAlnum, mayFollow}
+use Rattle.octets.proofs.Laws.{octet-past, rest-none, part-rest, both-true, all-at, all-is, all-more, all-bad}
+use Rattle.octets.proofs.TextLaws.{every-is, every-at}
+use Rattle.rows.specs.Row.{nameOctetAt, typeRowAt, defaultAt, isGroup, isList, rowSize, rowAt, membersAt}
+use Rattle.rows.specs.Body.{countFormed, follows, followed, nameFormed, taggingFormed, tagFormed, presenceFormed, isZero, defaultFilled, memberFormed}
+use Rattle.rows.specs.inner.Sizes.{typeSize}
 use Rattle.rows.specs.Paper.{tableLimits}
 
 -- ---- reading
@@ -43,6 +43,12 @@ row-past s i h = octet-past s i h
 
 pub default-is : (t a : List ℕ) (p n w : ℕ) → n ≡ octet t (p + 30) → w ≡ n → a ≡ part t (p + 31) w → a ≡ defaultAt t p
 default-is t a p n w e f g = g ∙ ap (part t (p + 31)) (f ∙ e)
+
+pub default-whole : (t : List ℕ) (p n w : ℕ) → n ≡ octet t (p + 30) → w ≡ n → take (p + 31 + w - (p + 31)) (drop (p + 31) t) ≡ defaultAt t p
+default-whole t p n w e f = let size : p + 31 + w - (p + 31) ≡ w = omega arith in ap (part t (p + 31)) (size ∙ f ∙ e)
+
+pub type-row-whole : (t : List ℕ) (p r : ℕ) → r ≡ octet t (p + 25) * 256 + octet t (p + 26) → r ≡ typeRowAt t p
+type-row-whole t p r e = number-is t p 25 (octet t (p + 25)) (octet t (p + 26)) r refl refl e
 
 -- ---- the rows
 module _ (k : ℕ) (a : Bool) (basic : a ≡ within 1 11 k) where
@@ -77,6 +83,20 @@ module _ (t : List ℕ) (p o : ℕ) (g : Bool) (read : o ≡ octet t p) (told : 
   pub members-none : g ≡ false → 0 ≡ membersAt t p
   unfolding membersAt
   members-none h = rw (← read, sym told ∙ h)
+
+module _ (most : ℕ) (t : List ℕ) (p size : ℕ) (sized : size ≡ rowSize (octet t p)) where
+  pub type-short : length t - p < size → 0 ≡ typeSize most t p
+  unfolding typeSize
+  type-short h = rw (← sized, lt-ltb (length t - p) size h)
+
+  module _ (u : Bool) (h : size ≤ length t - p) (told : u ≡ countFormed most t p) where
+    pub type-unformed : not u ≡ true → 0 ≡ typeSize most t p
+    unfolding typeSize
+    type-unformed e = rw (← sized, le-ltb (length t - p) size h, sym told ∙ not-true u e)
+
+    pub type-sized : not u ≡ false → size ≡ typeSize most t p
+    unfolding typeSize
+    type-sized e = rw (← sized, le-ltb (length t - p) size h, sym told ∙ not-false u e)
 
 -- ---- bodies
 module _ (most : ℕ) (t : List ℕ) (p k : ℕ) (read : k ≡ octet t p) where
@@ -165,24 +185,53 @@ module _ (t : List ℕ) (p n j : ℕ) (before : all (followed t p) (j + 1) ≡ t
   fill-is : every isZero (part t (p + (j + 2)) (n - j)) ≡ all (followed t p) n
   fill-is = same-truth _ _ fill-enough fill-needed
 
-module _ (t row : List ℕ) (p j a b : ℕ) (u : Bool) (rest : row ≡ drop p t) (last : a ≡ nameOctetAt t p j) (read : b ≡ octet row (j + 2)) (told : u ≡ follows a b) where
-  pub spelt-next : b ≡ nameOctetAt t p (j + 1)
-  spelt-next = let place : p + (j + 2) ≡ p + (1 + (j + 1)) = omega arith in field-is t row p rest (j + 2) b read ∙ ap (octet t) place
+pub next-octet : (t : List ℕ) (p j : ℕ) → octet t (p + (j + 2)) ≡ nameOctetAt t p (j + 1)
+next-octet t p j = let place : p + (j + 2) ≡ p + (1 + (j + 1)) = omega arith in ap (octet t) place
+
+pub some-octet : (b : ℕ) → (b ≡ 0 → ⊥) → 0 < b
+some-octet b h = omega arith
+
+-- a lowercase letter may follow any octet of a name
+module _ (b : ℕ) (r : Bool) (told : r ≡ isLower b) (low : r ≡ true) where
+  pub lower-some : 0 < b
+  unfolding isLower
+  lower-some = let l = leb-true 97 b (both-true (leb 97 b) (leb b 122) (sym told ∙ low) .0) in omega arith
+
+  lower-follows : (a : ℕ) → 0 < a → follows a b ≡ true
+  unfolding follows mayFollow isAlnum isLetter
+  lower-follows a h =
+      let x : a ≡ 0 → ⊥ = λ z. omega arith in
+      let y : b ≡ 0 → ⊥ = λ z. (let l = lower-some in omega arith) in
+      rw (ne-eqb a 0 x, ne-eqb b 0 y, sym told ∙ low)
+
+  pub named-lower : (t : List ℕ) (p j a : ℕ) → b ≡ octet t (p + (j + 2)) → 0 < a → a ≡ nameOctetAt t p j → all (followed t p) j ≡ true → all (followed t p) (j + 1) ≡ true
+  unfolding followed
+  named-lower t p j a read h last before =
+      all-more (followed t p) j true (sym (lower-follows a h) ∙ ap₂ follows last (read ∙ next-octet t p j)) before refl
+
+module _ (t : List ℕ) (p j a b : ℕ) (u : Bool) (last : a ≡ nameOctetAt t p j) (read : b ≡ octet t (p + (j + 2))) (told : u ≡ follows a b) where
+  pub named-next : b ≡ nameOctetAt t p (j + 1)
+  named-next = read ∙ next-octet t p j
 
   pair : u ≡ followed t p j
   unfolding followed
-  pair = told ∙ ap₂ follows last spelt-next
+  pair = told ∙ ap₂ follows last named-next
 
-  pub spelt-bad : j < tableLimits .name - 1 → not u ≡ true → false ≡ all (followed t p) (tableLimits .name - 1)
-  spelt-bad h n = all-bad (followed t p) j u pair (tableLimits .name - 1) h n
+  pub named-bad : j < tableLimits .name - 1 → not u ≡ true → false ≡ all (followed t p) (tableLimits .name - 1)
+  named-bad h n = all-bad (followed t p) j u pair (tableLimits .name - 1) h n
 
   module _ (before : all (followed t p) j ≡ true) (n : not u ≡ false) where
-    pub spelt-more : all (followed t p) (j + 1) ≡ true
-    spelt-more = all-more (followed t p) j u pair before n
+    pub named-more : all (followed t p) (j + 1) ≡ true
+    named-more = all-more (followed t p) j u pair before n
 
-    pub spelt-fill : (c : List ℕ) (r : Bool) → b ≡ 0 → c ≡ part row (j + 2) (tableLimits .name - 1 - j) → r ≡ every isZero c → r ≡ all (followed t p) (tableLimits .name - 1)
-    spelt-fill c r z e q =
-        q ∙ ap (every isZero) (fields-are t row p rest (j + 2) (tableLimits .name - 1 - j) c e) ∙ fill-is t p (tableLimits .name - 1) j spelt-more (sym spelt-next ∙ z)
+    named-rest : b ≡ 0 → every isZero (part t (p + (j + 2)) (tableLimits .name - 1 - j)) ≡ all (followed t p) (tableLimits .name - 1)
+    named-rest z = fill-is t p (tableLimits .name - 1) j named-more (sym named-next ∙ z)
+
+    pub named-fill : (r : Bool) → b ≡ 0 → r ≡ every isZero (part t (p + 1 + (j + 1)) (tableLimits .name - (j + 1))) → r ≡ all (followed t p) (tableLimits .name - 1)
+    named-fill r z q =
+        let place : p + 1 + (j + 1) ≡ p + (j + 2) = omega arith in
+        let left : tableLimits .name - (j + 1) ≡ tableLimits .name - 1 - j = omega arith in
+        q ∙ ap₂ (λ (x y : ℕ). every isZero (part t x y)) place left ∙ named-rest z
 
 module _ (t : List ℕ) (p o : ℕ) (low : Bool) (read : o ≡ octet t (p + 1)) (told : low ≡ isLower o) where
   pub name-high : not low ≡ true → false ≡ nameFormed (tableLimits .name) t p
@@ -194,21 +243,25 @@ module _ (t : List ℕ) (p o : ℕ) (low : Bool) (read : o ≡ octet t (p + 1)) 
     unfolding nameFormed
     name-hyphen q = rw (← read, sym told ∙ not-false low h, ← last, eq-eqb l 45 q)
 
-    pub name-spelt : (r : Bool) → (l ≡ 45 → ⊥) → r ≡ all (followed t p) (tableLimits .name - 1) → r ≡ nameFormed (tableLimits .name) t p
+    name-spelt : (r : Bool) → (l ≡ 45 → ⊥) → r ≡ all (followed t p) (tableLimits .name - 1) → r ≡ nameFormed (tableLimits .name) t p
     unfolding nameFormed
     name-spelt r q e = rw (← read, sym told ∙ not-false low h, ← last, ne-eqb l 45 q) e
 
-pub zeros-are : (c : List ℕ) (most : ℕ) → most ≡ highest c → eqb most 0 ≡ every isZero c
-zeros-are c most e = ap (λ (b : ℕ). eqb b 0) e ∙ highest-nought c
+pub lower-begins : (t : List ℕ) (p : ℕ) (low : Bool) → low ≡ isLower (octet t (p + 1)) → not low ≡ false → 0 < octet t (p + 1)
+lower-begins t p low told h = lower-some (octet t (p + 1)) low told (not-false low h)
+
+pub name-whole : (t : List ℕ) (p o : ℕ) (low r : Bool) → o ≡ octet t (p + 1) → low ≡ isLower o → not low ≡ false → (octet t (p + tableLimits .name) ≡ 45 → ⊥)
+    → r ≡ all (followed t p) (tableLimits .name - 1) → r ≡ nameFormed (tableLimits .name) t p
+name-whole t p o low r read told h q e = name-spelt t p o low read told (octet t (p + tableLimits .name)) h refl r q e
 
 module _ (t : List ℕ) (p o n : ℕ) (read : o ≡ octet t (p + 30)) (wide : n ≡ o) where
   pub filled-long : 8 < n → false ≡ defaultFilled t p
   unfolding defaultFilled
   filled-long h = rw (← read, ← wide, lt-leb n 8 h)
 
-  pub filled-is : (c : List ℕ) (r : Bool) → n ≤ 8 → c ≡ part t (p + (31 + n)) (8 - n) → r ≡ every isZero c → r ≡ defaultFilled t p
+  pub filled-here : (r : Bool) → n ≤ 8 → r ≡ every isZero (part t (p + 31 + n) (8 - n)) → r ≡ defaultFilled t p
   unfolding defaultFilled
-  filled-is c r h e q = rw (← read, ← wide, le-leb n 8 h) (q ∙ ap (every isZero) e)
+  filled-here r h q = let place : p + 31 + n ≡ p + (31 + n) = omega arith in rw (← read, ← wide, le-leb n 8 h) (q ∙ ap (λ (x : ℕ). every isZero (part t x (8 - n))) place)
 
 module _ (t : List ℕ) (p : ℕ) (r : Bool) (named : r ≡ nameFormed (tableLimits .name) t p) where
   pub member-name : not r ≡ true → false ≡ memberFormed (tableLimits .name) t p
@@ -232,11 +285,3 @@ module _ (t : List ℕ) (p : ℕ) (r : Bool) (named : r ≡ nameFormed (tableLim
       pub member-filled : (w : Bool) → c ≤ 2 → w ≡ defaultFilled t p → w ≡ memberFormed (tableLimits .name) t p
       unfolding memberFormed presenceFormed
       member-filled w l k = rw (sym named ∙ not-false r h, sym tag ∙ not-false u g, ← q, le-leb c 2 l) k
-
-pub row-member : (most : ℕ) (t : List ℕ) (p k : ℕ) (r : Bool) → k ≡ octet t p → k ≡ 16 → r ≡ memberFormed (tableLimits .name) t p → r ≡ rowFormed most 24 t p
-unfolding rowFormed
-row-member most t p k r e f q = rw (← e, eq-eqb k 16 f) q
-
-pub row-type : (most : ℕ) (t : List ℕ) (p k : ℕ) (r : Bool) → k ≡ octet t p → (k ≡ 16 → ⊥) → r ≡ countFormed most t p → r ≡ rowFormed most 24 t p
-unfolding rowFormed
-row-type most t p k r e f q = rw (← e, ne-eqb k 16 f) q

@@ -7,7 +7,7 @@ use Rattle.octets.specs.Pick.{pick, both, either, no, all}
 use Rattle.octets.specs.Octets.{part, every}
 use Rattle.octets.specs.Text.{within, isLower, mayFollow, mayBeLast}
 use Rattle.der.specs.Kind as kind
-use Rattle.rows.specs.Row.{kindAt, countAt, nameOctetAt, modeAt, numberAt, presenceAt, defaultLengthAt}
+use Rattle.rows.specs.Row.{nameWidth, kindAt, countAt, nameOctetAt, modeAt, numberAt, presenceAt, defaultLengthAt}
 
 -- members from 0, alternatives from 1, up to the limit
 unfoldable pub countFormed : ℕ → List ℕ → ℕ → Bool
@@ -47,7 +47,7 @@ abbrev pub isZero : ℕ → Bool
 isZero b = eqb b 0
 
 unfoldable pub defaultFilled : List ℕ → ℕ → Bool
-defaultFilled t p = both (leb (defaultLengthAt t p) 8) (every isZero (part t (p + (31 + defaultLengthAt t p)) (8 - defaultLengthAt t p)))
+defaultFilled t p = both (leb (defaultLengthAt t p) 8) (every isZero (part t (p + (nameWidth + 7 + defaultLengthAt t p)) (8 - defaultLengthAt t p)))
 
 -- a member's body, with a name's field of so many octets
 unfoldable pub memberFormed : ℕ → List ℕ → ℕ → Bool

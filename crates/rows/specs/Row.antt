@@ -23,32 +23,43 @@ countAt t p = octet t (p + 1)
 abbrev pub elementAt : List ℕ → ℕ → ℕ
 elementAt t p = two t (p + 1)
 
--- of a member: its name, a name's octet, type row, tag mode, context tag number, presence, default length, default contents
+-- of a member: "name (24, filled with zeros)", then type row, tag mode, context tag number, presence, default length, default contents (8)
+abbrev pub nameWidth : ℕ
+nameWidth = 24
+
 abbrev pub nameAt : List ℕ → ℕ → List ℕ
-nameAt t p = part t (p + 1) 24
+nameAt t p = part t (p + 1) nameWidth
 
 abbrev pub nameOctetAt : List ℕ → ℕ → ℕ → ℕ
 nameOctetAt t p j = octet t (p + (1 + j))
 
 abbrev pub typeRowAt : List ℕ → ℕ → ℕ
-typeRowAt t p = two t (p + 25)
+typeRowAt t p = two t (p + (nameWidth + 1))
 
 abbrev pub modeAt : List ℕ → ℕ → ℕ
-modeAt t p = octet t (p + 27)
+modeAt t p = octet t (p + (nameWidth + 3))
 
 abbrev pub numberAt : List ℕ → ℕ → ℕ
-numberAt t p = octet t (p + 28)
+numberAt t p = octet t (p + (nameWidth + 4))
 
 abbrev pub presenceAt : List ℕ → ℕ → ℕ
-presenceAt t p = octet t (p + 29)
+presenceAt t p = octet t (p + (nameWidth + 5))
 
 abbrev pub defaultLengthAt : List ℕ → ℕ → ℕ
-defaultLengthAt t p = octet t (p + 30)
+defaultLengthAt t p = octet t (p + (nameWidth + 6))
 
 abbrev pub defaultAt : List ℕ → ℕ → List ℕ
-defaultAt t p = part t (p + 31) (defaultLengthAt t p)
+defaultAt t p = part t (p + (nameWidth + 7)) (defaultLengthAt t p)
+
+-- the octets of a member row
+abbrev pub memberSize : ℕ
+memberSize = nameWidth + 15
 
 -- ---- the rows
+-- kinds of types: BOOLEAN to SET OF
+unfoldable pub isTypeKind : ℕ → Bool
+isTypeKind k = within kind.boolean kind.setOf k
+
 -- kinds with members, and kinds with an element
 unfoldable pub isGroup : ℕ → Bool
 isGroup k = either (eqb k kind.sequence) (eqb k kind.choice)
@@ -62,7 +73,7 @@ rowSize k =
     pick (within kind.boolean kind.generalizedTime k) 1
     (pick (isGroup k) 2
     (pick (isList k) 3
-    (pick (eqb k kind.member) 39
+    (pick (eqb k kind.member) memberSize
     0)))
 
 -- the rows from a place on: whole ones, at most n of them
@@ -88,6 +99,9 @@ rows most t = orNone (rowsFrom most t 0)
 abbrev pub rowAt : List ℕ → ℕ → ℕ
 rowAt s i = getD s i 0
 
--- how many members stand after the row at p
+-- rows that follow a row of a kind: their kind (0 where none follow), and how many follow the row at p
+unfoldable pub followerKind : ℕ → ℕ
+followerKind k = pick (isGroup k) kind.member 0
+
 unfoldable pub membersAt : List ℕ → ℕ → ℕ
 membersAt t p = pick (isGroup (kindAt t p)) (countAt t p) 0

@@ -1,12 +1,14 @@
 // The rows of a type table: where they start, their parts, and what their bodies are like. Reads past the end give 0.
 use der::Kind;
 ghost use mathlib.Core.Path.{_≡_};
-ghost use Prim.Native.Nat.{_≤_, _<_, _+_, _-_};
-ghost use lib.ListN.{length, take, drop};
+ghost use Prim.Native.Nat.{_≤_, _<_, _+_, _-_, _*_};
+ghost use lib.ListN.{length, drop};
 ghost use Rattle.octets.specs.Pick.{all};
-ghost use Rattle.octets.specs.Octets.{octet, two, part, every};
+ghost use Rattle.octets.specs.Octets.{octet, two, part, every, same};
 ghost use Rattle.rows.specs.Row as row;
 ghost use Rattle.rows.specs.Body as body;
+ghost use Rattle.rows.specs.inner.Numbers.{leastFirst};
+ghost use Rattle.rows.specs.inner.Sizes.{typeSize, WholeMember};
 ghost use Rattle.rows.specs.Limits.{tableFits};
 ghost use Rattle.rows.specs.Paper.{tableLimits};
 
@@ -28,6 +30,9 @@ impl Table {
 
     // A name's octets, and the width of its field.
     pub const MAX_NAME: usize = 24;
+
+    // The octets of a member row.
+    pub const MEMBER_BYTES: usize = 39;
 
     pub fn of(rows: usize) -> Self
         ensures { λ r. ⌜ r .rows ≡ rows ⌝ }
@@ -148,7 +153,58 @@ pub fn default_at(t: &[u8], p: usize) -> &[u8]
     fields(t, p, 31, octets::wide(default_length_at(t, p)))
 }
 
+// ---- the parts of the member row at p, where it is whole
+pub fn member_mode(t: &[u8], p: usize) -> u8
+    requires { ⌜ WholeMember (now t) p ⌝ }
+    ensures { λ r. ⌜ r ≡ row.modeAt (now (t .entry)) p ⌝ }
+{
+    t[p + 27]
+}
+
+pub fn member_number(t: &[u8], p: usize) -> u8
+    requires { ⌜ WholeMember (now t) p ⌝ }
+    ensures { λ r. ⌜ r ≡ row.numberAt (now (t .entry)) p ⌝ }
+{
+    t[p + 28]
+}
+
+pub fn member_presence(t: &[u8], p: usize) -> u8
+    requires { ⌜ WholeMember (now t) p ⌝ }
+    ensures { λ r. ⌜ r ≡ row.presenceAt (now (t .entry)) p ⌝ }
+{
+    t[p + 29]
+}
+
+pub fn member_default_length(t: &[u8], p: usize) -> u8
+    requires { ⌜ WholeMember (now t) p ⌝ }
+    ensures { λ r. ⌜ r ≡ row.defaultLengthAt (now (t .entry)) p ⌝ }
+{
+    t[p + 30]
+}
+
+pub fn member_type_row(t: &[u8], p: usize) -> usize
+    requires { ⌜ WholeMember (now t) p ⌝ }
+    ensures { λ r. ⌜ r ≡ row.typeRowAt (now (t .entry)) p ⌝ }
+{
+    octets::wide_two(t[p + 25], t[p + 26])
+}
+
+pub fn member_default(t: &[u8], p: usize) -> &[u8]
+    requires { ⌜ WholeMember (now t) p ⌝ }
+    ensures { λ r. ⌜ now r ≡ row.defaultAt (now (t .entry)) p ⌝ }
+{
+    let start = p + 31;
+    let end = start + octets::wide(member_default_length(t, p));
+    &t[start..end]
+}
+
 // ---- the rows
+pub fn is_type_kind(kind: u8) -> bool
+    ensures { λ r. ⌜ r ≡ row.isTypeKind kind ⌝ }
+{
+    octets::within(Kind::BOOLEAN, Kind::SET_OF, kind)
+}
+
 pub fn is_group(kind: u8) -> bool
     ensures { λ r. ⌜ r ≡ row.isGroup kind ⌝ }
 {
@@ -180,36 +236,9 @@ fn row_size(kind: u8) -> usize
         return 3;
     }
     if kind == Kind::MEMBER {
-        return 39;
+        return Table::MEMBER_BYTES;
     }
     0
-}
-
-// Writes the places of a table's rows, and answers how many there are; none where it isn't a table of whole rows within the limit.
-pub fn scan(t: &[u8], s: &mut [usize]) -> usize
-    requires { ⌜ length (now s) ≡ tableLimits .rows ⌝ }
-    ensures count { λ r. ⌜ r ≡ length (row.rows (tableLimits .rows) (now (t .entry))) ⌝ }
-    ensures places { λ r. ⌜ take r (now (s .exit)) ≡ row.rows (tableLimits .rows) (now (t .entry)) ⌝ }
-    ensures few { λ r. ⌜ r ≤ tableLimits .rows ⌝ }
-{
-    let mut at = 0;
-    let mut n = 0;
-    while at < t.len() {
-        if n == Table::MAX_ROWS {
-            return 0;
-        }
-        let size = row_size(t[at]);
-        if size == 0 {
-            return 0;
-        }
-        if t.len() - at < size {
-            return 0;
-        }
-        s[n] = at;
-        n += 1;
-        at += size;
-    }
-    n
 }
 
 // How many members stand after a row.
@@ -248,40 +277,6 @@ fn follows(a: u8, b: u8) -> bool
     octets::may_follow(a, b)
 }
 
-// Whether each octet of a name may follow the one before it. Where the fill starts, all that is left of the name has to be fill.
-fn name_spelt(t: &[u8], p: usize) -> bool
-    ensures { λ r. ⌜ r ≡ all (body.followed (now (t .entry)) p) (tableLimits .name - 1) ⌝ }
-{
-    let row = from(t, p);
-    let mut j = 0;
-    let mut a = octets::octet(row, 1);
-    while j < Table::MAX_NAME - 1 {
-        let b = octets::octet(row, j + 2);
-        if !follows(a, b) {
-            return false;
-        }
-        if b == 0 {
-            let left = Table::MAX_NAME - 1 - j;
-            return all_zero(octets::part(row, j + 2, left));
-        }
-        a = b;
-        j += 1;
-    }
-    true
-}
-
-fn name_formed(t: &[u8], p: usize) -> bool
-    ensures { λ r. ⌜ r ≡ body.nameFormed (tableLimits .name) (now (t .entry)) p ⌝ }
-{
-    if !octets::is_lower(field(t, p, 1)) {
-        return false;
-    }
-    if field(t, p, Table::MAX_NAME) == 45 {
-        return false;
-    }
-    name_spelt(t, p)
-}
-
 fn tag_formed(mode: u8, number: u8) -> bool
     ensures { λ r. ⌜ r ≡ body.taggingFormed mode number ⌝ }
 {
@@ -297,43 +292,155 @@ fn tag_formed(mode: u8, number: u8) -> bool
     true
 }
 
-fn all_zero(c: &[u8]) -> bool
-    ensures { λ r. ⌜ r ≡ every body.isZero (now (c .entry)) ⌝ }
+// ---- eight octets as one number, the least first
+fn four(a: u8, b: u8, c: u8, d: u8) -> u64
+    ensures value { λ r. ⌜ r ≡ a + (b + (c + d * 256) * 256) * 256 ⌝ }
+    ensures small { λ r. ⌜ r < 4294967296 ⌝ }
 {
-    octets::highest(c) == 0
+    octets::wide64(a)
+        + octets::wide64(b) * 256
+        + octets::wide64(c) * 65536
+        + octets::wide64(d) * 16777216
+}
+
+fn eight(t: &[u8], p: usize) -> u64
+    requires { ⌜ p + 8 ≤ length (now t) ⌝ }
+    ensures { λ r. ⌜ r ≡ leastFirst (part (now (t .entry)) p 8) ⌝ }
+{
+    let low = four(t[p], t[p + 1], t[p + 2], t[p + 3]);
+    let high = four(t[p + 4], t[p + 5], t[p + 6], t[p + 7]);
+    low + high * 4294967296
+}
+
+// Whether the eight octets from one place on are those from another on.
+pub fn same_eight(t: &[u8], p: usize, q: usize) -> bool
+    requires one { ⌜ p + 8 ≤ length (now t) ⌝ }
+    requires other { ⌜ q + 8 ≤ length (now t) ⌝ }
+    ensures { λ r. ⌜ r ≡ same (part (now (t .entry)) p 8) (part (now (t .entry)) q 8) ⌝ }
+{
+    eight(t, p) == eight(t, q)
+}
+
+// Whether a field of 8, 16, 24 octets at p is filled with zeros from its octet n on.
+fn filled_8(t: &[u8], p: usize, n: usize) -> bool
+    requires whole { ⌜ p + 8 ≤ length (now t) ⌝ }
+    requires within { ⌜ n ≤ 8 ⌝ }
+    ensures { λ r. ⌜ r ≡ every body.isZero (part (now (t .entry)) (p + n) (8 - n)) ⌝ }
+{
+    if n == 8 {
+        return true;
+    }
+    eight(t, p) >> (n * 8) == 0
+}
+
+fn filled_16(t: &[u8], p: usize, n: usize) -> bool
+    requires whole { ⌜ p + 16 ≤ length (now t) ⌝ }
+    requires within { ⌜ n ≤ 16 ⌝ }
+    ensures { λ r. ⌜ r ≡ every body.isZero (part (now (t .entry)) (p + n) (16 - n)) ⌝ }
+{
+    if 8 <= n {
+        return filled_8(t, p + 8, n - 8);
+    }
+    if !filled_8(t, p, n) {
+        return false;
+    }
+    filled_8(t, p + 8, 0)
+}
+
+fn filled_24(t: &[u8], p: usize, n: usize) -> bool
+    requires whole { ⌜ p + 24 ≤ length (now t) ⌝ }
+    requires within { ⌜ n ≤ 24 ⌝ }
+    ensures { λ r. ⌜ r ≡ every body.isZero (part (now (t .entry)) (p + n) (24 - n)) ⌝ }
+{
+    if 8 <= n {
+        return filled_16(t, p + 8, n - 8);
+    }
+    if !filled_8(t, p, n) {
+        return false;
+    }
+    filled_16(t, p + 8, 0)
+}
+
+// ---- the body of a member row that is whole
+// Whether each octet of a name may follow the one before it; a lowercase letter may follow any. Where the fill starts, all that is left has to be fill.
+fn name_spelt(t: &[u8], p: usize) -> bool
+    requires whole { ⌜ p + row.memberSize ≤ length (now t) ⌝ }
+    requires begins { ⌜ 0 < octet (now t) (p + 1) ⌝ }
+    ensures { λ r. ⌜ r ≡ all (body.followed (now (t .entry)) p) (tableLimits .name - 1) ⌝ }
+{
+    let mut j = 0;
+    let mut a = t[p + 1];
+    while j < Table::MAX_NAME - 1 {
+        let b = t[p + (j + 2)];
+        if octets::is_lower(b) {
+            a = b;
+            j += 1;
+        } else {
+            if !follows(a, b) {
+                return false;
+            }
+            if b == 0 {
+                return filled_24(t, p + 1, j + 1);
+            }
+            a = b;
+            j += 1;
+        }
+    }
+    true
+}
+
+fn name_formed(t: &[u8], p: usize) -> bool
+    requires { ⌜ p + row.memberSize ≤ length (now t) ⌝ }
+    ensures { λ r. ⌜ r ≡ body.nameFormed (tableLimits .name) (now (t .entry)) p ⌝ }
+{
+    if !octets::is_lower(t[p + 1]) {
+        return false;
+    }
+    if t[p + Table::MAX_NAME] == 45 {
+        return false;
+    }
+    name_spelt(t, p)
 }
 
 fn default_filled(t: &[u8], p: usize) -> bool
+    requires { ⌜ p + row.memberSize ≤ length (now t) ⌝ }
     ensures { λ r. ⌜ r ≡ body.defaultFilled (now (t .entry)) p ⌝ }
 {
-    let n = octets::wide(default_length_at(t, p));
+    let n = octets::wide(t[p + 30]);
     if 8 < n {
         return false;
     }
-    all_zero(fields(t, p, 31 + n, 8 - n))
+    filled_8(t, p + 31, n)
 }
 
-fn member_formed(t: &[u8], p: usize) -> bool
+pub fn member_formed(t: &[u8], p: usize) -> bool
+    requires { ⌜ p + row.memberSize ≤ length (now t) ⌝ }
     ensures { λ r. ⌜ r ≡ body.memberFormed (tableLimits .name) (now (t .entry)) p ⌝ }
 {
     if !name_formed(t, p) {
         return false;
     }
-    if !tag_formed(mode_at(t, p), number_at(t, p)) {
+    if !tag_formed(t[p + 27], t[p + 28]) {
         return false;
     }
-    if 2 < presence_at(t, p) {
+    if 2 < t[p + 29] {
         return false;
     }
     default_filled(t, p)
 }
 
-// Whether a row's body is as the type table has it.
-pub fn row_formed(t: &[u8], p: usize) -> bool
-    ensures { λ r. ⌜ r ≡ body.rowFormed (tableLimits .members) (tableLimits .name) (now (t .entry)) p ⌝ }
+// ---- the size of a type row that is whole and whose body is as the type table has it; 0 where it isn't
+pub fn type_size(t: &[u8], p: usize) -> usize
+    requires { ⌜ p < length (now t) ⌝ }
+    ensures size { λ r. ⌜ r ≡ typeSize (tableLimits .members) (now (t .entry)) p ⌝ }
+    ensures inside { λ r. ⌜ p + r ≤ length (now (t .entry)) ⌝ }
 {
-    if kind_at(t, p) == Kind::MEMBER {
-        return member_formed(t, p);
+    let size = row_size(t[p]);
+    if t.len() - p < size {
+        return 0;
     }
-    count_formed(t, p)
+    if !count_formed(t, p) {
+        return 0;
+    }
+    size
 }

@@ -79,7 +79,7 @@ module _ (l : Limits) (t : List ℕ) (ok : admitted l t ≡ true) where
 
     -- the members of a row follow it directly
     pub member-stands : (j : ℕ) → j < membersAt t (rowAt s i) → (i + 1 + j < length s) × (kindAt t (memberPlace s i j) ≡ 16)
-    member-stands j h = member-follows t s points stands i here j h
+    member-stands j h = member-follows t s stands i here j h
 
     pub names-differ : namesDiffer t s i ≡ true
     unfolding membersAgree

@@ -1,32 +1,22 @@
--- The pass that collects tags computes the definition's sets.
+-- Sets of tags that are gathered from a row's members are the definition's.
 use mathlib.Core.Path.{_≡_, refl, sym, ap, ap₂, _∙_}
-use mathlib.Core.Bool.{Bool, true, false, not, false≢true}
-use mathlib.Core.Logic.{⊎-elim}
+use mathlib.Core.Bool.{Bool, true, false, false≢true}
 use mathlib.Core.List.{List}
-use Prim.Native.Nat.{ℕ, zero, suc, _≤_, _<_, _+_, _-_, _^_}
+use Prim.Native.Nat.{ℕ, zero, suc, _≤_, _<_, _+_, _^_}
 use native.Mathlib.Omega.{arith}
-use native.Mathlib.Nat.{eq-or-lt-of-le}
-use borrow.Author.Tests.{not-true, not-false, ltb-true, ltb-false, eqb-true, ne-eqb}
-use lib.ListN.{length, set, length-set}
-use lib.Seq.{getD-set-same, getD-set-other}
+use borrow.Author.Tests.{ltb-true, ltb-false, eqb-true, eq-eqb, ne-eqb}
 use lib.Dec.{ltb, eqb}
 use lib.Pow.{pow-lt}
-use lib.Bits.{or-lt}
+use lib.Bits.{bitAnd, bitOr, or-lt, and-le-l}
 use Rattle.octets.specs.Pick.{pick, both, either, no}
-use Rattle.octets.proofs.Laws.{all-at, all-is, all-not, all-cong}
+use Rattle.octets.proofs.Laws.{all-cong}
 use Rattle.der.specs.Tag.{context, universal}
 use Rattle.der.proofs.Laws.{universal-most}
-use Rattle.rows.specs.Row.{kindAt, modeAt, numberAt, presenceAt, defaultAt, elementAt, rowAt, membersAt, isGroup, isList}
-use Rattle.groups.specs.Clauses.{everyRow, pointsLater, membersStand, memberPlace, mandatoryAt, chainFits}
-use Rattle.groups.proofs.LaterSteps.{is-later}
-use Rattle.table.specs.Admitted.{tagsDiffer}
-use Rattle.groups.specs.inner.Work.{memberType, Later}
-use Rattle.table.specs.Types.{untagged, explicit, implicit, mandatory, optional, default, Member, Ty, basic, sequence, choice, listOf, Members, taggingOf, presenceOf, memberOf, membersFrom, typed, typeFrom}
+use Rattle.rows.specs.Row.{kindAt, modeAt, numberAt, presenceAt, defaultAt, typeRowAt, rowAt, membersAt, isList}
+use Rattle.table.specs.Types.{untagged, explicit, implicit, mandatory, optional, default, Member, Ty, basic, sequence, choice, listOf, Members, taggingOf, presenceOf, memberOf, membersFrom, typeFrom}
 use Rattle.table.specs.Begins.{asTagged, begins, someBegins, memberBegins, isMandatory, apartAt, apart, apartFromAll, alternativesDiffer, apartInRun, runsDiffer, tagsApart}
-use Rattle.table.specs.inner.Work.{bitOf, contextBit, memberMask, groupFrom, rowMask, apartMask, endsRun, runFrom, newMask, differFrom, masksDiffer, Masked}
-use Rattle.table.proofs.TypeLaws.{member-fits}
-use Rattle.table.proofs.BitSets.{bit-none, bit-or, bit-one, sets-apart}
-use Rattle.rows.specs.Paper.{tableLimits}
+use Rattle.table.specs.inner.Work.{bitOf, contextBit, memberSet, apartFrom, unionFrom, never}
+use Rattle.table.proofs.BitSets.{bit-none, bit-or, bit-one, sets-apart, all-both}
 
 pick-bit : (x : Bool) (g a b : ℕ) (c d : Bool) → (x ≡ true → bitOf a g ≡ c) → (x ≡ false → bitOf b g ≡ d) → bitOf (pick x a b) g ≡ pick x c d
 pick-bit true g a b c d p q = p refl
@@ -67,242 +57,236 @@ mandatory-as presence c = go (eqb presence 0) (eqb presence 1)
     go false true = refl
     go false false = refl
 
--- member a of row i, and its tags, where f gives a row's type
-abbrev memberAt : List ℕ → List ℕ → ℕ → ℕ → Member
-memberAt t s i a = memberOf t (i + 1 + a) (memberPlace s i a)
+pub presence-as : (t : List ℕ) (j p : ℕ) → isMandatory (memberOf t j p .presence) ≡ eqb (presenceAt t p) 0
+unfolding memberOf
+presence-as t j p = mandatory-as (presenceAt t p) (defaultAt t p)
 
-begins-as : (f : ℕ → Ty) (t s : List ℕ) (i a g : ℕ) → memberBegins (memberAt t s i a) (f (memberType t s i a)) g
-    ≡ pick (eqb (modeAt t (memberPlace s i a)) 0) (begins (f (memberType t s i a)) g) (eqb g (context (numberAt t (memberPlace s i a))))
-unfolding memberBegins memberOf
-begins-as f t s i a g = tagged-as (modeAt t (memberPlace s i a)) (numberAt t (memberPlace s i a)) g (begins (f (memberType t s i a)) g)
+-- a member's set, by the set of its type
+pub set-small : (m : ℕ → ℕ) (t : List ℕ) (p : ℕ) → m (typeRowAt t p) < 2 ^ 64 → memberSet m t p < 2 ^ 64
+unfolding memberSet
+set-small m t p h = pick-small (eqb (modeAt t p) 0) _ _ (2 ^ 64) (λ _. h) (λ _. context-small (numberAt t p))
 
-begins-is : (m : Member) (ty : Ty) (g : ℕ) → memberBegins m ty g ≡ asTagged (m .tagging) (begins ty g) g
-unfolding memberBegins
-begins-is m ty g = refl
+pub set-bits : (m : ℕ → ℕ) (ty : Ty) (t : List ℕ) (j p g : ℕ) → g < 64 → bitOf (m (typeRowAt t p)) g ≡ begins ty g → bitOf (memberSet m t p) g ≡ memberBegins (memberOf t j p) ty g
+unfolding memberSet memberBegins memberOf
+set-bits m ty t j p g b h =
+    pick-bit (eqb (modeAt t p) 0) g _ _ _ _ (λ _. h) (λ _. context-bits (numberAt t p) g b)
+    ∙ sym (tagged-as (modeAt t p) (numberAt t p) g (begins ty g))
 
-presence-as : (t s : List ℕ) (i a : ℕ) → isMandatory (memberAt t s i a .presence) ≡ mandatoryAt t s i a
-unfolding memberOf mandatoryAt
-presence-as t s i a = mandatory-as (presenceAt t (memberPlace s i a)) (defaultAt t (memberPlace s i a))
+-- ---- one gathered set in place of pairs
+-- x has nothing in common with the k sets from b on, up to the end of the run
+unfoldable clearFrom : (ℕ → ℕ) → (ℕ → Bool) → ℕ → ℕ → ℕ → Bool
+clearFrom f e x zero b = true
+clearFrom f e x (suc k) b = let r = clearFrom f e x k (b + 1) in both (eqb (bitAnd x (f b)) 0) (either (e b) r)
 
-group-small : (m t s : List ℕ) (i n : ℕ) → ((a : ℕ) → a < n → memberMask m t (memberPlace s i a) < 2 ^ 64) → (k a : ℕ) → a + k ≤ n → groupFrom m t s i k a < 2 ^ 64
-unfolding groupFrom
-group-small m t s i n small zero a h = omega arith
-group-small m t s i n small (suc k) a h =
-    let la : a < n = omega arith in
-    let q : a + 1 + k ≤ n = omega arith in
-    or-lt 64 _ _ (small a la) (group-small m t s i n small k (a + 1) q)
+-- each of the k sets from b on has nothing in common with those after it in its run
+unfoldable differFrom : (ℕ → ℕ) → (ℕ → Bool) → ℕ → ℕ → Bool
+differFrom f e zero b = true
+differFrom f e (suc k) b = let r = differFrom f e k (b + 1) in both (either (e b) (clearFrom f e (f b) k (b + 1))) r
 
--- ---- the members of row i, where each member's set is right
-module _ (m t s : List ℕ) (i n : ℕ) (f : ℕ → Ty)
-    (small : (a : ℕ) → a < n → memberMask m t (memberPlace s i a) < 2 ^ 64)
-    (right : (a : ℕ) → a < n → (g : ℕ) → g < 64 → bitOf (memberMask m t (memberPlace s i a)) g ≡ memberBegins (memberAt t s i a) (f (memberType t s i a)) g) where
-  apart-same : (a b : ℕ) → a < n → b < n → apartMask m t s i a b ≡ apart (memberAt t s i a) (f (memberType t s i a)) (memberAt t s i b) (f (memberType t s i b))
-  unfolding apartMask apart apartAt
-  apart-same a b la lb =
-      sets-apart 64 (memberMask m t (memberPlace s i a)) (memberMask m t (memberPlace s i b)) (small a la)
-      ∙ all-cong (λ g. no (both (bitOf (memberMask m t (memberPlace s i a)) g) (bitOf (memberMask m t (memberPlace s i b)) g)))
-      (apartAt (memberAt t s i a) (f (memberType t s i a)) (memberAt t s i b) (f (memberType t s i b))) 64
-      (λ g l. ap₂ (λ (x y : Bool). no (both x y)) (right a la g l) (right b lb g l))
+none-apart : (y : ℕ) → eqb (bitAnd 0 y) 0 ≡ true
+none-apart y = let a = and-le-l 0 y in eq-eqb (bitAnd 0 y) 0 (omega arith)
 
-  next-row : (b : ℕ) → i + 1 + b + 1 ≡ i + 1 + (b + 1)
-  next-row b = omega arith
+clear-none : (f : ℕ → ℕ) (e : ℕ → Bool) (k b : ℕ) → clearFrom f e 0 k b ≡ true
+unfolding clearFrom
+clear-none f e zero b = refl
+clear-none f e (suc k) b = rw (none-apart (f b), clear-none f e k (b + 1)) (go (e b))
+  where
+    go : (x : Bool) → either x true ≡ true
+    go true = refl
+    go false = refl
 
-  rest-of : (b k : ℕ) → membersFrom f t s (i + 1 + b + 1) k ≡ membersFrom f t s (i + 1 + (b + 1)) k
-  rest-of b k = ap (λ (x : ℕ). membersFrom f t s x k) (next-row b)
+or-apart : (x y z : ℕ) → x < 2 ^ 64 → y < 2 ^ 64 → eqb (bitAnd (bitOr x y) z) 0 ≡ both (eqb (bitAnd x z) 0) (eqb (bitAnd y z) 0)
+or-apart x y z hx hy =
+    sets-apart 64 (bitOr x y) z (or-lt 64 x y hx hy)
+    ∙ all-cong (λ g. no (both (bitOf (bitOr x y) g) (bitOf z g))) (λ g. both (no (both (bitOf x g) (bitOf z g))) (no (both (bitOf y g) (bitOf z g)))) 64
+    (λ g l. ap (λ (u : Bool). no (both u (bitOf z g))) (bit-or g x y) ∙ split (bitOf x g) (bitOf y g) (bitOf z g))
+    ∙ all-both (λ g. no (both (bitOf x g) (bitOf z g))) (λ g. no (both (bitOf y g) (bitOf z g))) 64
+    ∙ sym (ap₂ both (sets-apart 64 x z hx) (sets-apart 64 y z hy))
+  where
+    split : (a b c : Bool) → no (both (pick a true b) c) ≡ both (no (both a c)) (no (both b c))
+    split true true true = refl
+    split true true false = refl
+    split true false true = refl
+    split true false false = refl
+    split false true true = refl
+    split false true false = refl
+    split false false c = refl
 
-  group-bits : (g : ℕ) → g < 64 → (k a : ℕ) → a + k ≤ n → bitOf (groupFrom m t s i k a) g ≡ someBegins (membersFrom f t s (i + 1 + a) k) g
-  unfolding groupFrom membersFrom begins
-  group-bits g b zero a h = bit-none g
-  group-bits g b (suc k) a h =
-      let la : a < n = omega arith in
-      let q : a + 1 + k ≤ n = omega arith in
-      bit-or g (memberMask m t (memberPlace s i a)) (groupFrom m t s i k (a + 1))
-      ∙ ap₂ either (right a la g b ∙ begins-is (memberAt t s i a) (f (memberType t s i a)) g) (group-bits g b k (a + 1) q ∙ ap (λ (x : Members). someBegins x g) (sym (rest-of a k)))
+clear-or : (f : ℕ → ℕ) (e : ℕ → Bool) (x y : ℕ) → x < 2 ^ 64 → y < 2 ^ 64 → (k b : ℕ) → clearFrom f e (bitOr x y) k b ≡ both (clearFrom f e x k b) (clearFrom f e y k b)
+unfolding clearFrom
+clear-or f e x y hx hy zero b = refl
+clear-or f e x y hx hy (suc k) b =
+    ap₂ (λ (u v : Bool). both u (either (e b) v)) (or-apart x y (f b) hx hy) (clear-or f e x y hx hy k (b + 1))
+    ∙ crossed (eqb (bitAnd x (f b)) 0) (eqb (bitAnd y (f b)) 0) (e b) (clearFrom f e x k (b + 1)) (clearFrom f e y k (b + 1))
+  where
+    crossed : (a c z p q : Bool) → both (both a c) (either z (both p q)) ≡ both (both a (either z p)) (both c (either z q))
+    crossed true true true p q = refl
+    crossed true true false p q = refl
+    crossed true false true p q = refl
+    crossed true false false true q = refl
+    crossed true false false false q = refl
+    crossed false c z p q = refl
+
+gathered : (f : ℕ → ℕ) (e : ℕ → Bool) (hi : ℕ) (k b x : ℕ) → b + k ≤ hi → ((j : ℕ) → b ≤ j → j < hi → f j < 2 ^ 64) → x < 2 ^ 64
+    → apartFrom f e k b x ≡ both (clearFrom f e x k b) (differFrom f e k b)
+unfolding apartFrom clearFrom differFrom
+gathered f e hi zero b x l small h = refl
+gathered f e hi (suc k) b x l small h = go (λ y q. gathered f e hi k (b + 1) y (omega arith) (λ j a c. small j (omega arith) c) q) (e b)
+  where
+    here : f b < 2 ^ 64
+    here = small b (omega arith) (omega arith)
+
+    last : (a d : Bool) → both a (both true d) ≡ both (both a true) (both true d)
+    last true d = refl
+    last false d = refl
+
+    more : (a p q d : Bool) → both a (both (both p q) d) ≡ both (both a p) (both q d)
+    more true true q d = refl
+    more true false q d = refl
+    more false p q d = refl
+
+    go : ((y : ℕ) → y < 2 ^ 64 → apartFrom f e k (b + 1) y ≡ both (clearFrom f e y k (b + 1)) (differFrom f e k (b + 1)))
+        → (z : Bool) → both (eqb (bitAnd x (f b)) 0) (apartFrom f e k (b + 1) (pick z 0 (bitOr x (f b))))
+        ≡ both (both (eqb (bitAnd x (f b)) 0) (either z (clearFrom f e x k (b + 1)))) (both (either z (clearFrom f e (f b) k (b + 1))) (differFrom f e k (b + 1)))
+    go next true =
+        ap (both (eqb (bitAnd x (f b)) 0)) (next 0 (omega arith) ∙ ap (λ (u : Bool). both u (differFrom f e k (b + 1))) (clear-none f e k (b + 1)))
+        ∙ last (eqb (bitAnd x (f b)) 0) (differFrom f e k (b + 1))
+    go next false =
+        ap (both (eqb (bitAnd x (f b)) 0)) (next (bitOr x (f b)) (or-lt 64 x (f b) h here) ∙ ap (λ (u : Bool). both u (differFrom f e k (b + 1))) (clear-or f e x (f b) h here k (b + 1)))
+        ∙ more (eqb (bitAnd x (f b)) 0) (clearFrom f e x k (b + 1)) (clearFrom f e (f b) k (b + 1)) (differFrom f e k (b + 1))
+
+-- ---- the members in the rows lo to hi, where each one's set is right; ty gives a row's type
+module _ (t s : List ℕ) (lo hi : ℕ) (f : ℕ → ℕ) (ty : ℕ → Ty)
+    (small : (j : ℕ) → lo ≤ j → j < hi → f j < 2 ^ 64)
+    (right : (j : ℕ) → lo ≤ j → j < hi → (g : ℕ) → g < 64 → bitOf (f j) g ≡ memberBegins (memberOf t j (rowAt s j)) (ty (typeRowAt t (rowAt s j))) g) where
+  apart-same : (a b : ℕ) → lo ≤ a → a < hi → lo ≤ b → b < hi
+      → eqb (bitAnd (f a) (f b)) 0 ≡ apart (memberOf t a (rowAt s a)) (ty (typeRowAt t (rowAt s a))) (memberOf t b (rowAt s b)) (ty (typeRowAt t (rowAt s b)))
+  unfolding apart apartAt
+  apart-same a b la ha lb hb =
+      sets-apart 64 (f a) (f b) (small a la ha)
+      ∙ all-cong (λ g. no (both (bitOf (f a) g) (bitOf (f b) g)))
+      (apartAt (memberOf t a (rowAt s a)) (ty (typeRowAt t (rowAt s a))) (memberOf t b (rowAt s b)) (ty (typeRowAt t (rowAt s b)))) 64
+      (λ g l. ap₂ (λ (x y : Bool). no (both x y)) (right a la ha g l) (right b lb hb g l))
+
+  begins-is : (m : Member) (u : Ty) (g : ℕ) → memberBegins m u g ≡ asTagged (m .tagging) (begins u g) g
+  unfolding memberBegins
+  begins-is m u g = refl
+
+  pub union-bits : (g : ℕ) → g < 64 → (k b x : ℕ) → lo ≤ b → b + k ≤ hi → bitOf (unionFrom f k b x) g ≡ either (bitOf x g) (someBegins (membersFrom ty t s b k) g)
+  unfolding unionFrom membersFrom begins
+  union-bits g l zero b x h q = sym (go (bitOf x g))
+    where
+      go : (z : Bool) → either z false ≡ z
+      go true = refl
+      go false = refl
+  union-bits g l (suc k) b x h q =
+      let hb : b < hi = omega arith in
+      let r : b + 1 + k ≤ hi = omega arith in
+      let d : lo ≤ b + 1 = omega arith in
+      union-bits g l k (b + 1) (bitOr x (f b)) d r
+      ∙ ap (λ (u : Bool). either u (someBegins (membersFrom ty t s (b + 1) k) g)) (bit-or g x (f b) ∙ ap (either (bitOf x g)) (right b h hb g l ∙ begins-is (memberOf t b (rowAt s b)) (ty (typeRowAt t (rowAt s b))) g))
+      ∙ joined (bitOf x g) (asTagged (memberOf t b (rowAt s b) .tagging) (begins (ty (typeRowAt t (rowAt s b))) g) g) (someBegins (membersFrom ty t s (b + 1) k) g)
+    where
+      joined : (a c d : Bool) → either (either a c) d ≡ either a (either c d)
+      joined true c d = refl
+      joined false c d = refl
+
+  pub union-small : (k b x : ℕ) → lo ≤ b → b + k ≤ hi → x < 2 ^ 64 → unionFrom f k b x < 2 ^ 64
+  unfolding unionFrom
+  union-small zero b x l h q = q
+  union-small (suc k) b x l h q =
+      let hb : b < hi = omega arith in
+      let r : b + 1 + k ≤ hi = omega arith in
+      let d : lo ≤ b + 1 = omega arith in
+      union-small k (b + 1) (bitOr x (f b)) d r (or-lt 64 x (f b) q (small b l hb))
+
+  start : (e : ℕ → Bool) (n : ℕ) → lo + n ≤ hi → apartFrom f e n lo 0 ≡ differFrom f e n lo
+  start e n h = gathered f e hi n lo 0 h small (omega arith) ∙ ap (λ (u : Bool). both u (differFrom f e n lo)) (clear-none f e n lo)
 
   -- of a CHOICE
-  module _ (isChoice : kindAt t (rowAt s i) ≡ 13) where
-    no-end : (b : ℕ) → endsRun t s i b ≡ false
-    unfolding endsRun
-    no-end b = rw isChoice
+  clear-choice : (a : ℕ) → lo ≤ a → a < hi → (k b : ℕ) → lo ≤ b → b + k ≤ hi
+      → clearFrom f never (f a) k b ≡ apartFromAll (memberOf t a (rowAt s a)) (ty (typeRowAt t (rowAt s a))) (membersFrom ty t s b k)
+  unfolding clearFrom membersFrom apartFromAll
+  clear-choice a la ha zero b l h = refl
+  clear-choice a la ha (suc k) b l h =
+      let hb : b < hi = omega arith in
+      let r : b + 1 + k ≤ hi = omega arith in
+      let d : lo ≤ b + 1 = omega arith in
+      ap₂ both (apart-same a b la ha l hb) (clear-choice a la ha k (b + 1) d r)
 
-    run-choice : (a : ℕ) → a < n → (k b : ℕ) → b + k ≤ n → runFrom m t s i a k b ≡ apartFromAll (memberAt t s i a) (f (memberType t s i a)) (membersFrom f t s (i + 1 + b) k)
-    unfolding runFrom membersFrom apartFromAll
-    run-choice a la zero b h = refl
-    run-choice a la (suc k) b h =
-        let lb : b < n = omega arith in
-        let q : b + 1 + k ≤ n = omega arith in
-        rw (no-end b) (ap₂ both (apart-same a b la lb) (run-choice a la k (b + 1) q ∙ ap (apartFromAll (memberAt t s i a) (f (memberType t s i a))) (sym (rest-of b k))))
+  differ-choice : (k b : ℕ) → lo ≤ b → b + k ≤ hi → differFrom f never k b ≡ alternativesDiffer (membersFrom ty t s b k)
+  unfolding differFrom membersFrom alternativesDiffer
+  differ-choice zero b l h = refl
+  differ-choice (suc k) b l h =
+      let hb : b < hi = omega arith in
+      let r : b + 1 + k ≤ hi = omega arith in
+      let d : lo ≤ b + 1 = omega arith in
+      ap₂ both (clear-choice b l hb k (b + 1) d r) (differ-choice k (b + 1) d r)
 
-    differ-choice : (k a : ℕ) → a + k ≤ n → differFrom m t s i k a ≡ alternativesDiffer (membersFrom f t s (i + 1 + a) k)
-    unfolding differFrom newMask membersFrom alternativesDiffer
-    differ-choice zero a h = refl
-    differ-choice (suc k) a h =
-        let la : a < n = omega arith in
-        let q : a + 1 + k ≤ n = omega arith in
-        rw (no-end a) (ap₂ both (run-choice a la k (a + 1) q ∙ ap (apartFromAll (memberAt t s i a) (f (memberType t s i a))) (sym (rest-of a k)))
-        (differ-choice k (a + 1) q ∙ ap alternativesDiffer (sym (rest-of a k))))
+  pub apart-choice : (n : ℕ) → lo + n ≤ hi → apartFrom f never n lo 0 ≡ alternativesDiffer (membersFrom ty t s lo n)
+  apart-choice n h = start never n h ∙ differ-choice n lo (omega arith) h
 
   -- of a SEQUENCE
-  module _ (isSequence : kindAt t (rowAt s i) ≡ 12) where
-    end-as : (b : ℕ) → endsRun t s i b ≡ isMandatory (memberAt t s i b .presence)
-    unfolding endsRun
-    end-as b = rw isSequence (sym (presence-as t s i b))
+  module _ (e : ℕ → Bool) (ends : (j : ℕ) → lo ≤ j → j < hi → e j ≡ isMandatory (memberOf t j (rowAt s j) .presence)) where
+    clear-sequence : (a : ℕ) → lo ≤ a → a < hi → (k b : ℕ) → lo ≤ b → b + k ≤ hi
+        → clearFrom f e (f a) k b ≡ apartInRun (memberOf t a (rowAt s a)) (ty (typeRowAt t (rowAt s a))) (membersFrom ty t s b k)
+    unfolding clearFrom membersFrom apartInRun
+    clear-sequence a la ha zero b l h = refl
+    clear-sequence a la ha (suc k) b l h =
+        let hb : b < hi = omega arith in
+        let r : b + 1 + k ≤ hi = omega arith in
+        let d : lo ≤ b + 1 = omega arith in
+        ap₂ both (apart-same a b la ha l hb) (ap₂ either (ends b l hb) (clear-sequence a la ha k (b + 1) d r))
 
-    run-sequence : (a : ℕ) → a < n → (k b : ℕ) → b + k ≤ n → runFrom m t s i a k b ≡ apartInRun (memberAt t s i a) (f (memberType t s i a)) (membersFrom f t s (i + 1 + b) k)
-    unfolding runFrom membersFrom apartInRun
-    run-sequence a la zero b h = refl
-    run-sequence a la (suc k) b h =
-        let lb : b < n = omega arith in
-        let q : b + 1 + k ≤ n = omega arith in
-        ap₂ both (apart-same a b la lb)
-        (ap₂ either (end-as b) (run-sequence a la k (b + 1) q ∙ ap (apartInRun (memberAt t s i a) (f (memberType t s i a))) (sym (rest-of b k))))
+    differ-sequence : (k b : ℕ) → lo ≤ b → b + k ≤ hi → differFrom f e k b ≡ runsDiffer (membersFrom ty t s b k)
+    unfolding differFrom membersFrom runsDiffer
+    differ-sequence zero b l h = refl
+    differ-sequence (suc k) b l h =
+        let hb : b < hi = omega arith in
+        let r : b + 1 + k ≤ hi = omega arith in
+        let d : lo ≤ b + 1 = omega arith in
+        ap₂ both (ap₂ either (ends b l hb) (clear-sequence b l hb k (b + 1) d r)) (differ-sequence k (b + 1) d r)
 
-    differ-sequence : (k a : ℕ) → a + k ≤ n → differFrom m t s i k a ≡ runsDiffer (membersFrom f t s (i + 1 + a) k)
-    unfolding differFrom newMask membersFrom runsDiffer
-    differ-sequence zero a h = refl
-    differ-sequence (suc k) a h =
-        let la : a < n = omega arith in
-        let q : a + 1 + k ≤ n = omega arith in
-        ap₂ both (ap₂ either (end-as a) (run-sequence a la k (a + 1) q ∙ ap (apartInRun (memberAt t s i a) (f (memberType t s i a))) (sym (rest-of a k))))
-        (differ-sequence k (a + 1) q ∙ ap runsDiffer (sym (rest-of a k)))
+    pub apart-sequence : (n : ℕ) → lo + n ≤ hi → apartFrom f e n lo 0 ≡ runsDiffer (membersFrom ty t s lo n)
+    apart-sequence n h = start e n h ∙ differ-sequence n lo (omega arith) h
 
 -- ---- kinds
 pub universal-fits : (k u : ℕ) → u ≡ universal k → u < 64
 universal-fits k u e = let m = universal-most k in omega arith
 
-begins-typed : (k : ℕ) (e : Ty) (ms : Members) (g : ℕ) → eqb k 13 ≡ false → begins (typed k e ms) g ≡ eqb g (universal k)
-unfolding begins
-begins-typed k e ms g n = go (eqb k 12) refl (eqb k 13) n (isList k)
-  where
-    go : (x : Bool) → eqb k 12 ≡ x → (y : Bool) → y ≡ false → (z : Bool) → begins (pick x (sequence ms) (pick y (choice ms) (pick z (listOf k e) (basic k)))) g ≡ eqb g (universal k)
-    go true q y r z = ap (λ (u : ℕ). eqb g (universal u)) (sym (eqb-true k 12 q))
-    go false q true r z = absurd (false≢true (sym r))
-    go false q false r true = refl
-    go false q false r false = refl
+-- the set of a type with a universal tag
+pub one-small : (k : ℕ) → 2 ^ universal k < 2 ^ 64
+one-small k = pow-lt (universal-fits k (universal k) refl)
 
-begins-choice : (k : ℕ) (e : Ty) (ms : Members) (g : ℕ) → k ≡ 13 → begins (typed k e ms) g ≡ someBegins ms g
-unfolding begins
-begins-choice k e ms g q = rw q
-
--- a row that is no SEQUENCE or CHOICE has no members
-no-group : (k : ℕ) → eqb k 12 ≡ false → eqb k 13 ≡ false → isGroup k ≡ false
-unfolding isGroup
-no-group k e f = rw (e, f)
-
-none-members : (t : List ℕ) (p : ℕ) → isGroup (kindAt t p) ≡ false → membersAt t p ≡ 0
-unfolding membersAt
-none-members t p e = rw e
-
--- ---- the array m is right from row i on
-abbrev pub Masks : List ℕ → List ℕ → List ℕ → ℕ → Type 0
-Masks t s m i = (j : ℕ) → i ≤ j → j < length s → (rowAt m j < 2 ^ 64) × ((k : ℕ) → chainFits k t s j ≡ true → (g : ℕ) → g < 64 → bitOf (rowAt m j) g ≡ begins (typeFrom k t s j) g)
-
-module _ (t s m : List ℕ) (i : ℕ) (later : Later t s) (masks : Masks t s m (suc i)) (h : i < length s) where
-  member-small : (a : ℕ) → a < membersAt t (rowAt s i) → memberMask m t (memberPlace s i a) < 2 ^ 64
-  unfolding memberMask
-  member-small a l =
-      let w = later .of-member i h a l in
-      pick-small (eqb (modeAt t (memberPlace s i a)) 0) _ _ (2 ^ 64) (λ _. masks (memberType t s i a) (w .0) (w .1) .0) (λ _. context-small (numberAt t (memberPlace s i a)))
-
-  module _ (k : ℕ) (fits : chainFits (suc k) t s i ≡ true) where
-    member-bits : (a : ℕ) → a < membersAt t (rowAt s i) → (g : ℕ) → g < 64 → bitOf (memberMask m t (memberPlace s i a)) g ≡ memberBegins (memberAt t s i a) (typeFrom k t s (memberType t s i a)) g
-    unfolding memberMask
-    member-bits a l g b =
-        let w = later .of-member i h a l in
-        pick-bit (eqb (modeAt t (memberPlace s i a)) 0) g _ _ _ _ (λ _. masks (memberType t s i a) (w .0) (w .1) .1 k (member-fits t s i k fits a l) g b) (λ _. context-bits (numberAt t (memberPlace s i a)) g b)
-        ∙ sym (begins-as (typeFrom k t s) t s i a g)
-
-    row-bits : (g : ℕ) → g < 64 → bitOf (rowMask m t s i) g ≡ begins (typeFrom (suc k) t s i) g
-    unfolding rowMask typeFrom
-    row-bits g b = go (eqb (kindAt t (rowAt s i)) 13) refl
-      where
-        first : i + 1 + 0 ≡ i + 1
-        first = omega arith
-
-        go : (x : Bool) → eqb (kindAt t (rowAt s i)) 13 ≡ x
-            → bitOf (pick x (groupFrom m t s i (membersAt t (rowAt s i)) 0) (2 ^ universal (kindAt t (rowAt s i)))) g
-            ≡ begins (typed (kindAt t (rowAt s i)) (typeFrom k t s (elementAt t (rowAt s i))) (membersFrom (typeFrom k t s) t s (i + 1) (membersAt t (rowAt s i)))) g
-        go true e =
-            group-bits m t s i (membersAt t (rowAt s i)) (typeFrom k t s) member-small member-bits g b (membersAt t (rowAt s i)) 0 (omega arith)
-            ∙ ap (λ (x : ℕ). someBegins (membersFrom (typeFrom k t s) t s x (membersAt t (rowAt s i))) g) first
-            ∙ sym (begins-choice (kindAt t (rowAt s i)) _ _ g (eqb-true (kindAt t (rowAt s i)) 13 e))
-        go false e = bit-one g (universal (kindAt t (rowAt s i))) ∙ sym (begins-typed (kindAt t (rowAt s i)) _ _ g e)
-
-    pub differ-same : masksDiffer m t s i ≡ tagsApart (typeFrom (suc k) t s i)
-    unfolding masksDiffer typeFrom tagsApart differFrom
-    differ-same = go (eqb (kindAt t (rowAt s i)) 12) refl (eqb (kindAt t (rowAt s i)) 13) refl
-      where
-        first : i + 1 + 0 ≡ i + 1
-        first = omega arith
-
-        go : (x : Bool) → eqb (kindAt t (rowAt s i)) 12 ≡ x → (y : Bool) → eqb (kindAt t (rowAt s i)) 13 ≡ y
-            → differFrom m t s i (membersAt t (rowAt s i)) 0
-            ≡ tagsApart (pick x (sequence (membersFrom (typeFrom k t s) t s (i + 1) (membersAt t (rowAt s i)))) (pick y (choice (membersFrom (typeFrom k t s) t s (i + 1) (membersAt t (rowAt s i))))
-            (pick (isList (kindAt t (rowAt s i))) (listOf (kindAt t (rowAt s i)) (typeFrom k t s (elementAt t (rowAt s i)))) (basic (kindAt t (rowAt s i))))))
-        go true e y f =
-            differ-sequence m t s i (membersAt t (rowAt s i)) (typeFrom k t s) member-small member-bits (eqb-true (kindAt t (rowAt s i)) 12 e) (membersAt t (rowAt s i)) 0 (omega arith)
-            ∙ ap (λ (x : ℕ). runsDiffer (membersFrom (typeFrom k t s) t s x (membersAt t (rowAt s i)))) first
-        go false e true f =
-            differ-choice m t s i (membersAt t (rowAt s i)) (typeFrom k t s) member-small member-bits (eqb-true (kindAt t (rowAt s i)) 13 f) (membersAt t (rowAt s i)) 0 (omega arith)
-            ∙ ap (λ (x : ℕ). alternativesDiffer (membersFrom (typeFrom k t s) t s x (membersAt t (rowAt s i)))) first
-        go false e false f = ap (λ (x : ℕ). differFrom m t s i x 0) (none-members t (rowAt s i) (no-group (kindAt t (rowAt s i)) e f)) ∙ sym (other (isList (kindAt t (rowAt s i))))
-          where
-            other : (z : Bool) → tagsApart (pick z (listOf (kindAt t (rowAt s i)) (typeFrom k t s (elementAt t (rowAt s i)))) (basic (kindAt t (rowAt s i)))) ≡ true
-            other true = refl
-            other false = refl
-
-  row-small : rowMask m t s i < 2 ^ 64
-  unfolding rowMask
-  row-small = pick-small (eqb (kindAt t (rowAt s i)) 13) _ _ (2 ^ 64) (λ _. group-small m t s i (membersAt t (rowAt s i)) member-small (membersAt t (rowAt s i)) 0 (omega arith)) (λ _. pow-lt (universal-fits (kindAt t (rowAt s i)) _ refl))
-
-  -- for every depth that suffices
-  row-all : (k : ℕ) → chainFits k t s i ≡ true → (g : ℕ) → g < 64 → bitOf (rowMask m t s i) g ≡ begins (typeFrom k t s i) g
-  unfolding chainFits
-  row-all zero c g b = absurd (false≢true c)
-  row-all (suc k) c g b = row-bits k c g b
-
--- ---- the loop from the last row to the first
-abbrev pub Tags : List ℕ → List ℕ → List ℕ → ℕ → Type 0
-Tags t s m i = (i ≤ length s) × (length m ≡ tableLimits .rows) × Masks t s m i × ((j : ℕ) → i ≤ j → j < length s → tagsDiffer (tableLimits .chain) t s j ≡ true)
-
-pub tags-start : (t s m : List ℕ) → length m ≡ tableLimits .rows → Tags t s m (length s)
-tags-start t s m e = (omega arith, e, λ j h l. absurd (omega arith), λ j h l. absurd (omega arith))
-
-module _ (t s m : List ℕ) (i : ℕ) (r : Bool) (points : everyRow (pointsLater t s) s ≡ true) (stands : membersStand t s ≡ true) (chained : everyRow (chainFits (tableLimits .chain) t s) s ≡ true)
-    (v : Tags t s m i) (pos : 0 < i) (told : r ≡ masksDiffer m t s (i - 1)) where
-  later : Later t s
-  later = is-later t s points stands
-
-  below : i - 1 < length s
-  below = omega arith
-
-  masks-after : Masks t s m (suc (i - 1))
-  masks-after = let q : suc (i - 1) ≡ i = omega arith in rw q (v .2)
-
-  row-told : r ≡ tagsDiffer (tableLimits .chain) t s (i - 1)
-  unfolding tagsDiffer
-  row-told = told ∙ differ-same t s m (i - 1) later masks-after below 15 (all-at (chainFits (tableLimits .chain) t s) (length s) (i - 1) chained below)
-
-  pub tags-bad : not r ≡ true → false ≡ everyRow (tagsDiffer (tableLimits .chain) t s) s
-  tags-bad e = sym (all-not (tagsDiffer (tableLimits .chain) t s) (length s) (i - 1) below (sym row-told ∙ not-true r e))
-
-  pub tags-again : (w : ℕ) → not r ≡ false → length s ≤ tableLimits .rows → w ≡ rowMask m t s (i - 1) → Tags t s (set m (i - 1) w) (i - 1)
-  tags-again w e short told-mask = (omega arith, length-set m (i - 1) w ∙ v .1, λ j a b. ⊎-elim (here j) (there j b) (eq-or-lt-of-le a), λ j a b. ⊎-elim (λ q. rw (← q) (sym row-told ∙ not-false r e)) (λ l. v .3 j (omega arith) b) (eq-or-lt-of-le a))
+-- ---- the type of a row
+module _ (t s : List ℕ) (i k : ℕ) where
+  pub bits-one : (kindAt t (rowAt s i) ≡ 13 → ⊥) → (g : ℕ) → bitOf (2 ^ universal (kindAt t (rowAt s i))) g ≡ begins (typeFrom (suc k) t s i) g
+  unfolding begins typeFrom
+  bits-one n g = bit-one g (universal (kindAt t (rowAt s i))) ∙ sym (go (kindAt t (rowAt s i)) (eqb (kindAt t (rowAt s i)) 12) refl (eqb (kindAt t (rowAt s i)) 13) (ne-eqb (kindAt t (rowAt s i)) 13 n) (isList (kindAt t (rowAt s i))) _ _)
     where
-      inside : i - 1 < length m
-      inside = let q = v .1 in omega arith
+      go : (c : ℕ) (x : Bool) → eqb c 12 ≡ x → (y : Bool) → y ≡ false → (z : Bool) (e : Ty) (ms : Members)
+          → begins (pick x (sequence ms) (pick y (choice ms) (pick z (listOf c e) (basic c)))) g ≡ eqb g (universal c)
+      go c true q y r z e ms = ap (λ (u : ℕ). eqb g (universal u)) (sym (eqb-true c 12 q))
+      go c false q true r z e ms = absurd (false≢true (sym r))
+      go c false q false r true e ms = refl
+      go c false q false r false e ms = refl
 
-      here : (j : ℕ) → i - 1 ≡ j → (rowAt (set m (i - 1) w) j < 2 ^ 64) × ((k : ℕ) → chainFits k t s j ≡ true → (g : ℕ) → g < 64 → bitOf (rowAt (set m (i - 1) w) j) g ≡ begins (typeFrom k t s j) g)
-      here j q = rw (← q, getD-set-same m (i - 1) w 0 inside, told-mask) (row-small t s m (i - 1) later masks-after below, row-all t s m (i - 1) later masks-after below)
+  pub bits-choice : kindAt t (rowAt s i) ≡ 13 → (g : ℕ) → begins (typeFrom (suc k) t s i) g ≡ someBegins (membersFrom (typeFrom k t s) t s (i + 1) (membersAt t (rowAt s i))) g
+  unfolding begins typeFrom
+  bits-choice q g = rw q
 
-      there : (j : ℕ) → j < length s → i - 1 < j → (rowAt (set m (i - 1) w) j < 2 ^ 64) × ((k : ℕ) → chainFits k t s j ≡ true → (g : ℕ) → g < 64 → bitOf (rowAt (set m (i - 1) w) j) g ≡ begins (typeFrom k t s j) g)
-      there j b l = rw (getD-set-other m (i - 1) j w 0 (λ z. omega arith)) (v .2 j (omega arith) b)
+  pub apart-of-choice : kindAt t (rowAt s i) ≡ 13 → tagsApart (typeFrom (suc k) t s i) ≡ alternativesDiffer (membersFrom (typeFrom k t s) t s (i + 1) (membersAt t (rowAt s i)))
+  unfolding tagsApart typeFrom
+  apart-of-choice q = rw q
 
-pub tags-done : (t s m : List ℕ) (i : ℕ) → Tags t s m i → i ≤ 0 → true ≡ everyRow (tagsDiffer (tableLimits .chain) t s) s
-tags-done t s m i v z = sym (all-is (tagsDiffer (tableLimits .chain) t s) (length s) (λ j l. v .3 j (omega arith) l))
+  pub apart-of-sequence : kindAt t (rowAt s i) ≡ 12 → tagsApart (typeFrom (suc k) t s i) ≡ runsDiffer (membersFrom (typeFrom k t s) t s (i + 1) (membersAt t (rowAt s i)))
+  unfolding tagsApart typeFrom
+  apart-of-sequence q = rw q
 
-pub tags-masked : (t s m : List ℕ) (i : ℕ) → everyRow (chainFits (tableLimits .chain) t s) s ≡ true → Tags t s m i → i ≤ 0 → Masked (tableLimits .chain) t s m
-tags-masked t s m i chained v z = record { says = λ j l g b. v .2 j (omega arith) l .1 (tableLimits .chain) (all-at (chainFits (tableLimits .chain) t s) (length s) j chained l) g b }
-
-pub not-masked : (t s m : List ℕ) → false ≡ true → Masked (tableLimits .chain) t s m
-not-masked t s m e = absurd (false≢true e)
+  pub apart-of-other : (kindAt t (rowAt s i) ≡ 12 → ⊥) → (kindAt t (rowAt s i) ≡ 13 → ⊥) → tagsApart (typeFrom (suc k) t s i) ≡ true
+  unfolding tagsApart typeFrom
+  apart-of-other a b = rw (ne-eqb (kindAt t (rowAt s i)) 12 a, ne-eqb (kindAt t (rowAt s i)) 13 b) (go (isList (kindAt t (rowAt s i))) _)
+    where
+      go : (z : Bool) (e : Ty) → tagsApart (pick z (listOf (kindAt t (rowAt s i)) e) (basic (kindAt t (rowAt s i)))) ≡ true
+      go true e = refl
+      go false e = refl

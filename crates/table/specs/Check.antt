@@ -7,7 +7,6 @@ use Rattle.octets.specs.Pick.{pick}
 use Rattle.rows.specs.Limits.{Limits, tableFits}
 use Rattle.rows.specs.Row.{rows}
 use Rattle.table.specs.Admitted.{admitted}
-use Rattle.table.specs.declared.TableCheck.{TableCheck}
 
 -- whether it is done and not refused; the refusal's number, 0 for none; the number of rows, 0 with a refusal
 pub record TableReport : Type 0 where
@@ -20,11 +19,6 @@ refused n = record { done = false; refusal = n; rows = 0 }
 
 abbrev pub admits : ℕ → TableReport
 admits n = record { done = true; refusal = 0; rows = n }
-
--- what the code's answer says
-abbrev pub report : TableCheck → TableReport
-report (TableCheck.Admitted t) = admits (t .rows)
-report (TableCheck.Refused n) = refused n
 
 -- refusal 1, then 2, else the number of rows
 unfoldable pub tableReport : Limits → List ℕ → TableReport

@@ -10,12 +10,13 @@ ghost use Rattle.octets.specs.Pick.{pick, either};
 ghost use Rattle.octets.specs.Octets.{part, same};
 ghost use Rattle.rows.specs.Row.{rowAt, kindAt, nameAt, typeRowAt, presenceAt};
 ghost use Rattle.table.specs.Types.{untagged, taggingOf, unfilled};
-ghost use Rattle.table.specs.inner.Work.{Sound};
+ghost use Rattle.table.specs.inner.Work.{bitOf, memberMask, Sound};
 ghost use Rattle.reference.specs.Reference.{name, index, position, fromEnd};
 ghost use Rattle.der.specs.Kind as kind;
 ghost use Rattle.der.specs.Header.{insideAt, opened};
+ghost use Rattle.der.specs.Tag.{tagOf};
 ghost use Rattle.trail.specs.Opened.{ownHeader, openedAs, openAt};
-ghost use Rattle.value.specs.inner.Work.{marked};
+ghost use Rattle.value.specs.inner.Work.{first, marked, markedOf};
 ghost use Rattle.trail.specs.Trail as trail;
 ghost use Rattle.trail.specs.Trail.{countFrom};
 ghost use Rattle.trail.specs.inner.Work as work;
@@ -58,12 +59,79 @@ enum Look {
     Broken,
 }
 
+// ---- tags that a row can begin with
+// The set of tags of row i; of a row past the end, none.
+fn row_set(m: &[u64], i: usize) -> u64
+    ensures { λ r. ⌜ r ≡ rowAt (now (m .entry)) i ⌝ }
+{
+    if m.len() <= i {
+        return 0;
+    }
+    m[i]
+}
+
+fn member_mask(m: &[u64], t: &[u8], p: usize) -> u64
+    ensures { λ r. ⌜ r ≡ memberMask (now (m .entry)) (now (t .entry)) p ⌝ }
+{
+    if rows::mode_at(t, p) == 0 {
+        return row_set(m, rows::type_row_at(t, p));
+    }
+    table::context_bit(rows::number_at(t, p))
+}
+
+// Whether a member can begin with the tag of an octet: its set has it.
+fn member_begins(m: &[u64], t: &[u8], p: usize, o: u8) -> bool
+    ensures { λ r. ⌜ r ≡ bitOf (memberMask (now (m .entry)) (now (t .entry)) p) (tagOf o) ⌝ }
+{
+    table::has_tag(member_mask(m, t, p), o)
+}
+
+// Whether the type of a row can begin with the tag of an octet.
+fn row_begins(m: &[u64], i: usize, o: u8) -> bool
+    ensures { λ r. ⌜ r ≡ bitOf (rowAt (now (m .entry)) i) (tagOf o) ⌝ }
+{
+    table::has_tag(row_set(m, i), o)
+}
+
+// Whether the member row at p can begin with the octet at i, which has to lie before stop.
+fn starts_here(t: &[u8], m: &[u64], p: usize, v: &[u8], stop: usize, i: usize) -> bool
+    ensures { λ r. ⌜ r ≡ marked (now (m .entry)) (now (t .entry)) p (now (v .entry)) stop i ⌝ }
+{
+    if stop <= i {
+        return false;
+    }
+    member_begins(m, t, p, octets::octet(v, i))
+}
+
+// The first of n alternatives that can begin with the octet at a place; n where none can.
+fn find_alternative(
+    t: &[u8],
+    s: &[usize],
+    m: &[u64],
+    v: &[u8],
+    row: usize,
+    n: usize,
+    at: usize,
+    end: usize,
+) -> usize
+    ensures { λ r. ⌜ r ≡ first (markedOf (now (m .entry)) (now (t .entry)) (now (s .entry)) row (now (v .entry)) end at) n 0 ⌝ }
+{
+    let mut j = 0;
+    while j < n {
+        if starts_here(t, m, groups::member_place(s, row, j), v, end, at) {
+            return j;
+        }
+        j += 1;
+    }
+    j
+}
+
 // ---- headers
 // The header of the CHOICE of a row: any, whose tag the CHOICE can begin with.
 fn choice_header(m: &[u64], row: usize, v: &[u8], at: usize, end: usize) -> Inside
     ensures { λ r. ⌜ r ≡ work.choiceHeader (now (m .entry)) row (now (v .entry)) at end ⌝ }
 {
-    if !table::row_begins(m, row, octets::octet(v, at)) {
+    if !row_begins(m, row, octets::octet(v, at)) {
         return Inside::Misfit;
     }
     der::open_any(v, at, end)
@@ -301,7 +369,7 @@ fn is_there(t: &[u8], m: &[u64], p: usize, v: &[u8], stop: usize, i: usize) -> b
     if rows::presence_at(t, p) == 0 {
         return true;
     }
-    value::starts_here(t, m, p, v, stop, i)
+    starts_here(t, m, p, v, stop, i)
 }
 
 // A member that is there.
@@ -463,7 +531,7 @@ pub fn find_chosen(
     ensures lands { λ f. ⌜ work.landsIn (now (s .entry)) stop f ≡ true ⌝ }
 {
     let n = rows::members_at(t, rows::row_at(s, row));
-    let j = value::find_alternative(t, s, m, v, row, n, at, stop);
+    let j = find_alternative(t, s, m, v, row, n, at, stop);
     if n <= j {
         return Found::Broken;
     }

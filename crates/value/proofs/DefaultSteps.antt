@@ -7,13 +7,14 @@ use native.Mathlib.Omega.{arith}
 use mir.Val.{Fits}
 use mir.Syntax.{w8}
 use borrow.Author.Tests.{eq-eqb, ne-eqb, eqb-true, eqb-false, le-leb}
-use lib.ListN.{length, take, drop, length-take}
+use lib.ListN.{length, length-take}
 use lib.Dec.{leb, eqb}
 use Rattle.octets.specs.Pick.{pick, both}
 use Rattle.octets.specs.Octets.{octet, part, same, baseFrom}
 use Rattle.der.specs.Tag.{ownOctet, wrapperOctet}
 use Rattle.der.specs.Header.{insideAt}
 use Rattle.der.specs.declared.Inside.{Inside}
+use Rattle.rows.proofs.NumberSteps.{part-bytes}
 use Rattle.rows.specs.Row.{kindAt, modeAt, numberAt, presenceAt, defaultLengthAt, defaultAt}
 use Rattle.table.specs.Types.{Tagging, taggingOf}
 use Rattle.words.specs.inner.Rows.{tableRows, placeAt, taggingAt, memberKindAt}
@@ -60,14 +61,6 @@ same-long (p ∷ a) (q ∷ b) h = ap (both (eqb p q)) (same-long a b (λ z. h (o
     go : (c : Bool) → both c false ≡ false
     go true = refl
     go false = refl
-
-part-bytes : (n k : ℕ) (l : List ℕ) → ((i : ℕ) → octet l i < 256) → (i : ℕ) → octet (take n (drop k l)) i < 256
-part-bytes zero k l f i = omega arith
-part-bytes (suc n) zero [] f i = omega arith
-part-bytes (suc n) zero (x ∷ l) f zero = f 0
-part-bytes (suc n) zero (x ∷ l) f (suc i) = part-bytes n 0 l (λ j. f (suc j)) i
-part-bytes (suc n) (suc k) [] f i = omega arith
-part-bytes (suc n) (suc k) (x ∷ l) f i = part-bytes (suc n) k l (λ j. f (suc j)) i
 
 -- ---- contents that are a default
 module _ (t : List ℕ) (p : ℕ) (v : List ℕ) (start n pr : ℕ) (read : pr ≡ presenceAt t p) where

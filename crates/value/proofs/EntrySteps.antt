@@ -22,8 +22,8 @@ use Rattle.table.specs.inner.Work.{Sound, Admits}
 use Rattle.table.proofs.Laws.{row-count}
 use Rattle.table.proofs.SoundLaws.{sound}
 use Rattle.words.specs.inner.Rows.{tableRows, placeAt, typeAt}
-use Rattle.words.specs.inner.Words.{firstOctet, Filled, Ready, Worded}
-use Rattle.words.proofs.Reading.{ready}
+use Rattle.words.specs.inner.Words.{firstOctet, Worded}
+use Rattle.words.specs.inner.Pass.{Leaves}
 use Rattle.value.specs.Paper.{valueLimits}
 use Rattle.value.specs.Decode.{Decoded, unwrapped, decode, inWrapper, storedValue}
 use Rattle.value.specs.Check.{good, refused, report, valueFits, isStored, storage, valueReport}
@@ -61,7 +61,7 @@ module _ (ty : Ty) (v : List ℕ) (k tag : ℕ) (c : Checked) (tagged : tag ≡ 
   stored-whole next e = by-some (unwrapped ty untagged v 0 (length v)) next (sym e ∙ asks) ∙ sym stored-by
 
 -- ---- the table's rows and sets
-module _ (l : Limits) (t starts masks : List ℕ) (n : ℕ) (count : n ≡ rowCount l t) where
+module _ (l : Limits) (t : List ℕ) (n : ℕ) (count : n ≡ rowCount l t) where
   pub not-admitted : n ≡ 0 → admitted l t ≡ false
   unfolding rowCount
   not-admitted z = go (admitted l t) refl
@@ -78,7 +78,7 @@ module _ (l : Limits) (t starts masks : List ℕ) (n : ℕ) (count : n ≡ rowCo
       go true q = refl
       go false q = absurd (z (rw q at count))
 
-  module _ (z : n ≡ 0 → ⊥) (left : Admits (l .rows) (l .chain) t n starts masks) where
+  module _ (starts masks : List ℕ) (z : n ≡ 0 → ⊥) (left : Admits (l .rows) (l .chain) t n starts masks) where
     some-rows : 0 < n
     some-rows = omega arith
 
@@ -101,29 +101,27 @@ module _ (l : Limits) (t starts masks : List ℕ) (n : ℕ) (count : n ≡ rowCo
 -- the same at document 01's limits
 module _ (t starts masks : List ℕ) (n : ℕ) (count : n ≡ rowCount tableLimits t) (z : n ≡ 0 → ⊥) (left : Admits (tableLimits .rows) (tableLimits .chain) t n starts masks) where
   pub sound-here : Sound (tableLimits .chain) t (take n starts) masks
-  sound-here = is-sound tableLimits t starts masks n count z left
+  sound-here = is-sound tableLimits t n count starts masks z left
 
   pub rows-here : 0 < length (take n starts)
-  rows-here = has-rows tableLimits t starts masks n count z left
+  rows-here = has-rows tableLimits t n count starts masks z left
 
   pub counted-here : n ≡ length (take n starts)
-  counted-here = rows-counted tableLimits t starts masks n count z left
+  counted-here = rows-counted tableLimits t n count starts masks z left
 
   pub fit-here : n ≤ length starts
-  fit-here = rows-fit tableLimits t starts masks n count z left
+  fit-here = rows-fit tableLimits t n count starts masks z left
 
-  -- and its words
   pub places-here : take n starts ≡ tableRows t
-  places-here = rows-are tableLimits t starts masks n count z left
+  places-here = rows-are tableLimits t n count starts masks z left
 
-  ready-rows : Ready (tableLimits .chain) t (tableRows t) masks
-  ready-rows = ready tableLimits t masks (is-admitted tableLimits t starts masks n count z) (omega arith) (left .sets (omega arith))
+module _ (t : List ℕ) (n : ℕ) (count : n ≡ rowCount tableLimits t) (z : n ≡ 0 → ⊥) where
+  pub rows-here-are : n ≡ length (tableRows t)
+  unfolding rowCount
+  rows-here-are = rw (is-admitted tableLimits t n count z) at count
 
-  pub ready-here : Ready (tableLimits .chain) t (take n starts) masks
-  ready-here = rw places-here ready-rows
-
-  pub worded-here : (w : List ℕ) → Filled t (take n starts) masks w (length (take n starts)) → Worded t w
-  worded-here w f = record { m = masks; ready = ready-rows; filled = (rw places-here at f) }
+  pub worded-here : (w : List ℕ) → Leaves t w n → Worded t w
+  worded-here w left = left .worded (omega arith)
 
 -- a value by the words is one by the rows
 pub stored-here : (t s v : List ℕ) (x : Bool) → s ≡ tableRows t → x ≡ isSome (storedValue (typeAt t 0) v) → x ≡ isSome (storedValue (rowType t s 0) v)
@@ -138,10 +136,10 @@ module _ (t w : List ℕ) (ok : Worded t w) where
   root-typed = ok .ready .root
 
 -- ---- the answers
-module _ (t v starts masks : List ℕ) (n : ℕ) (count : n ≡ rowCount tableLimits t) where
+module _ (t v : List ℕ) (n : ℕ) (count : n ≡ rowCount tableLimits t) where
   pub storage-not : n ≡ 0 → refused 2 ≡ storage tableLimits t v
   unfolding storage
-  storage-not z = rw (not-admitted tableLimits t starts masks n count z)
+  storage-not z = rw (not-admitted tableLimits t n count z)
 
   module _ (z : n ≡ 0 → ⊥) (r : Bool) (told-stored : r ≡ isSome (storedValue (typeAt t 0) v)) where
     is-stored : isStored tableLimits t v ≡ r
@@ -150,11 +148,11 @@ module _ (t v starts masks : List ℕ) (n : ℕ) (count : n ≡ rowCount tableLi
 
     pub storage-bad : not r ≡ true → refused 4 ≡ storage tableLimits t v
     unfolding storage
-    storage-bad e = rw (is-admitted tableLimits t starts masks n count z, (is-stored ∙ not-true r e))
+    storage-bad e = rw (is-admitted tableLimits t n count z, (is-stored ∙ not-true r e))
 
     pub storage-good : not r ≡ false → good ≡ storage tableLimits t v
     unfolding storage
-    storage-good e = rw (is-admitted tableLimits t starts masks n count z, (is-stored ∙ not-false r e))
+    storage-good e = rw (is-admitted tableLimits t n count z, (is-stored ∙ not-false r e))
 
 module _ (t v : List ℕ) (x : Bool) (fits : x ≡ tableFits tableLimits t) where
   pub sizes-table : not x ≡ true → refused 1 ≡ valueReport tableLimits valueLimits t v

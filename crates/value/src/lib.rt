@@ -75,39 +75,6 @@ pub fn tag_octet(mode: u8, number: u8, kind: u8) -> usize
     der::implicit_octet(number, kind)
 }
 
-// Whether the member row at p can begin with the octet at i, which has to lie before stop.
-pub fn starts_here(t: &[u8], m: &[u64], p: usize, v: &[u8], stop: usize, i: usize) -> bool
-    ensures { λ r. ⌜ r ≡ work.marked (now (m .entry)) (now (t .entry)) p (now (v .entry)) stop i ⌝ }
-{
-    if stop <= i {
-        return false;
-    }
-    table::member_begins(m, t, p, octets::octet(v, i))
-}
-
-// The first of n alternatives that can begin with the octet at a place; n where none can.
-pub fn find_alternative(
-    t: &[u8],
-    s: &[usize],
-    m: &[u64],
-    v: &[u8],
-    row: usize,
-    n: usize,
-    at: usize,
-    end: usize,
-) -> usize
-    ensures { λ r. ⌜ r ≡ work.first (work.markedOf (now (m .entry)) (now (t .entry)) (now (s .entry)) row (now (v .entry)) end at) n 0 ⌝ }
-{
-    let mut j = 0;
-    while j < n {
-        if starts_here(t, m, groups::member_place(s, row, j), v, end, at) {
-            return j;
-        }
-        j += 1;
-    }
-    j
-}
-
 // ---- octets that can begin a value
 // Whether tag octets have one class and number.
 fn same_tag(a: usize, b: usize) -> bool
@@ -678,14 +645,10 @@ pub fn is_stored(t: &[u8], w: &[u64; 256], v: &[u8]) -> bool
 fn check_storage(table: &[u8], value: &[u8]) -> ValueCheck
     ensures { λ r. ⌜ report r ≡ storage tableLimits (now (table .entry)) (now (value .entry)) ⌝ }
 {
-    let mut starts = [0usize; Table::MAX_ROWS];
-    let mut masks = [0u64; Table::MAX_ROWS];
-    let n = table::admit_table(table, &mut starts, &mut masks);
-    if n == 0 {
+    let mut w = [0u64; 256];
+    if words::admit_table(table, &mut w) == 0 {
         return ValueCheck::Refused(2);
     }
-    let mut w = [0u64; 256];
-    words::fill(table, &starts[..n], &masks, &mut w);
     if !is_stored(table, &w, value) {
         return ValueCheck::Refused(4);
     }

@@ -1,18 +1,17 @@
 -- What the words of an admitted table say, and that they are there.
-use mathlib.Core.Path.{_≡_, refl, sym, ap, _∙_}
+use mathlib.Core.Path.{_≡_, refl, sym, _∙_}
 use mathlib.Core.Bool.{Bool, true, false, false≢true}
 use mathlib.Core.List.{List}
 use Prim.Native.Nat.{ℕ, _≤_, _<_, _+_, _*_}
 use native.Mathlib.Omega.{arith}
-use borrow.Author.Tests.{eq-eqb, eqb-true, eqb-false, ltb-true}
+use borrow.Author.Tests.{eqb-true, eqb-false}
 use lib.ListN.{length, getD}
-use lib.Dec.{ltb, eqb}
-use Rattle.octets.specs.Pick.{both, no}
+use lib.Dec.{eqb}
 use Rattle.octets.specs.Octets.{baseFrom}
-use Rattle.octets.proofs.Laws.{both-true}
 use Rattle.rows.specs.Limits.{Limits}
 use Rattle.rows.specs.Row.{rows, rowAt, kindAt, elementAt, typeRowAt, membersAt, isGroup, isList, modeAt, presenceAt, defaultAt}
 use Rattle.groups.specs.Clauses.{isType, laterType, pointsLater}
+use Rattle.groups.proofs.LaterSteps.{type-row, later-row}
 use Rattle.table.specs.Types.{untagged}
 use Rattle.table.specs.Admitted.{admitted}
 use Rattle.table.specs.inner.Work.{Masked}
@@ -26,16 +25,10 @@ use Rattle.rows.specs.Paper.{tableLimits}
 
 -- ---- an admitted table is ready for its words
 is-type : (t s : List ℕ) (j : ℕ) → isType t s j ≡ true → kindAt t (rowAt s j) ≡ 16 → ⊥
-unfolding isType
-is-type t s j e h =
-    let b = both-true (ltb j (length s)) (no (eqb (kindAt t (rowAt s j)) 16)) e in
-    false≢true (sym (ap no (eq-eqb (kindAt t (rowAt s j)) 16 h)) ∙ b .1)
+is-type t s j e h = type-row t s j e .1 h
 
 later-type : (t s : List ℕ) (i j : ℕ) → laterType t s i j ≡ true → (j < length s) × (kindAt t (rowAt s j) ≡ 16 → ⊥)
-unfolding laterType isType
-later-type t s i j e =
-    let a = both-true (ltb i j) (both (ltb j (length s)) (no (eqb (kindAt t (rowAt s j)) 16))) e in
-    (ltb-true j (length s) (both-true (ltb j (length s)) _ (a .1) .0), is-type t s j (a .1))
+later-type t s i j e = type-row t s j (later-row t s i j e .1)
 
 module _ (t s : List ℕ) (i : ℕ) (points : pointsLater t s i ≡ true) where
   of-list : isList (kindAt t (rowAt s i)) ≡ true → laterType t s i (elementAt t (rowAt s i)) ≡ true

@@ -1,20 +1,20 @@
-use Rattle.groups.proofs.Steps.{new-bad, new-done}
-use Rattle.octets.proofs.Laws.{all-none, all-more}
-use Rattle.groups.specs.Clauses.{differsFrom}
-use Rattle.octets.specs.Pick.{all}
-use native.Mathlib.Omega.{arith}
-use mathlib.Core.Bool.{true}
-use mathlib.Core.Path.{_≡_}
 use Prim.Native.Nat.{_-_, _≤_}
+use mathlib.Core.Path.{_≡_}
+use mathlib.Core.Bool.{true}
+use native.Mathlib.Omega.{arith}
+use Rattle.octets.specs.Pick.{all}
+use Rattle.groups.specs.inner.Work.{differsAt}
+use Rattle.octets.proofs.Laws.{all-none, all-more}
+use Rattle.groups.proofs.NameSteps.{new-at-bad, new-at-done}
 use borrow.Author.Needs.{needs}
 use Rattle.groups.proofs.new_name.Statement.{statement}
 use Rattle.groups.proofs.new_name.Tie as tie
 
 abbrev Inv-loop : tie.InvT-loop
-Inv-loop t s i b a₀ a = (a ≤ b) × (all (differsFrom t s i b) a ≡ true)
+Inv-loop t first b a₀ a = (a ≤ b) × (all (differsAt t first b) a ≡ true)
 
 abbrev μ-loop : tie.MeasureT-loop
-μ-loop t s i b a₀ a = b - a
+μ-loop t first b a₀ a = b - a
 
 pub new-name-spec : {M : Type 1} → statement M
 new-name-spec =
@@ -22,10 +22,10 @@ new-name-spec =
     (tie.spec
     Inv-loop
     μ-loop
-    (λ c. (search needs, all-none (differsFrom _ _ _ _)))  -- loop-holds
-    (λ c κs. search needs)  -- differs-from-requires
-    (λ c. search new-bad)  -- returns
+    (λ c. (search needs, all-none (differsAt _ _ _)))  -- loop-holds
+    (λ c κs. search needs)  -- differs-at-requires
+    (λ c. search new-at-bad)  -- returns
     (λ c. search needs)  -- add-a
     (λ c. search needs)  -- loop-less
     (λ c. (omega arith, search all-more))  -- loop-again
-    (λ c. search new-done))  -- returns-2
+    (λ c. search new-at-done))  -- returns-2

@@ -1,36 +1,59 @@
 -- What the passes over the rows compute.
-use Prim.Native.Nat.{ℕ, zero, suc, _<_}
+use Prim.Native.Nat.{ℕ, zero, suc, _<_, _+_, _-_, _*_}
 use mathlib.Core.Path.{_≡_}
 use mathlib.Core.Bool.{Bool, true}
-use lib.ListN.{length}
+use lib.Dec.{leb}
+use lib.ListN.{length, getD}
 use mathlib.Core.List.{List}
-use Rattle.octets.specs.Pick.{pick, both}
+use Rattle.octets.specs.Pick.{both, no, all}
 use Rattle.octets.specs.Octets.{larger}
-use Rattle.rows.specs.Row.{kindAt, elementAt, typeRowAt, isList, rowAt, membersAt}
-use Rattle.groups.specs.Clauses.{bodyFormed, pointsLater, memberPlace, namesDiffer, alternativesMandatory, noImplicitChoice, defaultLegal}
+use Rattle.rows.specs.Limits.{Limits}
+use Rattle.rows.specs.Paper.{tableLimits}
+use Rattle.rows.specs.Row.{memberSize, kindAt, elementAt, typeRowAt, isList, rows, rowAt, membersAt}
+use Rattle.rows.specs.Body.{memberFormed}
+use Rattle.groups.specs.Clauses.{everyRow, wholeRows, bodyFormed, firstIsType, membersStand, memberPlace, sameName, namesDiffer}
 
--- ---- from the first row to the last: the clauses on one row, but for chains and tags
-unfoldable pub membersAgreeAt : List ℕ → List ℕ → ℕ → Bool
-membersAgreeAt t s i = both (namesDiffer t s i) (both (alternativesMandatory t s i) (both (noImplicitChoice t s i) (defaultLegal t s i)))
+-- ---- the first pass: the clauses on bodies, on where rows stand and on names
+unfoldable pub firstPass : Limits → List ℕ → List ℕ → Bool
+firstPass l t s =
+    both (wholeRows (l .rows) s)
+    (both (everyRow (bodyFormed (l .members) (l .name) t s) s)
+    (both (firstIsType t s)
+    (both (membersStand t s)
+    (everyRow (namesDiffer t s) s))))
 
-unfoldable pub rowAgrees : ℕ → ℕ → List ℕ → List ℕ → ℕ → Bool
-rowAgrees most name t s i = both (bodyFormed most name t s i) (both (pointsLater t s i) (membersAgreeAt t s i))
+-- the places of the first n rows stand in an array of two numbers for each row
+pub record Placed (t w : List ℕ) (n : ℕ) : Type 0 where
+  pub at : (i : ℕ) → i < n → getD w (2 * i) 0 ≡ rowAt (rows (tableLimits .rows) t) i
 
--- ---- from the last row to the first, by the array d that the pass fills: the longest chain from each row on
+-- member b of a group whose first member stands at `first`: member rows of one group stand directly one after another
+abbrev pub placeFrom : ℕ → ℕ → ℕ
+placeFrom first b = first + memberSize * b
+
+-- its name is not that of member a
+unfoldable pub differsAt : List ℕ → ℕ → ℕ → ℕ → Bool
+differsAt t first b a = no (sameName t (placeFrom first a) (placeFrom first b))
+
+-- nor that of any member before it
+unfoldable pub newNameAt : List ℕ → ℕ → ℕ → Bool
+newNameAt t first b = all (differsAt t first b) b
+
+-- it is a whole row, with its body formed and a new name
+unfoldable pub memberFits : ℕ → List ℕ → ℕ → ℕ → Bool
+memberFits name t first b =
+    both (leb memberSize (length t - placeFrom first b))
+    (both (memberFormed name t (placeFrom first b))
+    (newNameAt t first b))
+
+-- ---- the second pass, from the last row to the first
+-- the row of member j's type
 abbrev pub memberType : List ℕ → List ℕ → ℕ → ℕ → ℕ
 memberType t s i j = typeRowAt t (memberPlace s i j)
 
-unfoldable pub memberDepth : List ℕ → List ℕ → List ℕ → ℕ → ℕ → ℕ
-memberDepth d t s i j = rowAt d (memberType t s i j)
-
--- the largest of the first n numbers that f gives
+-- the largest of the first n numbers that f gives: of the chains of a row's members, the longest
 unfoldable pub tallest : (ℕ → ℕ) → ℕ → ℕ
 tallest f zero = 0
 tallest f (suc n) = larger (f n) (tallest f n)
-
--- the longest chain of the rows that row i names
-unfoldable pub deepest : List ℕ → List ℕ → List ℕ → ℕ → ℕ
-deepest d t s i = pick (isList (kindAt t (rowAt s i))) (rowAt d (elementAt t (rowAt s i))) (tallest (memberDepth d t s i) (membersAt t (rowAt s i)))
 
 -- rows name later rows
 pub record Later (t s : List ℕ) : Type 0 where

@@ -1,4 +1,4 @@
-use Rattle.rows.proofs.Steps.{filled-is, filled-long}
+use Rattle.rows.proofs.Steps.{filled-here, filled-long}
 use borrow.Author.Needs.{needs}
 use Rattle.rows.proofs.default_filled.Statement.{statement}
 use Rattle.rows.proofs.default_filled.Tie as tie
@@ -7,10 +7,10 @@ pub default-filled-spec : {M : Type 1} → statement M
 default-filled-spec =
     tie.close
     (tie.spec
-    (λ c κs. search needs)  -- default-length-at-requires
+    (λ c. search needs)  -- add-wide
+    (λ c. search needs)  -- shared-slice-read-wide
     (λ c κs. search needs)  -- wide-requires
     (λ c. search filled-long)  -- returns
-    (λ c. search needs)  -- add-fields
-    (λ c κs. search needs)  -- fields-requires
-    (λ c κs. search needs)  -- all-zero-requires
-    (λ c. search filled-is))  -- returns-2
+    (λ c. search needs)  -- add-filled-8
+    (λ c κs. search needs)  -- filled-8-requires
+    (λ c. search filled-here))  -- returns-2

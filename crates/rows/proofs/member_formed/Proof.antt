@@ -9,11 +9,14 @@ member-formed-spec =
     (tie.spec
     (λ c κs. search needs)  -- name-formed-requires
     (λ c. search member-name)  -- returns
-    (λ c κs. search needs)  -- mode-at-requires
-    (λ c κs. search needs)  -- number-at-requires
+    (λ c. search needs)  -- add-tag-formed
+    (λ c. search needs)  -- shared-slice-read-tag-formed
+    (λ c. search needs)  -- add-tag-formed-2
+    (λ c. search needs)  -- shared-slice-read-tag-formed-2
     (λ c κs. search needs)  -- tag-formed-requires
     (λ c. search member-tag)  -- returns-2
-    (λ c κs. search needs)  -- presence-at-requires
+    (λ c. search needs)  -- add-if3
+    (λ c. search needs)  -- shared-slice-read-if3
     (λ c. search member-presence)  -- returns-3
     (λ c κs. search needs)  -- default-filled-requires
     (λ c. search member-filled))  -- returns-4

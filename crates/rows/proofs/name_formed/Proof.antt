@@ -1,4 +1,4 @@
-use Rattle.rows.proofs.Steps.{name-high, name-hyphen, name-spelt}
+use Rattle.rows.proofs.Steps.{lower-begins, name-high, name-hyphen, name-whole}
 use borrow.Author.Needs.{needs}
 use Rattle.rows.proofs.name_formed.Statement.{statement}
 use Rattle.rows.proofs.name_formed.Tie as tie
@@ -7,10 +7,12 @@ pub name-formed-spec : {M : Type 1} → statement M
 name-formed-spec =
     tie.close
     (tie.spec
-    (λ c κs. search needs)  -- field-requires
+    (λ c. search needs)  -- add-is-lower
+    (λ c. search needs)  -- shared-slice-read-is-lower
     (λ c κs. search needs)  -- is-lower-requires
     (λ c. search name-high)  -- returns
-    (λ c κs. search needs)  -- field-requires-2
+    (λ c. search needs)  -- add-if2
+    (λ c. search needs)  -- shared-slice-read-if2
     (λ c. search name-hyphen)  -- returns-2
-    (λ c κs. search needs)  -- name-spelt-requires
-    (λ c. search name-spelt))  -- returns-3
+    (λ c κs. (search needs, search lower-begins))  -- name-spelt-requires
+    (λ c. search name-whole))  -- returns-3

@@ -1,21 +1,19 @@
--- What the pass over the rows computes, from the last row to the first, by the array m that it fills: for each row the set of tags that its type can
--- begin with, as the bits of a number.
+-- Sets of tags, as the bits of a number: those that the type of a row can begin with.
 use Prim.Native.Nat.{ℕ, zero, suc, _+_, _/_, _%_, _^_, _<_, _≤_}
 use mathlib.Core.Path.{_≡_}
 use lib.ListN.{length, take}
-use mathlib.Core.Bool.{Bool, true}
+use mathlib.Core.Bool.{Bool, true, false}
 use mathlib.Core.List.{List}
 use lib.Dec.{ltb, eqb}
 use lib.Bits.{bitAnd, bitOr}
-use Rattle.octets.specs.Pick.{pick, both, either}
+use Rattle.octets.specs.Pick.{pick, both}
 use Rattle.der.specs.Kind as kind
-use Rattle.der.specs.Tag.{universal}
 use Rattle.rows.specs.Row.{kindAt, elementAt, presenceAt, modeAt, numberAt, typeRowAt, rows, rowAt, membersAt}
-use Rattle.groups.specs.Clauses.{memberPlace, mandatoryAt, defaultLegal}
+use Rattle.groups.specs.Clauses.{everyRow, pointsLater, memberPlace, alternativesMandatory, noImplicitChoice, defaultLegal, chainFits}
 use Rattle.groups.specs.inner.Work.{Later}
 use Rattle.table.specs.Types.{membersFrom, typed, typeFrom}
 use Rattle.table.specs.Begins.{begins}
-use Rattle.table.specs.Admitted.{admitted}
+use Rattle.table.specs.Admitted.{tagsDiffer, admitted}
 use Rattle.rows.specs.Limits.{Limits}
 
 -- bit g of n is set
@@ -30,42 +28,39 @@ contextBit n = pick (ltb n 32) (2 ^ (32 + n)) 0
 unfoldable pub memberMask : List ℕ → List ℕ → ℕ → ℕ
 memberMask m t p = pick (eqb (modeAt t p) 0) (rowAt m (typeRowAt t p)) (contextBit (numberAt t p))
 
--- the tags of k members of row i from a on
-unfoldable pub groupFrom : List ℕ → List ℕ → List ℕ → ℕ → ℕ → ℕ → ℕ
-groupFrom m t s i zero a = 0
-groupFrom m t s i (suc k) a = bitOr (memberMask m t (memberPlace s i a)) (groupFrom m t s i k (a + 1))
+-- the same where m gives the sets of type rows
+unfoldable pub memberSet : (ℕ → ℕ) → List ℕ → ℕ → ℕ
+memberSet m t p = pick (eqb (modeAt t p) 0) (m (typeRowAt t p)) (contextBit (numberAt t p))
 
-unfoldable pub rowMask : List ℕ → List ℕ → List ℕ → ℕ → ℕ
-rowMask m t s i = pick (eqb (kindAt t (rowAt s i)) kind.choice) (groupFrom m t s i (membersAt t (rowAt s i)) 0) (2 ^ universal (kindAt t (rowAt s i)))
+-- ---- the sets of k rows from j on, gathered from the first on; f gives a row's set
+-- none has a tag in common with those gathered before it, x among them; behind a row where `ends` holds they are gathered anew
+unfoldable pub apartFrom : (ℕ → ℕ) → (ℕ → Bool) → ℕ → ℕ → ℕ → Bool
+apartFrom f ends zero j x = true
+apartFrom f ends (suc k) j x =
+    let r = apartFrom f ends k (j + 1) (pick (ends j) 0 (bitOr x (f j))) in
+    both (eqb (bitAnd x (f j)) 0) r
 
--- members a and b of row i have no tag in common
-unfoldable pub apartMask : List ℕ → List ℕ → List ℕ → ℕ → ℕ → ℕ → Bool
-apartMask m t s i a b = eqb (bitAnd (memberMask m t (memberPlace s i a)) (memberMask m t (memberPlace s i b))) 0
+-- all of them, and x
+unfoldable pub unionFrom : (ℕ → ℕ) → ℕ → ℕ → ℕ → ℕ
+unionFrom f zero j x = x
+unionFrom f (suc k) j x = unionFrom f k (j + 1) (bitOr x (f j))
 
--- member b of row i ends a run: a mandatory member of a SEQUENCE
-unfoldable pub endsRun : List ℕ → List ℕ → ℕ → ℕ → Bool
-endsRun t s i b = both (eqb (kindAt t (rowAt s i)) kind.sequence) (mandatoryAt t s i b)
+-- where no row ends a run: the alternatives of a CHOICE
+abbrev pub never : ℕ → Bool
+never j = false
 
--- member a has no tag in common with those of its run from b on, k of them at most
-unfoldable pub runFrom : List ℕ → List ℕ → List ℕ → ℕ → ℕ → ℕ → ℕ → Bool
-runFrom m t s i a zero b = true
-runFrom m t s i a (suc k) b =
-    let r = runFrom m t s i a k (b + 1) in
-    both (apartMask m t s i a b) (either (endsRun t s i b) r)
+-- ---- the second pass: the clauses of "Admitted" that it decides, of one row and of all
+unfoldable pub rowFits : ℕ → List ℕ → List ℕ → ℕ → Bool
+rowFits chain t s i =
+    both (pointsLater t s i)
+    (both (alternativesMandatory t s i)
+    (both (noImplicitChoice t s i)
+    (both (defaultLegal t s i)
+    (both (chainFits chain t s i)
+    (tagsDiffer chain t s i)))))
 
--- member a, with k members after it, begins no run or differs in it
-unfoldable pub newMask : List ℕ → List ℕ → List ℕ → ℕ → ℕ → ℕ → Bool
-newMask m t s i a k = either (endsRun t s i a) (runFrom m t s i a k (a + 1))
-
--- the same of k members from a on
-unfoldable pub differFrom : List ℕ → List ℕ → List ℕ → ℕ → ℕ → ℕ → Bool
-differFrom m t s i zero a = true
-differFrom m t s i (suc k) a =
-    let r = differFrom m t s i k (a + 1) in
-    both (newMask m t s i a k) r
-
-unfoldable pub masksDiffer : List ℕ → List ℕ → List ℕ → ℕ → Bool
-masksDiffer m t s i = differFrom m t s i (membersAt t (rowAt s i)) 0
+unfoldable pub secondPass : ℕ → List ℕ → List ℕ → Bool
+secondPass chain t s = everyRow (rowFits chain t s) s
 
 -- the array m has the set of tags of each row
 pub record Masked (chain : ℕ) (t s m : List ℕ) : Type 0 where
@@ -82,7 +77,7 @@ pub record Sound (chain : ℕ) (t s m : List ℕ) : Type 0 where
   pub defaults : (i : ℕ) → i < length s → defaultLegal t s i ≡ true
   pub masked : Masked chain t s m
 
--- what the check of a table leaves for the layers above, where it has n rows: the places of the rows, and their sets of tags
+-- the places of the n rows of a table, and their sets of tags, for the layers that go by them
 pub record Admits (most chain : ℕ) (t : List ℕ) (n : ℕ) (starts masks : List ℕ) : Type 0 where
   pub places : 0 < n → take n starts ≡ rows most t
   pub sets : 0 < n → Masked chain t (rows most t) masks

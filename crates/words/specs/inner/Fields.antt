@@ -1,5 +1,5 @@
--- The fields of a row's first word, from its lowest bits on: 8 kind, 8 first tag octet, 8 members, 8 target row; of a member row 8 its type's kind,
--- 2 how it is tagged, 2 presence, 4 default length; 16 the row's place.
+-- The fields of a row's first word, from its lowest bits on: 8 kind, 8 first tag octet, 8 members, 8 target row; of a type row 8 the longest chain from it on;
+-- of a member row 8 its type's kind, 2 how it is tagged, 2 presence, 4 default length; 16 the row's place.
 use Prim.Native.Nat.{ℕ, _/_, _%_}
 use mathlib.Core.Path.{_≡_}
 
@@ -17,6 +17,9 @@ targetOf x = x / 16777216 % 256
 
 abbrev pub typeOf : ℕ → ℕ
 typeOf x = x / 4294967296 % 256
+
+abbrev pub chainOf : ℕ → ℕ
+chainOf x = typeOf x
 
 abbrev pub howOf : ℕ → ℕ
 howOf x = x / 1099511627776 % 4

@@ -15,7 +15,7 @@ use Rattle.groups.specs.Clauses.{typeKind}
 use Rattle.table.specs.Types.{Tagging, untagged, explicit, implicit, taggingOf}
 use Rattle.table.specs.inner.Work.{Sound}
 use Rattle.words.specs.inner.Rows.{tableRows}
-use Rattle.words.specs.inner.Fields.{Packed}
+use Rattle.words.specs.inner.Fields.{chainOf, Packed}
 
 -- the first tag octet of a value of kind k; 0 of an untagged CHOICE, which has none of its own
 unfoldable pub firstOctet : Tagging → ℕ → ℕ
@@ -31,9 +31,9 @@ how k mode = pick (eqb mode 1) 1 (pick (leb k kind.generalizedTime) 0 2)
 unfoldable pub elementRow : List ℕ → ℕ → ℕ
 elementRow t p = pick (isList (kindAt t p)) (elementAt t p) 0
 
--- x is the first word of the type row at p; of the member row at p, whose type is of kind k
+-- x is the first word of the type row at p, with any chain; of the member row at p, whose type is of kind k
 abbrev pub TypeWord : List ℕ → ℕ → ℕ → Type 0
-TypeWord t p x = Packed x (kindAt t p) (firstOctet untagged (kindAt t p)) (membersAt t p) (elementRow t p) 0 0 0 0 p
+TypeWord t p x = Packed x (kindAt t p) (firstOctet untagged (kindAt t p)) (membersAt t p) (elementRow t p) (chainOf x) 0 0 0 p
 
 abbrev pub MemberWord : List ℕ → ℕ → ℕ → ℕ → Type 0
 MemberWord t p k x =

@@ -1,0 +1,10 @@
+use Rattle.rows.specs.Row.{isTypeKind}
+use borrow.Author.Needs.{needs}
+use Rattle.rows.proofs.is_type_kind.Statement.{statement}
+use Rattle.rows.proofs.is_type_kind.Tie as tie
+
+pub is-type-kind-spec : {M : Type 1} → statement M
+unfolding isTypeKind
+is-type-kind-spec = tie.close (tie.spec
+    (λ c κs. search needs)  -- within-requires
+    (λ c. search needs))  -- returns
