@@ -262,6 +262,15 @@ module _ (k : ℕ) (c : List ℕ) (r : Bool) where
   unfolding legal
   kind-text n1 n2 n3 n4 n5 n6 n7 q = rw (ne-eqb k 1 n1, ne-eqb k 2 n2, ne-eqb k 3 n3, ne-eqb k 4 n4, ne-eqb k 5 n5, ne-eqb k 6 n6, ne-eqb k 7 n7) q
 
+  -- the kinds that are looked at first
+  pub direct-integer : k ≡ 2 → r ≡ legalInteger c → r ≡ legal k c
+  unfolding legal
+  direct-integer e q = rw e q
+
+  pub direct-printable : k ≡ 9 → r ≡ legalPrintable c → r ≡ legal k c
+  unfolding legal legalText
+  direct-printable e q = rw e q
+
   pub text-utf8 : k ≡ 8 → r ≡ utf8 c → r ≡ legalText k c
   unfolding legalText
   text-utf8 e q = rw (eq-eqb k 8 e) q

@@ -145,11 +145,11 @@ module _ (s : List ℕ) (at end : ℕ) (l : Length) (found : l ≡ lengthAt s (a
     long-is g = sym (ap (behind end) (sym found ∙ e) ∙ rw (le-ltb _ _ g))
 
 -- ---- contents behind a tag octet that was seen
-module _ (s : List ℕ) (at end : ℕ) (h : at < end) (usable : number (octet s at) ≡ 31 → ⊥) where
+module _ (s : List ℕ) (at end : ℕ) (h : at < end) (usable : number (octet s at) < 31) where
   by-length : insideAt (octet s at) s at end ≡ behind end (lengthAt s (at + 1) end)
   unfolding insideAt headerAt
   by-length =
-      rw (lt-leb end at h, ne-eqb _ _ usable)
+      rw (lt-leb end at h, ne-eqb (number (octet s at)) 31 (λ z. omega arith))
       (ap (tagged (octet s at)) (sized-headed (octet s at) end (lengthAt s (at + 1) end)) ∙ tagged-headed (octet s at) (behind end (lengthAt s (at + 1) end)))
 
   pub seen-short : end - at < 2 → Inside.Misfit ≡ insideAt (octet s at) s at end
@@ -179,15 +179,11 @@ module _ (g : ℕ) (s : List ℕ) (at end u : ℕ) (wide : u ≡ octet s at) whe
   pub within-other : (u ≡ g → ⊥) → Inside.Misfit ≡ insideAt g s at end
   within-other h = sym (other-octet g s at end (λ z. h (wide ∙ z)))
 
-  pub within-31 : (p : Tag) → at < end → p ≡ split (octet s at) → p .number ≡ 31 → Inside.Misfit ≡ insideAt g s at end
-  unfolding insideAt
-  within-31 p h told e = ap (tagged g) (header-31 s at end (octet s at) p h refl told e)
-
   pub within-seen : (r : Inside) → u ≡ g → r ≡ insideAt (octet s at) s at end → r ≡ insideAt g s at end
   within-seen r h e = e ∙ ap (λ (x : ℕ). insideAt x s at end) (sym wide ∙ h)
 
-pub within-usable : (s : List ℕ) (at : ℕ) (p : Tag) → p ≡ split (octet s at) → (p .number ≡ 31 → ⊥) → number (octet s at) ≡ 31 → ⊥
-within-usable s at p told n z = n (number-of (octet s at) p told ∙ z)
+  pub within-usable : u ≡ g → number g < 31 → number (octet s at) < 31
+  within-usable h l = rw (sym wide ∙ h) l
 
 module _ (s : List ℕ) (at end : ℕ) (h : Header) (read : h ≡ headerAt s at end) where
   pub body-misfit : (g : ℕ) → h ≡ Header.Misfit → Inside.Misfit ≡ insideAt g s at end

@@ -1,4 +1,4 @@
-// DER values: tag octet, length, header, and the contents of the basic kinds. Reads past the end give 0, so nothing is asked of a caller.
+// DER values: tag octet, length, header, and the contents of the basic kinds. Where nothing is asked of a caller, reads past the end give 0.
 ghost use mathlib.Core.Path.{_≡_};
 ghost use Prim.Native.Nat.{_≤_, _<_, _+_, _-_, _%_, _^_};
 ghost use lib.Dec.{eqb};
@@ -7,6 +7,7 @@ ghost use Rattle.octets.specs.Pick.{both};
 ghost use Rattle.octets.specs.Octets.{octet, two, baseFrom, every};
 ghost use Rattle.octets.specs.inner.Answers.{between};
 ghost use Rattle.der.specs.Tag as tag;
+ghost use Rattle.der.specs.Tag.{number};
 ghost use Rattle.der.specs.Header as header;
 ghost use Rattle.der.specs.Contents as contents;
 ghost use Rattle.der.specs.Time as time;
@@ -304,7 +305,7 @@ pub fn read_header(s: &[u8], at: usize, end: usize) -> Header
 pub fn open_seen(s: &[u8], at: usize, end: usize) -> Inside
     requires within { ⌜ end ≤ length (now s) ⌝ }
     requires here { ⌜ at < end ⌝ }
-    requires usable { ⌜ (tag.number (octet (now s) at) ≡ 31 → ⊥) ⌝ }
+    requires usable { ⌜ number (octet (now s) at) < 31 ⌝ }
     ensures { λ r. ⌜ r ≡ header.insideAt (octet (now (s .entry)) at) (now (s .entry)) at end ⌝ }
 {
     if end - at < 2 {
@@ -323,17 +324,13 @@ pub fn open_seen(s: &[u8], at: usize, end: usize) -> Inside
 // The contents at a place behind a tag octet, before end, which lies within the octets.
 pub fn open_within(tag: usize, s: &[u8], at: usize, end: usize) -> Inside
     requires within { ⌜ end ≤ length (now s) ⌝ }
+    requires usable { ⌜ number tag < 31 ⌝ }
     ensures { λ r. ⌜ r ≡ header.insideAt tag (now (s .entry)) at end ⌝ }
 {
     if end <= at {
         return Inside::Misfit;
     }
-    let first = s[at];
-    if octets::wide(first) != tag {
-        return Inside::Misfit;
-    }
-    let parts = split(first);
-    if parts.number == 31 {
+    if octets::wide(s[at]) != tag {
         return Inside::Misfit;
     }
     open_seen(s, at, end)
@@ -800,13 +797,20 @@ fn legal_text(kind: u8, c: &[u8]) -> bool
     false
 }
 
-// The same of the octets from start up to end.
+// The same of the octets from start up to end; the most usual kinds first.
 pub fn legal(kind: u8, s: &[u8], start: usize, end: usize) -> bool
     requires ordered { ⌜ start ≤ end ⌝ }
     requires within { ⌜ end ≤ length (now s) ⌝ }
     ensures { λ r. ⌜ r ≡ contents.legal kind (between (now (s .entry)) start end) ⌝ }
 {
-    legal_contents(kind, &s[start..end])
+    let c = &s[start..end];
+    if kind == Kind::INTEGER {
+        return legal_integer(c);
+    }
+    if kind == Kind::PRINTABLE_STRING {
+        return legal_printable(c);
+    }
+    legal_contents(kind, c)
 }
 
 // ---- what contents mean

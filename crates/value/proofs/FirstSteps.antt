@@ -41,8 +41,8 @@ module _ (t w : List ℕ) (row : ℕ) (ok : Worded t w) (here : row < length (ta
   no-choice : k ≡ 13 → ⊥
   no-choice z = let l = plain-small k (modeAt t p) plain in omega arith
 
-  pub seen-usable : octet v i ≡ firstOctet g k → number (octet v i) ≡ 31 → ⊥
-  seen-usable e = first-usable t w row ok here member (octet v i) e no-choice
+  pub seen-usable : octet v i ≡ firstOctet g k → number (octet v i) < 31
+  seen-usable e = first-usable t w row ok here member (octet v i) e
 
   module _ (l : i < stop) (f u : ℕ) (first : f ≡ firstOctet g k) (read : u ≡ octet v i) where
     pub seen-is : u ≡ f → octet v i ≡ firstOctet (taggingAt t row) (memberKindAt t row)

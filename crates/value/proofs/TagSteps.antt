@@ -118,6 +118,18 @@ own-first : (k : ℕ) → 1 ≤ k → k ≤ 3 → 1 ≤ ownOctet k
 unfolding ownOctet
 own-first k h g = let u = universal-first k h g in omega arith
 
+pub kind-usable : (k o : ℕ) → o ≡ ownOctet k → number o < 31
+unfolding number
+kind-usable k o e = rw e (own-opens k 0 .0)
+
+pub own-usable : (k f : ℕ) → f ≡ firstOctet untagged k → number f < 31
+unfolding number firstOctet
+own-usable k f e = rw e (go (eqb k 13))
+  where
+    go : (x : Bool) → pick x 0 (ownOctet k) % 32 < 31
+    go true = omega arith
+    go false = own-opens k 0 .0
+
 -- ---- a type that is no CHOICE begins with its kind's tag
 typed-begins : (k g : ℕ) (e : Ty) (ms : Members) → (k ≡ 13 → ⊥) → begins (typed k e ms) g ≡ eqb g (universal k)
 unfolding begins
@@ -163,24 +175,28 @@ module _ (t w : List ℕ) (row : ℕ) (ok : Worded t w) (here : row < length (ta
       ∙ typed-begins k (tagOf o) _ _ h
 
   -- the first tag octet of a type that is no CHOICE tells with which octets the member can begin
-  first-as : (o : ℕ) → (k ≡ 13 → ⊥) → (firstOctet (taggingOf (modeAt t p) (numberAt t p)) k % 32 < 31)
-      × (sameTag (firstOctet (taggingOf (modeAt t p) (numberAt t p)) k) o ≡ pick (eqb (modeAt t p) 0) (begins target (tagOf o)) (eqb (tagOf o) (context (numberAt t p))))
+  first-as : (o : ℕ) → (k ≡ 13 → ⊥)
+      → sameTag (firstOctet (taggingOf (modeAt t p) (numberAt t p)) k) o ≡ pick (eqb (modeAt t p) 0) (begins target (tagOf o)) (eqb (tagOf o) (context (numberAt t p)))
   unfolding taggingOf firstOctet
   first-as o h = go (eqb (modeAt t p) 0) (eqb (modeAt t p) 1)
     where
-      go : (a b : Bool) → (firstOctet (pick a untagged (pick b (explicit (numberAt t p)) (implicit (numberAt t p)))) k % 32 < 31)
-          × (sameTag (firstOctet (pick a untagged (pick b (explicit (numberAt t p)) (implicit (numberAt t p)))) k) o ≡ pick a (begins target (tagOf o)) (eqb (tagOf o) (context (numberAt t p))))
-      go true b = rw (ne-eqb k 13 h) (let w = own-opens k o in (w .0, w .1 ∙ sym (by-kind o h)))
-      go false true = let w = wrapper-opens (numberAt t p) o number-low in (w .1, w .2)
-      go false false = let w = implicit-opens (numberAt t p) k o number-low in (w .1, w .2)
+      go : (a b : Bool) → sameTag (firstOctet (pick a untagged (pick b (explicit (numberAt t p)) (implicit (numberAt t p)))) k) o ≡ pick a (begins target (tagOf o)) (eqb (tagOf o) (context (numberAt t p)))
+      go true b = rw (ne-eqb k 13 h) (own-opens k o .1 ∙ sym (by-kind o h))
+      go false true = wrapper-opens (numberAt t p) o number-low .2
+      go false false = implicit-opens (numberAt t p) k o number-low .2
 
   pub begins-same : (f o : ℕ) → f ≡ firstOctet (taggingOf (modeAt t p) (numberAt t p)) k → (k ≡ 13 → ⊥) → sameTag f o ≡ memberBegins (memberOf t row p) target (tagOf o)
   unfolding memberBegins memberOf
-  begins-same f o e h = ap (λ (x : ℕ). sameTag x o) e ∙ first-as o h .1 ∙ sym (tagged-as (modeAt t p) (numberAt t p) (tagOf o) (begins target (tagOf o)))
+  begins-same f o e h = ap (λ (x : ℕ). sameTag x o) e ∙ first-as o h ∙ sym (tagged-as (modeAt t p) (numberAt t p) (tagOf o) (begins target (tagOf o)))
 
-  pub first-usable : (o : ℕ) → o ≡ firstOctet (taggingOf (modeAt t p) (numberAt t p)) k → (k ≡ 13 → ⊥) → number o ≡ 31 → ⊥
-  unfolding number
-  first-usable o e h z = let w = first-as o h .0 in omega arith
+  pub first-usable : (f : ℕ) → f ≡ firstOctet (taggingOf (modeAt t (placeAt t row)) (numberAt t (placeAt t row))) (memberKindAt t row) → number f < 31
+  unfolding taggingOf firstOctet number
+  first-usable f e = rw e (go (eqb (modeAt t p) 0) (eqb (modeAt t p) 1))
+    where
+      go : (a b : Bool) → firstOctet (pick a untagged (pick b (explicit (numberAt t p)) (implicit (numberAt t p)))) k % 32 < 31
+      go true b = own-usable k _ refl
+      go false true = wrapper-opens (numberAt t p) 0 number-low .1
+      go false false = implicit-opens (numberAt t p) k 0 number-low .1
 
   module _ (f y o : ℕ) (first : f ≡ firstOctet (taggingOf (modeAt t p) (numberAt t p)) k) (after : y ≡ getD w (2 * row + 1) 0) where
     abbrev g : ℕ

@@ -10,7 +10,7 @@ ghost use lib.Dec.{leb};
 ghost use Rattle.octets.specs.Pick.{isSome};
 ghost use Rattle.octets.specs.Octets.{octet, part, same};
 ghost use Rattle.der.specs.Kind.{generalizedTime};
-ghost use Rattle.der.specs.Tag.{tagOf};
+ghost use Rattle.der.specs.Tag.{number, tagOf};
 ghost use Rattle.der.specs.Contents.{legal};
 ghost use Rattle.rows.specs.Row.{kindAt, elementAt, membersAt, isList, modeAt, presenceAt, defaultAt};
 ghost use Rattle.table.specs.Types.{taggingOf};
@@ -190,6 +190,7 @@ fn check_leaf(
     requires here { ⌜ row < length (tableRows (now t)) ⌝ }
     requires basic { ⌜ kindAt (now t) (placeAt (now t) row) ≤ generalizedTime ⌝ }
     requires inside { ⌜ end ≤ length (now v) ⌝ }
+    requires usable { ⌜ number tag < 31 ⌝ }
     ensures { λ r. ⌜ work.Answers (typeAt (now (t .entry)) row) (kindAt (now (t .entry)) (placeAt (now (t .entry)) row)) tag (now (v .entry)) at end r ⌝ }
 {
     let kind = words::kind(t, w, row);
@@ -567,6 +568,7 @@ fn check_wrapped(
     requires here { ⌜ row < length (tableRows (now t)) ⌝ }
     requires typed { ⌜ TypeRow (now t) row ⌝ }
     requires inside { ⌜ end ≤ length (now v) ⌝ }
+    requires usable { ⌜ number tag < 31 ⌝ }
     ensures { λ r. ⌜ work.Wraps (typeAt (now (t .entry)) row) tag (now (v .entry)) at end r ⌝ }
 {
     let Inside::Of(start, n) = der::open_within(tag, v, at, end) else {
@@ -609,6 +611,7 @@ fn check(
     requires worded { ⌜ Worded (now t) (now w) ⌝ }
     requires here { ⌜ row < length (tableRows (now t)) ⌝ }
     requires inside { ⌜ end ≤ length (now v) ⌝ }
+    requires usable { ⌜ number tag < 31 ⌝ }
     ensures { λ r. ⌜ work.Answers (typeAt (now (t .entry)) row) (kindAt (now (t .entry)) (placeAt (now (t .entry)) row)) tag (now (v .entry)) at end r ⌝ }
 {
     let kind = words::kind(t, w, row);

@@ -4,6 +4,7 @@ use Rattle.value.proofs.LeafSteps.{inside-fits, inside-ends}
 use Rattle.value.proofs.MemberSteps.{row-fits, member-fits, Fielded, field-falls, field-here, field-member, fields-again, fields-bad}
 use Rattle.value.proofs.MemberSteps.{fields-done, fields-short, fields-start, member-absent, member-default, member-is}
 use Rattle.value.proofs.ModeSteps.{is-plain, is-other}
+use Rattle.value.proofs.TagSteps.{own-usable, first-usable}
 use Rattle.value.proofs.CheckSteps.{falls-body, falls-tagged, falls-wrapped, falls-value, falls-inner, list-row, answer-choice, answer-misfit}
 use Rattle.value.proofs.CheckSteps.{answer-fields, answer-elements, answer-basic, wraps-misfit, wraps-inner, wraps-surplus, wraps-filled, target-here}
 use Rattle.value.proofs.CheckSteps.{target-typed, tagged-explicit, tagged-other}
@@ -245,7 +246,7 @@ pub +check+check-choice+check-elements+check-fields+check-member+check-tagged+ch
     (λ c κs. search needs)  -- element-requires
     (λ c κs. (search needs, (search element-here, search element-typed)))  -- own-first-requires
     (λ c. search elements-start)  -- loop-holds
-    (λ c κs. (search element-falls, (search needs, (search element-here, search needs))))  -- check-requires
+    (λ c κs. (search element-falls, (search needs, (search element-here, (search needs, search own-usable)))))  -- check-requires
     (λ c. search needs)  -- enum-known-next
     (λ c. search needs)  -- enum-told
     (λ c. search elements-bad)  -- returns-2
@@ -283,9 +284,9 @@ pub +check+check-choice+check-elements+check-fields+check-member+check-tagged+ch
     (λ c κs. search needs)  -- type-row-requires
     (λ c κs. search needs)  -- first-requires
     (λ c κs. search needs)  -- tagged-requires
-    (λ c κs. (search falls-wrapped, (search needs, (search target-here, (search target-typed, search needs)))))  -- check-wrapped-requires
+    (λ c κs. (search falls-wrapped, (search needs, (search target-here, (search target-typed, (search needs, search first-usable))))))  -- check-wrapped-requires
     (λ c. search tagged-explicit)  -- returns
-    (λ c κs. (search falls-value, (search needs, (search target-here, search needs))))  -- check-requires
+    (λ c κs. (search falls-value, (search needs, (search target-here, (search needs, search first-usable)))))  -- check-requires
     (λ c. search tagged-other))  -- returns-2
     (λ t. check-wrapped-lts.spec (check-wrapped-claims t) (check-wrapped-at t) check-wrapped.Post
     (λ c κs. search needs)  -- open-within-requires
@@ -294,7 +295,7 @@ pub +check+check-choice+check-elements+check-fields+check-member+check-tagged+ch
     (λ c. search wraps-misfit)  -- returns
     (λ c. record { fits = search inside-fits })  -- add-stop
     (λ c κs. search needs)  -- own-first-requires
-    (λ c κs. (search falls-inner, (search needs, (search needs, search inside-ends))))  -- check-requires
+    (λ c κs. (search falls-inner, (search needs, (search needs, (search inside-ends, search own-usable)))))  -- check-requires
     (λ c. search needs)  -- enum-known-next
     (λ c. search needs)  -- enum-told-2
     (λ c. search wraps-inner)  -- returns-2

@@ -3,6 +3,7 @@ use Rattle.rows.specs.Paper.{tableLimits}
 use Rattle.words.specs.inner.Rows.{tableRows}
 use Rattle.value.proofs.ElementSteps.{Listed, element-here, element-typed, element-small, elements-bad, element-after, element-ends, element-less}
 use Rattle.value.proofs.ElementSteps.{elements-disorder, elements-again, elements-done, elements-start, listed-low}
+use Rattle.value.proofs.TagSteps.{own-usable}
 use borrow.Author.Needs.{needs}
 use Rattle.value.proofs.check_leaves.Statement.{statement}
 use Rattle.value.proofs.check_leaves.Tie as tie
@@ -23,7 +24,7 @@ check-leaves-spec =
     (λ c κs. search needs)  -- element-requires
     (λ c κs. (search needs, (search element-here, search element-typed)))  -- own-first-requires
     (λ c. search elements-start)  -- loop-holds
-    (λ c κs. (search needs, (search element-here, (search element-small, search needs))))  -- check-leaf-requires
+    (λ c κs. (search needs, (search element-here, (search element-small, (search needs, search own-usable)))))  -- check-leaf-requires
     (λ c. search needs)  -- enum-known-next
     (λ c. search needs)  -- enum-told
     (λ c. search elements-bad)  -- returns
