@@ -8,8 +8,8 @@ use Rattle.octets.specs.Pick.{pick}
 use Rattle.octets.specs.Octets.{part}
 use Rattle.octets.proofs.Laws.{pick-cases}
 use Rattle.rows.specs.declared.Table.{Table}
-use Rattle.words.specs.Check as check
-use Rattle.words.specs.declared.TableCheck.{TableCheck}
+use Rattle.table.specs.Check as check
+use Rattle.table.specs.declared.TableCheck.{TableCheck}
 use Rattle.value.specs.Limits.{Limits}
 use Rattle.value.specs.Check as values
 use Rattle.value.specs.Check.{valueFits}

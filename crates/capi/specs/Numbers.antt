@@ -7,7 +7,7 @@ use mathlib.Core.List.{List}
 use lib.ListN.{length}
 use lib.Dec.{eqb}
 use Rattle.octets.specs.Octets.{part}
-use Rattle.table.specs.Check.{TableReport}
+use Rattle.types.specs.Check.{TableReport}
 use Rattle.value.specs.Check.{ValueReport}
 use Rattle.value.specs.Part.{PartReport}
 use Rattle.quote.specs.declared.Quoted.{Quoted}

@@ -2,11 +2,11 @@
 use engine::Answer;
 use engine::Listed;
 use quote::Quoted;
+use table::TableCheck;
 use value::ValueCheck;
-use words::TableCheck;
 ghost use mathlib.Core.Path.{_≡_};
-ghost use Rattle.table.specs.Check as tables;
-ghost use Rattle.words.specs.Check as check;
+ghost use Rattle.types.specs.Check as tables;
+ghost use Rattle.table.specs.Check as check;
 ghost use Rattle.value.specs.Check as values;
 ghost use Rattle.value.specs.Part.{partReport};
 ghost use Rattle.rules.specs.Rule.{knownRules};
@@ -87,7 +87,7 @@ fn of_answer(a: Answer) -> CAnswer
 pub extern "C" fn tezqulom_check_table(table: &[u8]) -> CAnswer
     ensures { λ r. ⌜ r ≡ ofTable (tables.tableReport (limits .table) (now (table .entry))) ⌝ }
 {
-    of_table(words::check_table(table))
+    of_table(table::check_table(table))
 }
 
 #[no_mangle]

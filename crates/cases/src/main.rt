@@ -5,9 +5,9 @@ use filter::Filter;
 use libc::STDIN_FILENO;
 use libc::STDOUT_FILENO;
 use rows::Table;
+use table::TableCheck;
 use value::Value;
 use value::ValueCheck;
-use words::TableCheck;
 ghost use Prim.Native.Nat.{_≤_};
 
 // A number that was read, or none.
@@ -120,7 +120,7 @@ fn table_case() -> bool {
     let Number::Of(t) = read_input(&mut table) else {
         return false;
     };
-    match words::check_table(octets::part(&table, 0, t)) {
+    match table::check_table(octets::part(&table, 0, t)) {
         TableCheck::Admitted(admitted) => print_line(b"admitted ", admitted.rows as u64),
         TableCheck::Refused(refusal) => print_line(b"refused ", refusal as u64),
     }

@@ -11,9 +11,9 @@ use Rattle.octets.specs.Pick.{pick, both, no, isSome, bind}
 use Rattle.octets.specs.Octets.{part}
 use Rattle.rows.specs.Limits.{tableFits}
 use Rattle.rows.specs.Row.{rows}
-use Rattle.table.specs.Types.{Ty, typeAt}
-use Rattle.table.specs.Admitted.{admitted}
-use Rattle.table.specs.Check as table
+use Rattle.types.specs.Types.{Ty, typeAt}
+use Rattle.types.specs.Admitted.{admitted}
+use Rattle.types.specs.Check as table
 use Rattle.value.specs.Value.{Value}
 use Rattle.value.specs.Decode.{storedValue}
 use Rattle.value.specs.Check as value

@@ -9,8 +9,8 @@ use lib.ListN.{length}
 use lib.Dec.{leb}
 use Prim.Native.Nat.{suc, _+_}
 use Rattle.octets.specs.Pick.{pick, both, either, isSome}
-use Rattle.table.specs.Types.{Ty, typeAt}
-use Rattle.table.specs.Admitted.{admitted}
+use Rattle.types.specs.Types.{Ty, typeAt}
+use Rattle.types.specs.Admitted.{admitted}
 use Rattle.value.specs.Value.{Value}
 use Rattle.value.specs.Decode.{storedValue}
 use Rattle.reference.specs.Named.{Held, named}

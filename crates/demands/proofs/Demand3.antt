@@ -10,7 +10,7 @@ use lib.ListN.{length}
 use Rattle.octets.specs.Pick.{pick, both, isSome, bind}
 use Rattle.octets.proofs.Laws.{both-true}
 use Rattle.rows.specs.Limits.{tableFits}
-use Rattle.table.specs.Types.{Ty, typeAt}
+use Rattle.types.specs.Types.{Ty, typeAt}
 use Rattle.value.specs.Value.{Value}
 use Rattle.value.specs.Check.{valueFits}
 use Rattle.value.specs.Decode.{storedValue}

@@ -9,8 +9,8 @@ use Rattle.octets.specs.Pick.{pick, either}
 use Rattle.octets.specs.Octets.{same}
 use Rattle.rows.specs.Limits.{Limits}
 use Rattle.rows.specs.Row.{kindAt, elementAt, typeRowAt, isList, rows, rowAt, membersAt}
-use Rattle.table.specs.Types.{Tagging, Presence, mandatory, optional, default, Member, Ty, basic, sequence, choice, listOf}
-use Rattle.table.specs.Types.{Members, noMore, more, memberOf, membersFrom, typed, typeFrom, typeAt}
+use Rattle.types.specs.Types.{Tagging, Presence, mandatory, optional, default, Member, Ty, basic, sequence, choice, listOf}
+use Rattle.types.specs.Types.{Members, noMore, more, memberOf, membersFrom, typed, typeFrom, typeAt}
 use Rattle.value.specs.Value.{spotOf, Value, leaf, fields, chosen, elements, Fields, endFields, present, absent, Values, endValues, next}
 use Rattle.value.specs.Decode.{storedValue}
 use Rattle.value.proofs.Decodes.{Decodes, is-basic, is-sequence, is-choice, is-list, Tagged, bare, filling}

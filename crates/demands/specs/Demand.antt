@@ -7,8 +7,8 @@ use mathlib.Core.List.{List, _++_}
 use lib.ListN.{length, drop}
 use lib.Dec.{leb}
 use Rattle.octets.specs.Pick.{pick}
-use Rattle.table.specs.Types.{typeAt}
-use Rattle.table.specs.Admitted as table
+use Rattle.types.specs.Types.{typeAt}
+use Rattle.types.specs.Admitted as table
 use Rattle.value.specs.Value.{Value}
 use Rattle.value.specs.Decode.{storedValue}
 use Rattle.reference.specs.Reference.{Id, givenIds}

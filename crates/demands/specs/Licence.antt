@@ -6,7 +6,7 @@ use Prim.Native.Nat.{ℕ}
 use Prim.Native.String.{String}
 use lib.ListN.{replicate}
 use Rattle.octets.specs.Octets.{bytes, hex}
-use Rattle.table.specs.Paper.{licence}
+use Rattle.types.specs.Paper.{licence}
 use Rattle.value.specs.Paper.{licenceRecord}
 use Rattle.rules.specs.Rule.{knownRules}
 use Rattle.engine.specs.Paper.{limits}

@@ -5,7 +5,7 @@ use mathlib.Core.Bool.{Bool, false}
 use mathlib.Core.Option.{Option, none, some}
 use mathlib.Core.List.{List, [], _∷_, map}
 use Rattle.octets.specs.Pick.{pick, either}
-use Rattle.table.specs.Types.{Ty}
+use Rattle.types.specs.Types.{Ty}
 use Rattle.value.specs.Value.{Value}
 use Rattle.reference.specs.Reference.{Id}
 use Rattle.reference.specs.Named.{named}

@@ -7,7 +7,7 @@ use lib.Dec.{eqb}
 use Rattle.octets.specs.Pick.{pick}
 use Rattle.rows.specs.Limits.{Limits}
 use Rattle.rows.specs.Row.{rows, rowAt}
-use Rattle.table.specs.Types.{memberOf}
+use Rattle.types.specs.Types.{memberOf}
 use Rattle.reader.specs.There.{contentsThere}
 use Rattle.reference.specs.Numbers.{Component, stored, byDefault, byCount, Numbers, numbersOf, threes}
 use Rattle.rules.specs.Rule.{Rule}

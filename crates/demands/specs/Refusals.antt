@@ -9,9 +9,9 @@ use lib.ListN.{length}
 use lib.Dec.{leb, ltb, eqb}
 use Rattle.octets.specs.Pick.{pick, both, no, isSome, bind}
 use Rattle.rows.specs.Limits.{tableFits}
-use Rattle.table.specs.Types.{typeAt}
-use Rattle.table.specs.Admitted.{admitted}
-use Rattle.table.specs.Check.{TableReport}
+use Rattle.types.specs.Types.{typeAt}
+use Rattle.types.specs.Admitted.{admitted}
+use Rattle.types.specs.Check.{TableReport}
 use Rattle.value.specs.Decode.{storedValue}
 use Rattle.value.specs.Check.{ValueReport, valueFits, isStored}
 use Rattle.reference.specs.Reference.{givenIds}

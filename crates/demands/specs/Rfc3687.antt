@@ -5,7 +5,7 @@ use mathlib.Core.List.{List, [], _∷_, _++_, map}
 use Prim.Native.Nat.{ℕ}
 use Prim.Native.String.{String}
 use Rattle.octets.specs.Octets.{bytes, hex}
-use Rattle.table.specs.Paper.{memberRow}
+use Rattle.types.specs.Paper.{memberRow}
 use Rattle.rules.specs.Rule.{knownRules}
 use Rattle.engine.specs.Paper.{limits}
 use Rattle.judge.specs.Truth.{TRUE, FALSE, UNDEFINED}

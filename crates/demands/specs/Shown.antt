@@ -10,7 +10,7 @@ use Rattle.octets.specs.Pick.{pick}
 use Rattle.octets.specs.Octets as octets
 use Prim.Native.String.{String}
 use Rattle.rows.specs.Paper.{tableLimits}
-use Rattle.table.specs.Check as table
+use Rattle.types.specs.Check as table
 use Rattle.value.specs.Paper.{valueLimits}
 use Rattle.value.specs.Check as value
 use Rattle.value.specs.Part as part

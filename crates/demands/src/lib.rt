@@ -1,10 +1,10 @@
 // The demands, as contracts of functions that call the entries.
 use engine::Answer;
 use engine::Listed;
+use table::TableCheck;
 use value::ValueCheck;
-use words::TableCheck;
 ghost use mathlib.Core.Path.{_≡_};
-ghost use Rattle.words.specs.Check as check;
+ghost use Rattle.table.specs.Check as check;
 ghost use Rattle.value.specs.Check as values;
 ghost use Rattle.engine.specs.Answer as answer;
 ghost use Rattle.engine.specs.Listing as listing;
@@ -16,7 +16,7 @@ ghost use Rattle.demands.specs.Demand.{Demanded};
 pub fn check_table(table: &[u8]) -> TableCheck
     ensures { λ r. ⌜ RefusesTable (now (table .entry)) (check.report r) ⌝ }
 {
-    words::check_table(table)
+    table::check_table(table)
 }
 
 pub fn check_value(table: &[u8], value: &[u8]) -> ValueCheck

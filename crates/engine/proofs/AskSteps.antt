@@ -13,11 +13,11 @@ use Rattle.octets.proofs.Laws.{both-true}
 use Rattle.rows.specs.Limits.{tableFits}
 use Rattle.rows.specs.Paper.{tableLimits}
 use Rattle.rows.specs.Row.{rows}
-use Rattle.table.specs.Types.{Ty, typeFrom, typeAt}
-use Rattle.table.specs.inner.Work.{rowCount}
-use Rattle.table.specs.inner.Work.{Sound, Admits}
-use Rattle.words.specs.inner.Rows as words
-use Rattle.words.specs.inner.Rows.{tableRows}
+use Rattle.types.specs.Types.{Ty, typeFrom, typeAt}
+use Rattle.types.specs.inner.Work.{rowCount}
+use Rattle.types.specs.inner.Work.{Sound, Admits}
+use Rattle.table.specs.inner.Rows as words
+use Rattle.table.specs.inner.Rows.{tableRows}
 use Rattle.value.specs.Paper.{valueLimits}
 use Rattle.value.specs.Decode.{storedValue}
 use Rattle.value.specs.Check.{valueFits}

@@ -15,9 +15,9 @@ use Rattle.octets.specs.Pick.{pick, both, bind, isSome}
 use Rattle.octets.proofs.Laws.{both-true}
 use Rattle.rows.specs.Limits.{tableFits}
 use Rattle.rows.specs.Paper.{tableLimits}
-use Rattle.table.specs.Types.{Ty, typeFrom, typeAt}
-use Rattle.table.specs.inner.Work.{rowCount}
-use Rattle.table.specs.inner.Work.{Admits}
+use Rattle.types.specs.Types.{Ty, typeFrom, typeAt}
+use Rattle.types.specs.inner.Work.{rowCount}
+use Rattle.types.specs.inner.Work.{Admits}
 use Rattle.value.specs.Paper.{valueLimits}
 use Rattle.value.specs.Decode.{storedValue}
 use Rattle.value.specs.Check.{valueFits}

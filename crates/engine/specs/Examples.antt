@@ -6,9 +6,9 @@ use Prim.Native.Nat.{ℕ}
 use Prim.Native.String.{String}
 use lib.ListN.{set, replicate}
 use Rattle.octets.specs.Octets.{bytes, hex}
-use Rattle.table.specs.Types.{typeAt}
+use Rattle.types.specs.Types.{typeAt}
 use Rattle.rows.specs.Paper.{tableLimits}
-use Rattle.table.specs.Paper.{licence}
+use Rattle.types.specs.Paper.{licence}
 use Rattle.value.specs.Paper.{licenceRecord}
 use Rattle.reference.specs.Reference.{position, all, Id, name, index}
 use Rattle.reference.specs.Numbers.{threes}

@@ -7,8 +7,8 @@ use lib.ListN.{length, drop}
 use lib.Dec.{ltb, leb}
 use Rattle.octets.specs.Pick.{pick, both, either, no, isSome}
 use Rattle.rows.specs.Limits.{tableFits}
-use Rattle.table.specs.Types.{Ty, typeAt}
-use Rattle.table.specs.Admitted.{admitted}
+use Rattle.types.specs.Types.{Ty, typeAt}
+use Rattle.types.specs.Admitted.{admitted}
 use Rattle.value.specs.Decode.{storedValue}
 use Rattle.value.specs.Check.{valueFits}
 use Rattle.reference.specs.Reference.{Id, givenIds}

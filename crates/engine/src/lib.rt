@@ -14,7 +14,7 @@ ghost use mathlib.Core.List.{[]};
 ghost use Prim.Native.Nat.{_≤_, _<_, _+_, _/_};
 ghost use lib.ListN.{length};
 ghost use Rattle.octets.specs.Pick.{isSome};
-ghost use Rattle.table.specs.inner.Work.{Sound};
+ghost use Rattle.types.specs.inner.Work.{Sound};
 ghost use Rattle.reference.specs.Reference.{givenIds};
 ghost use Rattle.reference.specs.inner.Work.{leadsTo};
 ghost use Rattle.trail.specs.Trail.{trail};
@@ -28,10 +28,10 @@ ghost use Rattle.engine.specs.inner.Judged.{settledAs, judgedReport};
 ghost use Rattle.engine.specs.Listing.{report, lists, walked, referenceFits, listingFits, withIds, listingOf, listReport, listing};
 ghost use Rattle.engine.specs.Paper.{limits};
 ghost use Rattle.rows.specs.Paper.{tableLimits};
-ghost use Rattle.table.specs.inner.Rows.{rowType};
+ghost use Rattle.types.specs.inner.Rows.{rowType};
 ghost use Rattle.rules.specs.Rule.{knownRules};
-ghost use Rattle.words.specs.inner.Rows.{tableRows};
-ghost use Rattle.words.specs.inner.Words.{Worded};
+ghost use Rattle.table.specs.inner.Rows.{tableRows};
+ghost use Rattle.table.specs.inner.Words.{Worded};
 
 // The answer of the listing: the number of named values, or a refusal.
 pub enum Listed {
@@ -179,13 +179,13 @@ fn list_admitted(
         ≡ listingOf limits (now (table .entry)) (now (value .entry)) given (now (reference .entry)) defaults (now (room .entry)) ⌝ }
 {
     let mut w = [0u64; 256];
-    let n = words::admit_table(table, &mut w);
+    let n = table::admit_table(table, &mut w);
     if n == 0 {
         return Listed::Refused(2);
     }
     let mut starts = [0usize; Table::MAX_ROWS];
     let mut masks = [0u64; Table::MAX_ROWS];
-    words::unpack(table, &w, n, &mut starts, &mut masks);
+    table::unpack(table, &w, n, &mut starts, &mut masks);
     list_typed(
         table,
         &starts[..n],
@@ -305,13 +305,13 @@ fn ask_admitted(table: &[u8], value: &[u8], filter: &[u8], budget: usize) -> Ans
     ensures { λ a. ⌜ answer.report a ≡ answer.questionOf limits knownRules (now (table .entry)) (now (value .entry)) (now (filter .entry)) budget ⌝ }
 {
     let mut w = [0u64; 256];
-    let n = words::admit_table(table, &mut w);
+    let n = table::admit_table(table, &mut w);
     if n == 0 {
         return Answer::Refused(2);
     }
     let mut starts = [0usize; Table::MAX_ROWS];
     let mut masks = [0u64; Table::MAX_ROWS];
-    words::unpack(table, &w, n, &mut starts, &mut masks);
+    table::unpack(table, &w, n, &mut starts, &mut masks);
     ask_typed(table, &starts[..n], &masks, &w, value, filter, budget)
 }
 

@@ -8,7 +8,7 @@ use native.Mathlib.Omega.{arith}
 use native.Mathlib.Nat.{add-mul}
 use lib.ListN.{length, length-append}
 use Rattle.octets.specs.Pick.{pick}
-use Rattle.table.specs.Types.{Ty}
+use Rattle.types.specs.Types.{Ty}
 use Rattle.value.specs.Value.{Value}
 use Rattle.value.specs.Decode.{storedValue}
 use Rattle.reference.specs.Reference.{Id}

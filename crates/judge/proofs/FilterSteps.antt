@@ -8,7 +8,7 @@ use native.Mathlib.Omega.{arith}
 use borrow.Author.Tests.{not-true, not-false}
 use lib.ListN.{length}
 use Rattle.octets.specs.Pick.{isSome}
-use Rattle.table.specs.Types.{Ty}
+use Rattle.types.specs.Types.{Ty}
 use Rattle.rules.specs.Rule.{knownRules}
 use Rattle.assertion.specs.Assertion.{Read, assertionAt}
 use Rattle.assertion.specs.inner.Places.{itemOf, reportAssertion}

@@ -11,7 +11,7 @@ use lib.Dec.{leb, eqb}
 use Rattle.octets.specs.Pick.{pick, both, bind}
 use Rattle.octets.specs.Octets.{part, same}
 use Rattle.octets.proofs.Laws.{rest-length}
-use Rattle.table.specs.Types.{Tagging, Presence, mandatory, optional, default, Member, Ty, sequence, choice, listOf, Members}
+use Rattle.types.specs.Types.{Tagging, Presence, mandatory, optional, default, Member, Ty, sequence, choice, listOf, Members}
 use Rattle.value.specs.Value.{Spot, spotAt, spotOf, Value, fields, elements, Fields, Values}
 use Rattle.value.specs.Decode.{storedValue}
 use Rattle.value.proofs.Views.{none-some, some-same, bind-view}

@@ -9,8 +9,8 @@ use borrow.Author.Tests.{not-true, not-false, le-leb}
 use lib.ListN.{length}
 use Rattle.octets.specs.Pick.{pick, both, bind, isSome}
 use Rattle.octets.specs.inner.Answers.{between}
-use Rattle.table.specs.Types.{Ty, typeFrom}
-use Rattle.table.specs.inner.Work.{Sound}
+use Rattle.types.specs.Types.{Ty, typeFrom}
+use Rattle.types.specs.inner.Work.{Sound}
 use Rattle.value.specs.Decode.{storedValue}
 use Rattle.value.proofs.Views.{none-some, some-same}
 use Rattle.reference.specs.Reference.{Id, identifiers, givenIds}

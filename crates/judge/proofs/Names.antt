@@ -5,8 +5,8 @@ use mathlib.Core.List.{List}
 use Prim.Native.Nat.{ℕ}
 use Rattle.rows.specs.Limits.{Limits}
 use Rattle.rows.specs.Row.{rows}
-use Rattle.table.specs.Admitted.{admitted}
-use Rattle.table.proofs.NameLaws.{unfilled-differ}
+use Rattle.types.specs.Admitted.{admitted}
+use Rattle.types.proofs.NameLaws.{unfilled-differ}
 use Rattle.judge.specs.inner.Work.{NamesDiffer}
 
 -- "names in one type differ"

@@ -14,9 +14,9 @@ use Rattle.octets.proofs.Laws.{both-true}
 use Rattle.der.specs.Contents.{legal, legalBoolean}
 use Rattle.der.proofs.Laws.{integer-octets, legal-boolean, legal-integer, legal-enumerated}
 use Rattle.rows.specs.Row.{nameAt, kindAt, elementAt, typeRowAt, presenceAt, defaultLengthAt, defaultAt, isList, rowAt, membersAt}
-use Rattle.groups.specs.Clauses.{defaultAllowed, defaultLegal}
-use Rattle.table.specs.Types.{mandatory, optional, default, Ty, basic, sequence, choice, listOf, Members, noMore, more, unfilled, presenceOf, memberOf, membersFrom, typeFrom}
-use Rattle.table.specs.inner.Work.{Sound}
+use Rattle.clauses.specs.Clauses.{defaultAllowed, defaultLegal}
+use Rattle.types.specs.Types.{mandatory, optional, default, Ty, basic, sequence, choice, listOf, Members, noMore, more, unfilled, presenceOf, memberOf, membersFrom, typeFrom}
+use Rattle.types.specs.inner.Work.{Sound}
 use Rattle.reference.specs.Numbers.{contentsOf}
 use Rattle.judge.specs.inner.Work.{NamesDiffer}
 

@@ -5,7 +5,7 @@ use mathlib.Core.Bool.{Bool}
 use mathlib.Core.Option.{Option, none, some}
 use mathlib.Core.List.{List}
 use Rattle.octets.specs.Pick.{pick, _>>=_}
-use Rattle.table.specs.Types.{Ty}
+use Rattle.types.specs.Types.{Ty}
 use Rattle.reference.specs.Reference.{Id, identifiers}
 use Rattle.reference.specs.Allowed.{allowed}
 use Rattle.reference.specs.Numbers.{Component}

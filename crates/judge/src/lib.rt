@@ -16,7 +16,7 @@ ghost use mathlib.Core.Bool.{true};
 ghost use mathlib.Core.List.{[]};
 ghost use lib.ListN.{length};
 ghost use Rattle.octets.specs.Pick.{both, isSome};
-ghost use Rattle.table.specs.inner.Work.{Sound};
+ghost use Rattle.types.specs.inner.Work.{Sound};
 ghost use Rattle.reference.specs.Reference.{givenIds};
 ghost use Rattle.reference.specs.inner.Work as reference;
 ghost use Rattle.rules.specs.Rule.{knownRules};
@@ -31,7 +31,7 @@ ghost use Rattle.walk.specs.inner.Run as run;
 ghost use Rattle.judge.specs.Assertion.{testing, outcome};
 ghost use Rattle.judge.specs.inner.Work as work;
 ghost use Rattle.rows.specs.Paper.{tableLimits};
-ghost use Rattle.table.specs.inner.Rows.{rowType};
+ghost use Rattle.types.specs.inner.Rows.{rowType};
 
 pub enum Verdict {
     True,

@@ -9,7 +9,7 @@ use Rattle.der.specs.Tag.{wrapperOctet}
 use Rattle.der.specs.Header.{headerAt}
 use Rattle.der.specs.declared.Header.{Header}
 use Rattle.der.proofs.Laws.{header-within, header-before, inside-view, inside-within}
-use Rattle.table.specs.Types.{Tagging, Ty, Members}
+use Rattle.types.specs.Types.{Tagging, Ty, Members}
 use Rattle.value.specs.Value.{Spot, spotAt, Value, Fields, Values}
 use Rattle.value.specs.Decode.{storedValue}
 use Rattle.value.proofs.Decodes.{Behind, Decodes, is-basic, is-sequence, is-choice, is-list, Tagged, bare, filling}

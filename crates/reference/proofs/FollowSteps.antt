@@ -9,7 +9,7 @@ use borrow.Author.Tests.{not-true, not-false}
 use lib.ListN.{length}
 use Rattle.octets.specs.Pick.{bind, consed}
 use Rattle.octets.specs.Octets.{part}
-use Rattle.table.specs.Types.{typeFrom}
+use Rattle.types.specs.Types.{typeFrom}
 use Rattle.reference.specs.Reference.{Id, name, index, position, fromEnd, count, all}
 use Rattle.reference.specs.Allowed as allowed
 use Rattle.reference.specs.Allowed.{allowedFrom}

@@ -16,7 +16,7 @@ use Rattle.octets.specs.Quoted.{undoubled}
 use Rattle.octets.proofs.Laws.{both-true, never}
 use Rattle.octets.proofs.TextLaws.{number-nil, number-cons, every-nil, every-cons, pieces-nil, pieces-cons, same-longer, same-cons}
 use Rattle.octets.proofs.QuotedLaws.{noQuote, undoubled-plain, undoubled-quoted}
-use Rattle.table.specs.Types.{basic, sequence, choice, listOf}
+use Rattle.types.specs.Types.{basic, sequence, choice, listOf}
 use Rattle.reference.specs.Reference.{position, fromEnd, count, all, Id, name, index, isPosition, idOf, idsOf, readReference}
 use Rattle.reference.specs.Allowed as allowed
 use Rattle.reference.specs.Allowed.{ofType, ofCount, under, allowed}

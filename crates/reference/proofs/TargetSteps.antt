@@ -7,8 +7,8 @@ use native.Mathlib.Omega.{arith}
 use Rattle.octets.specs.Pick.{pick}
 use Rattle.octets.specs.Octets.{part, same}
 use Rattle.rows.specs.Row.{nameAt, rowAt, membersAt}
-use Rattle.groups.specs.Clauses.{memberPlace}
-use Rattle.table.specs.Types.{unfilled}
+use Rattle.clauses.specs.Clauses.{memberPlace}
+use Rattle.types.specs.Types.{unfilled}
 use Rattle.value.specs.inner.Work.{first}
 use Rattle.value.proofs.LeafSteps.{first-none, first-start, first-step}
 use Rattle.reference.specs.inner.Work.{namedOf}

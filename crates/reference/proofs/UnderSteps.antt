@@ -11,8 +11,8 @@ use lib.ListN.{length}
 use Rattle.octets.specs.Pick.{pick, bind}
 use Rattle.octets.specs.Octets.{part}
 use Rattle.rows.specs.Row.{kindAt, elementAt, typeRowAt, rowAt, membersAt, isGroup, isList}
-use Rattle.table.specs.Types.{Ty, basic, sequence, choice, listOf, Members, memberOf, membersFrom, typed, typeFrom}
-use Rattle.table.specs.inner.Work.{Sound}
+use Rattle.types.specs.Types.{Ty, basic, sequence, choice, listOf, Members, memberOf, membersFrom, typed, typeFrom}
+use Rattle.types.specs.inner.Work.{Sound}
 use Rattle.value.specs.inner.Work.{first}
 use Rattle.value.proofs.LeafSteps.{first-none, first-step}
 use Rattle.reference.specs.Reference.{Id, name}

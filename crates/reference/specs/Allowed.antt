@@ -4,7 +4,7 @@ use mathlib.Core.Option.{Option, none, some}
 use mathlib.Core.List.{List, [], _∷_}
 use Rattle.octets.specs.Pick.{pick, bind}
 use Rattle.octets.specs.Octets.{same}
-use Rattle.table.specs.Types.{Ty, basic, sequence, choice, listOf, Members, noMore, more}
+use Rattle.types.specs.Types.{Ty, basic, sequence, choice, listOf, Members, noMore, more}
 use Rattle.reference.specs.Reference.{Index, position, fromEnd, count, all, Id, name, index}
 
 pub data Target : Type 0 where

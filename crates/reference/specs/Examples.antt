@@ -7,9 +7,9 @@ use Prim.Native.Nat.{ℕ}
 use Prim.Native.String.{String}
 use Rattle.octets.specs.Pick.{bind}
 use Rattle.octets.specs.Octets.{bytes, hex}
-use Rattle.table.specs.Types.{Ty, typeAt, basic}
+use Rattle.types.specs.Types.{Ty, typeAt, basic}
 use Rattle.rows.specs.Paper.{tableLimits}
-use Rattle.table.specs.Paper.{licence}
+use Rattle.types.specs.Paper.{licence}
 use Rattle.value.specs.Decode.{storedValue}
 use Rattle.value.specs.Value.{Value}
 use Rattle.value.specs.Paper.{licenceRecord}

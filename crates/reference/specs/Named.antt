@@ -6,7 +6,7 @@ use mathlib.Core.List.{List, [], _∷_, _++_}
 use lib.Dec.{leb, eqb}
 use Rattle.octets.specs.Pick.{pick}
 use Rattle.octets.specs.Octets.{same}
-use Rattle.table.specs.Types.{Presence, mandatory, optional, default, Member}
+use Rattle.types.specs.Types.{Presence, mandatory, optional, default, Member}
 use Rattle.value.specs.Value.{Value, leaf, fields, chosen, elements, Fields, endFields, present, absent, Values, endValues, next}
 use Rattle.reference.specs.Reference.{Index, position, fromEnd, count, all, Id, name, index}
 

@@ -1,7 +1,7 @@
 -- "A listed value is three numbers: source, place, number."
 use Prim.Native.Nat.{ℕ}
 use mathlib.Core.List.{List, [], _∷_}
-use Rattle.table.specs.Types.{Presence, mandatory, optional, default, Member}
+use Rattle.types.specs.Types.{Presence, mandatory, optional, default, Member}
 use Rattle.value.specs.Value.{Spot, spotOf}
 use Rattle.reference.specs.Named.{Held, value, defaultValue, countValue}
 

@@ -8,8 +8,8 @@ ghost use Rattle.octets.specs.Octets.{same};
 ghost use Rattle.octets.specs.inner.Answers.{between};
 ghost use Rattle.octets.specs.Text.{isName, decimal};
 ghost use Rattle.rows.specs.Row.{nameAt, kindAt, rowAt, isList};
-ghost use Rattle.table.specs.Types.{unfilled};
-ghost use Rattle.table.specs.inner.Work.{Sound};
+ghost use Rattle.types.specs.Types.{unfilled};
+ghost use Rattle.types.specs.inner.Work.{Sound};
 ghost use Rattle.reference.specs.Reference as reference;
 ghost use Rattle.reference.specs.Reference.{name};
 ghost use Rattle.reference.specs.inner.Work as work;
@@ -228,7 +228,7 @@ fn find_named(t: &[u8], s: &[usize], row: usize, r: &[u8], a: usize, b: usize) -
     let n = rows::members_at(t, rows::row_at(s, row));
     let mut j = 0;
     while j < n {
-        if is_named(t, groups::member_place(s, row, j), r, a, b) {
+        if is_named(t, clauses::member_place(s, row, j), r, a, b) {
             return j;
         }
         j += 1;
@@ -264,7 +264,7 @@ fn under_name(t: &[u8], s: &[usize], m: &[u64], row: usize, r: &[u8], a: usize, 
     if n <= j {
         return Target::No;
     }
-    Target::Row(groups::member_type(t, s, row, j))
+    Target::Row(clauses::member_type(t, s, row, j))
 }
 
 // One identifier on a SEQUENCE or CHOICE.

@@ -18,9 +18,9 @@ use Rattle.der.proofs.Laws.{integer-octets, legal-integer}
 use Rattle.der.proofs.MeaningLaws.{string-kinds}
 use Rattle.rows.specs.Row.{kindAt, elementAt, typeRowAt, modeAt, numberAt, isList, rowAt, membersAt}
 use Rattle.rows.proofs.KindLaws.{list-kinds}
-use Rattle.table.specs.Types.{untagged, explicit, implicit, Ty, basic, sequence, choice, listOf, Members, taggingOf, membersFrom, typed, typeFrom}
-use Rattle.table.specs.inner.Work.{Sound}
-use Rattle.table.proofs.TypeCases.{tagging-cases, member-tagging, members-none, members-more}
+use Rattle.types.specs.Types.{untagged, explicit, implicit, Ty, basic, sequence, choice, listOf, Members, taggingOf, membersFrom, typed, typeFrom}
+use Rattle.types.specs.inner.Work.{Sound}
+use Rattle.types.proofs.TypeCases.{tagging-cases, member-tagging, members-none, members-more}
 use Rattle.reference.specs.Allowed.{Target, ofType, ofCount}
 use Rattle.rules.specs.Rule.{Syntax, booleans, integers, objectIdentifiers, octetStrings, bitStrings, strings, times, Rule, present, equal, less, Known, ruleOf}
 use Rattle.rules.specs.Suits.{suitsKind, isUntagged, isStringType, allStrings, suitsTarget, suits}

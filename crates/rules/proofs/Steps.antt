@@ -23,8 +23,8 @@ use Rattle.times.specs.Asserted.{assertedTime}
 use Rattle.times.specs.inner.Answers.{against}
 use Rattle.der.specs.declared.Time.{Time}
 use Rattle.rows.specs.Row.{kindAt, modeAt, rowAt, membersAt}
-use Rattle.groups.specs.Clauses.{memberPlace}
-use Rattle.groups.specs.inner.Work.{memberType}
+use Rattle.clauses.specs.Clauses.{memberPlace}
+use Rattle.clauses.specs.inner.Work.{memberType}
 use Rattle.reference.specs.Allowed.{ofCount}
 use Rattle.rules.specs.Suits.{suitsKind, suitsTarget, suits}
 use Rattle.rules.specs.Asserted.{isTruth}

@@ -7,7 +7,7 @@ use Prim.Native.Nat.{ℕ}
 use Prim.Native.String.{String}
 use Rattle.octets.specs.Pick.{bind}
 use Rattle.octets.specs.Octets.{bytes, hex}
-use Rattle.table.specs.Types.{Tagging, untagged, explicit, mandatory, Ty, basic, sequence, choice, noMore, more}
+use Rattle.types.specs.Types.{Tagging, untagged, explicit, mandatory, Ty, basic, sequence, choice, noMore, more}
 use Rattle.reference.specs.Allowed.{Target, ofType, ofCount}
 use Rattle.reference.specs.Numbers.{Component, stored, byCount}
 use Rattle.rules.specs.Rule.{knownRules}

@@ -5,7 +5,7 @@ use lib.Dec.{eqb}
 use Rattle.octets.specs.Pick.{both}
 use Rattle.der.specs.Kind as kind
 use Rattle.der.specs.Kind.{isString}
-use Rattle.table.specs.Types.{Tagging, untagged, explicit, implicit, Ty, basic, sequence, choice, listOf, Members, noMore, more}
+use Rattle.types.specs.Types.{Tagging, untagged, explicit, implicit, Ty, basic, sequence, choice, listOf, Members, noMore, more}
 use Rattle.reference.specs.Allowed.{Target, ofType, ofCount}
 use Rattle.rules.specs.Rule.{Syntax, booleans, integers, objectIdentifiers, octetStrings, bitStrings, strings, times, Rule, present, equal, less}
 

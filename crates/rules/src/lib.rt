@@ -258,10 +258,10 @@ fn suits_kind(x: Syntax, k: u8) -> bool
 fn is_string_row(t: &[u8], s: &[usize], i: usize, j: usize) -> bool
     ensures { λ r. ⌜ r ≡ answers.stringRow (now (t .entry)) (now (s .entry)) i j ⌝ }
 {
-    if rows::mode_at(t, groups::member_place(s, i, j)) != 0 {
+    if rows::mode_at(t, clauses::member_place(s, i, j)) != 0 {
         return false;
     }
-    is_string(rows::kind_at(t, rows::row_at(s, groups::member_type(t, s, i, j))))
+    is_string(rows::kind_at(t, rows::row_at(s, clauses::member_type(t, s, i, j))))
 }
 
 fn all_strings(t: &[u8], s: &[usize], i: usize, n: usize) -> bool

@@ -1,9 +1,7 @@
-pub mod BitSets
-pub mod TypeLaws
-pub mod TagLaws
-pub mod TagSteps
-pub mod AdmitSteps
-pub mod Laws
-pub mod SoundLaws
-pub mod TypeCases
-pub mod NameLaws
+pub mod Steps
+pub mod Places
+pub mod Reading
+pub mod PassLaws
+pub mod PassSteps
+pub mod Writing
+pub mod Unpacking

@@ -1,2 +1,4 @@
 pub mod Rows
-pub mod Work
+pub mod Fields
+pub mod Words
+pub mod Pass

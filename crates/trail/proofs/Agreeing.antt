@@ -11,8 +11,8 @@ use Rattle.octets.specs.Pick.{pick, either}
 use Rattle.octets.specs.Octets.{same}
 use Rattle.der.specs.Header.{headerAt}
 use Rattle.der.specs.declared.Header.{Header}
-use Rattle.table.specs.Types.{Tagging, untagged, Presence, mandatory, optional, default, Member, Ty, Members}
-use Rattle.table.specs.Begins.{isMandatory}
+use Rattle.types.specs.Types.{Tagging, untagged, Presence, mandatory, optional, default, Member, Ty, Members}
+use Rattle.types.specs.Begins.{isMandatory}
 use Rattle.value.specs.Value.{Spot, spotAt, spotOf, Value, leaf, fields, elements, Fields, Values}
 use Rattle.value.specs.Decode.{storedValue}
 use Rattle.value.proofs.Decodes.{Decodes, is-basic, is-sequence, is-choice, is-list, bare}

@@ -11,8 +11,8 @@ use lib.Dec.{ltb}
 use Rattle.octets.specs.Pick.{pick}
 use Rattle.octets.specs.Octets.{same}
 use Rattle.rows.specs.Row.{rowAt, nameAt, typeRowAt, membersAt, modeAt, numberAt}
-use Rattle.table.specs.Types.{taggingOf, unfilled, memberOf, Ty, membersFrom, typeFrom}
-use Rattle.table.specs.inner.Work.{Sound}
+use Rattle.types.specs.Types.{taggingOf, unfilled, memberOf, Ty, membersFrom, typeFrom}
+use Rattle.types.specs.inner.Work.{Sound}
 use Rattle.value.specs.Decode.{startsHere}
 use Rattle.value.specs.inner.Work.{first, markedOf}
 use Rattle.value.proofs.LeafSteps.{first-none, first-step}

@@ -11,10 +11,10 @@ use lib.Dec.{ltb, leb, eqb}
 use Rattle.octets.specs.Pick.{pick, both, either}
 use Rattle.octets.specs.Octets.{same}
 use Rattle.rows.specs.Row.{rowAt, kindAt, nameAt, typeRowAt, membersAt, modeAt, numberAt, presenceAt, defaultAt}
-use Rattle.table.specs.Types.{Tagging, taggingOf, unfilled, Member, memberOf, Ty, Members, more, membersFrom, typeFrom}
-use Rattle.table.specs.Begins.{isMandatory}
-use Rattle.table.specs.inner.Work.{Sound}
-use Rattle.table.proofs.TagLaws.{mandatory-as}
+use Rattle.types.specs.Types.{Tagging, taggingOf, unfilled, Member, memberOf, Ty, Members, more, membersFrom, typeFrom}
+use Rattle.types.specs.Begins.{isMandatory}
+use Rattle.types.specs.inner.Work.{Sound}
+use Rattle.types.proofs.TagLaws.{mandatory-as}
 use Rattle.value.specs.Decode.{startsHere}
 use Rattle.value.specs.inner.Work.{marked}
 use Rattle.value.proofs.MemberSteps.{starts-as}

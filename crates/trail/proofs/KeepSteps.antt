@@ -13,7 +13,7 @@ use lib.Seq.{getD-set-same, getD-set-other}
 use lib.Dec.{ltb, leb, eqb}
 use Rattle.octets.specs.Pick.{pick, bind}
 use Rattle.octets.proofs.Laws.{pick-cases}
-use Rattle.table.specs.Types.{untagged, taggingOf, Ty, typeFrom}
+use Rattle.types.specs.Types.{untagged, taggingOf, Ty, typeFrom}
 use Rattle.value.proofs.Views.{none-some, some-same, opened-view, in-bare}
 use Rattle.trail.specs.Opened.{Opened, after, ownHeader, openedAs, openOwn, openAt}
 use Rattle.trail.specs.Trail as trail

@@ -8,7 +8,7 @@ use native.Mathlib.Omega.{arith}
 use borrow.Author.Tests.{lt-ltb, le-ltb, eq-eqb, ne-eqb}
 use lib.Dec.{ltb, eqb}
 use Rattle.octets.specs.Pick.{pick, bind}
-use Rattle.table.specs.Types.{untagged, taggingOf, Ty}
+use Rattle.types.specs.Types.{untagged, taggingOf, Ty}
 use Rattle.trail.specs.Opened.{Opened, after, openAt}
 use Rattle.trail.specs.Trail.{Trail, done, misfit, orMisfit, atPosition, positionFrom, countFrom}
 use Rattle.trail.specs.inner.Work.{reportOpening, Reached, reached, past, unfit, orUnfit, reachedOr, nthFrom}

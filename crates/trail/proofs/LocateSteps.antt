@@ -11,8 +11,8 @@ use lib.Dec.{ltb, leb, eqb}
 use Rattle.octets.specs.Pick.{pick, both, bind}
 use Rattle.octets.proofs.Laws.{both-true}
 use Rattle.rows.specs.Row.{rowAt, kindAt, elementAt, membersAt, isList}
-use Rattle.table.specs.Types.{untagged, Ty, Members, membersFrom, typed, typeFrom}
-use Rattle.table.specs.inner.Work.{Sound}
+use Rattle.types.specs.Types.{untagged, Ty, Members, membersFrom, typed, typeFrom}
+use Rattle.types.specs.inner.Work.{Sound}
 use Rattle.value.proofs.CheckSteps.{typed-choice, typed-sequence, typed-list, typed-basic}
 use Rattle.value.proofs.Views.{none-some, some-same}
 use Rattle.reference.specs.Reference.{Index, position, fromEnd, name, index}

@@ -11,7 +11,7 @@ use borrow.Author.Tests.{ne-eqb, lt-leb}
 use lib.ListN.{length}
 use lib.Dec.{ltb, leb, eqb}
 use Rattle.octets.specs.Pick.{pick, bind}
-use Rattle.table.specs.Types.{untagged, Ty, basic, sequence, choice, listOf, Members}
+use Rattle.types.specs.Types.{untagged, Ty, basic, sequence, choice, listOf, Members}
 use Rattle.value.proofs.Views.{none-some, some-same}
 use Rattle.reference.specs.Reference.{Index, position, fromEnd, count, all, Id, name, index}
 use Rattle.reference.specs.Numbers.{stored, byCount}

@@ -15,9 +15,9 @@ use Rattle.der.specs.Header.{headerAt, insideAt, anyTag, opened}
 use Rattle.der.specs.declared.Inside.{Inside}
 use Rattle.der.proofs.Laws.{tag-small, header-long, header-within, inside-long, inside-within, any-view}
 use Rattle.rows.specs.Row.{rowAt, kindAt, elementAt, typeRowAt, membersAt, modeAt, numberAt, isList}
-use Rattle.table.specs.Types.{Tagging, untagged, explicit, implicit, taggingOf, Ty, basic, sequence, choice, listOf, Members, membersFrom, typed, typeFrom}
-use Rattle.table.specs.Begins.{begins}
-use Rattle.table.specs.inner.Work.{bitOf, Sound}
+use Rattle.types.specs.Types.{Tagging, untagged, explicit, implicit, taggingOf, Ty, basic, sequence, choice, listOf, Members, membersFrom, typed, typeFrom}
+use Rattle.types.specs.Begins.{begins}
+use Rattle.types.specs.inner.Work.{bitOf, Sound}
 use Rattle.value.specs.Decode.{tagOctet, inside, inWrapper}
 use Rattle.value.proofs.CheckSteps.{typed-choice, typed-sequence, typed-list, typed-basic}
 use Rattle.value.proofs.Views.{some-same, opened-view, wrapper-view, in-bare, in-explicit}

@@ -9,7 +9,7 @@ use lib.ListN.{length}
 use lib.Dec.{leb, eqb}
 use Rattle.octets.specs.Pick.{pick}
 use Rattle.octets.specs.Octets.{same}
-use Rattle.table.specs.Types.{Presence, mandatory, optional, default, Member, Ty}
+use Rattle.types.specs.Types.{Presence, mandatory, optional, default, Member, Ty}
 use Rattle.value.specs.Value.{spotOf, Value, leaf, fields, chosen, elements, Fields, endFields, present, absent, Values, endValues, next}
 use Rattle.value.specs.inner.Lies.{InSpot, endOf, Lies, LieInFields, LieInTurn}
 use Rattle.value.specs.Decode.{storedValue}

@@ -10,7 +10,7 @@ use Rattle.der.specs.Header.{headerAt, insideAt, opened}
 use Rattle.der.specs.declared.Header.{Header}
 use Rattle.der.specs.declared.Inside.{Inside}
 use Rattle.der.proofs.Laws.{inside-view}
-use Rattle.table.specs.Types.{Tagging, explicit, Ty}
+use Rattle.types.specs.Types.{Tagging, explicit, Ty}
 use Rattle.value.specs.Value.{Spot, spotOf, Value}
 use Rattle.value.proofs.Views.{in-bare, in-explicit}
 use Rattle.value.proofs.Decodes.{Behind, Decodes, is-basic, is-sequence, is-choice, is-list, Tagged, bare, filling, own}

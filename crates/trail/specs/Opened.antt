@@ -8,8 +8,8 @@ use Rattle.der.specs.Kind as kind
 use Rattle.der.specs.Tag.{tagOf}
 use Rattle.der.specs.Header.{headerAt, insideAt, anyTag, opened}
 use Rattle.der.specs.declared.Inside.{Inside}
-use Rattle.table.specs.Types.{Tagging, Ty, basic, sequence, choice, listOf}
-use Rattle.table.specs.Begins.{begins}
+use Rattle.types.specs.Types.{Tagging, Ty, basic, sequence, choice, listOf}
+use Rattle.types.specs.Begins.{begins}
 use Rattle.value.specs.Value.{Spot, spotAt}
 use Rattle.value.specs.Decode.{tagOctet, inWrapper}
 

@@ -8,8 +8,8 @@ use lib.ListN.{length}
 use lib.Dec.{ltb, leb, eqb}
 use Rattle.octets.specs.Pick.{pick, either, bind}
 use Rattle.octets.specs.Octets.{same}
-use Rattle.table.specs.Types.{untagged, Presence, mandatory, optional, default, Member, Ty, basic, sequence, choice, listOf, Members, noMore, more}
-use Rattle.table.specs.Begins.{isMandatory}
+use Rattle.types.specs.Types.{untagged, Presence, mandatory, optional, default, Member, Ty, basic, sequence, choice, listOf, Members, noMore, more}
+use Rattle.types.specs.Begins.{isMandatory}
 use Rattle.value.specs.Decode.{startsHere}
 use Rattle.reference.specs.Reference.{Index, position, fromEnd, count, all, Id, name, index}
 use Rattle.reference.specs.Numbers.{Component, stored, byDefault, byCount}

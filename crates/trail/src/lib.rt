@@ -9,8 +9,8 @@ ghost use lib.Dec.{eqb};
 ghost use Rattle.octets.specs.Pick.{pick, either};
 ghost use Rattle.octets.specs.Octets.{part, same};
 ghost use Rattle.rows.specs.Row.{rowAt, kindAt, nameAt, typeRowAt, presenceAt};
-ghost use Rattle.table.specs.Types.{untagged, taggingOf, unfilled};
-ghost use Rattle.table.specs.inner.Work.{bitOf, memberMask, Sound};
+ghost use Rattle.types.specs.Types.{untagged, taggingOf, unfilled};
+ghost use Rattle.types.specs.inner.Work.{bitOf, memberMask, Sound};
 ghost use Rattle.reference.specs.Reference.{name, index, position, fromEnd};
 ghost use Rattle.der.specs.Kind as kind;
 ghost use Rattle.der.specs.Header.{insideAt, opened};
@@ -21,7 +21,7 @@ ghost use Rattle.trail.specs.Trail as trail;
 ghost use Rattle.trail.specs.Trail.{countFrom};
 ghost use Rattle.trail.specs.inner.Work as work;
 ghost use Rattle.rows.specs.Paper.{tableLimits};
-ghost use Rattle.table.specs.inner.Rows.{rowType, rowMembers, rowMember, rowTagging, rowMemberType};
+ghost use Rattle.types.specs.inner.Rows.{rowType, rowMembers, rowMember, rowTagging, rowMemberType};
 
 // A value whose header has been read: its place, where its contents start and how long they are.
 pub enum Opening {
@@ -76,21 +76,21 @@ fn member_mask(m: &[u64], t: &[u8], p: usize) -> u64
     if rows::mode_at(t, p) == 0 {
         return row_set(m, rows::type_row_at(t, p));
     }
-    table::context_bit(rows::number_at(t, p))
+    types::context_bit(rows::number_at(t, p))
 }
 
 // Whether a member can begin with the tag of an octet: its set has it.
 fn member_begins(m: &[u64], t: &[u8], p: usize, o: u8) -> bool
     ensures { λ r. ⌜ r ≡ bitOf (memberMask (now (m .entry)) (now (t .entry)) p) (tagOf o) ⌝ }
 {
-    table::has_tag(member_mask(m, t, p), o)
+    types::has_tag(member_mask(m, t, p), o)
 }
 
 // Whether the type of a row can begin with the tag of an octet.
 fn row_begins(m: &[u64], i: usize, o: u8) -> bool
     ensures { λ r. ⌜ r ≡ bitOf (rowAt (now (m .entry)) i) (tagOf o) ⌝ }
 {
-    table::has_tag(row_set(m, i), o)
+    types::has_tag(row_set(m, i), o)
 }
 
 // Whether the member row at p can begin with the octet at i, which has to lie before stop.
@@ -118,7 +118,7 @@ fn find_alternative(
 {
     let mut j = 0;
     while j < n {
-        if starts_here(t, m, groups::member_place(s, row, j), v, end, at) {
+        if starts_here(t, m, clauses::member_place(s, row, j), v, end, at) {
             return j;
         }
         j += 1;

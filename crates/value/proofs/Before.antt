@@ -9,8 +9,8 @@ use Rattle.octets.specs.Pick.{both}
 use Rattle.octets.specs.Octets.{octet}
 use Rattle.der.specs.Tag.{tagOf, wrapperOctet}
 use Rattle.der.proofs.Laws.{inside-before}
-use Rattle.table.specs.Types.{Tagging, Member, Ty, Members}
-use Rattle.table.specs.Begins.{memberBegins}
+use Rattle.types.specs.Types.{Tagging, Member, Ty, Members}
+use Rattle.types.specs.Begins.{memberBegins}
 use Rattle.value.specs.Value.{Spot, Value}
 use Rattle.value.specs.Decode.{startsHere}
 use Rattle.value.proofs.Decodes.{Behind, Decodes, is-basic, is-sequence, is-choice, is-list, Tagged, bare, filling, Chosen, this, other}

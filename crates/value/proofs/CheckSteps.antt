@@ -16,10 +16,10 @@ use Rattle.der.specs.Header.{insideAt, opened}
 use Rattle.der.specs.Contents.{legal}
 use Rattle.der.specs.declared.Inside.{Inside}
 use Rattle.rows.specs.Row.{rowAt, kindAt, elementAt, typeRowAt, membersAt, isList, modeAt, numberAt}
-use Rattle.table.specs.Types.{untagged, implicit, taggingOf, Ty, basic, sequence, choice, listOf, Members, membersFrom, typed, typeFrom}
-use Rattle.groups.specs.Clauses.{typeKind}
-use Rattle.table.specs.inner.Work.{Sound}
-use Rattle.words.specs.inner.Words.{firstOctet, how, Ready}
+use Rattle.types.specs.Types.{untagged, implicit, taggingOf, Ty, basic, sequence, choice, listOf, Members, membersFrom, typed, typeFrom}
+use Rattle.clauses.specs.Clauses.{typeKind}
+use Rattle.types.specs.inner.Work.{Sound}
+use Rattle.table.specs.inner.Words.{firstOctet, how, Ready}
 use Rattle.value.specs.Value.{spotAt, Value, leaf, fields, Fields, Values}
 use Rattle.value.specs.Order.{rising}
 use Rattle.value.specs.Decode.{Decoded, decoded, afterOf, tagOctet, inside, inWrapper, leafOf, fieldsOf, elementsOf, many, unwrapped, fieldsFrom, alternativeFrom, decode}

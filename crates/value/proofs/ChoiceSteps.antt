@@ -10,8 +10,8 @@ use lib.ListN.{length}
 use lib.Dec.{ltb}
 use Rattle.octets.specs.Pick.{pick}
 use Rattle.rows.specs.Row.{rowAt, kindAt, typeRowAt, membersAt, modeAt, numberAt}
-use Rattle.table.specs.Types.{Tagging, taggingOf, Member, memberOf, Ty, membersFrom, typeFrom}
-use Rattle.table.specs.inner.Work.{Sound}
+use Rattle.types.specs.Types.{Tagging, taggingOf, Member, memberOf, Ty, membersFrom, typeFrom}
+use Rattle.types.specs.inner.Work.{Sound}
 use Rattle.value.specs.Decode.{Decoded, choiceOf, unwrapped, alternativeFrom, decode}
 use Rattle.value.specs.inner.Work.{checked, first, startsOf}
 use Rattle.value.specs.declared.Checked.{Checked}

@@ -16,8 +16,8 @@ use Rattle.der.specs.Contents.{legal}
 use Rattle.der.specs.declared.Header.{Header}
 use Rattle.der.specs.declared.Inside.{Inside}
 use Rattle.der.proofs.Laws.{inside-view, any-view}
-use Rattle.table.specs.Types.{Tagging, untagged, explicit, implicit, Member, Ty, basic, sequence, choice, listOf, Members, noMore, more}
-use Rattle.table.specs.Begins.{isMandatory}
+use Rattle.types.specs.Types.{Tagging, untagged, explicit, implicit, Member, Ty, basic, sequence, choice, listOf, Members, noMore, more}
+use Rattle.types.specs.Begins.{isMandatory}
 use Rattle.value.specs.Value.{Spot, spotAt, spotOf, Value, leaf, fields, chosen, elements}
 use Rattle.value.specs.Value.{Fields, endFields, present, absent, Values, endValues, next}
 use Rattle.value.specs.Order.{rising}

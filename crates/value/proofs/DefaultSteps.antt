@@ -16,9 +16,9 @@ use Rattle.der.specs.Header.{insideAt}
 use Rattle.der.specs.declared.Inside.{Inside}
 use Rattle.rows.proofs.NumberSteps.{part-bytes}
 use Rattle.rows.specs.Row.{kindAt, modeAt, numberAt, presenceAt, defaultLengthAt, defaultAt}
-use Rattle.table.specs.Types.{Tagging, taggingOf}
-use Rattle.words.specs.inner.Rows.{tableRows, placeAt, taggingAt, memberKindAt}
-use Rattle.words.specs.inner.Words.{firstOctet, how, Worded}
+use Rattle.types.specs.Types.{Tagging, taggingOf}
+use Rattle.table.specs.inner.Rows.{tableRows, placeAt, taggingAt, memberKindAt}
+use Rattle.table.specs.inner.Words.{firstOctet, how, Worded}
 use Rattle.value.specs.inner.Work.{contentsAt, holds, storedDefault, isDefaultAt}
 use Rattle.value.proofs.LeafSteps.{contents-misfit, contents-inside}
 use Rattle.value.proofs.TagSteps.{default-small}

@@ -13,9 +13,9 @@ use Rattle.octets.specs.Octets.{part}
 use Rattle.der.specs.Kind as kind
 use Rattle.der.specs.Order.{notAbove}
 use Rattle.rows.specs.Row.{rowAt, kindAt, elementAt, isList}
-use Rattle.table.specs.Types.{untagged, taggingOf, Ty, typeFrom}
-use Rattle.table.specs.inner.Work.{Sound}
-use Rattle.words.specs.inner.Words.{firstOctet, Ready}
+use Rattle.types.specs.Types.{untagged, taggingOf, Ty, typeFrom}
+use Rattle.types.specs.inner.Work.{Sound}
+use Rattle.table.specs.inner.Words.{firstOctet, Ready}
 use Rattle.value.specs.Value.{Value, Values, endValues, next, encoding}
 use Rattle.value.specs.Order.{rising}
 use Rattle.value.specs.Decode.{Decoded, nextThen, many, unwrapped}

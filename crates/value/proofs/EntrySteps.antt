@@ -13,17 +13,17 @@ use Rattle.octets.specs.Pick.{pick, bind, isSome}
 use Rattle.rows.specs.Limits.{Limits, tableFits}
 use Rattle.rows.specs.Paper.{tableLimits}
 use Rattle.rows.specs.Row.{rows, kindAt}
-use Rattle.table.specs.Types as types
-use Rattle.table.specs.Types.{untagged, taggingOf, Ty}
-use Rattle.table.specs.inner.Rows.{rowType}
-use Rattle.table.specs.Admitted.{admitted}
-use Rattle.table.specs.inner.Work.{rowCount}
-use Rattle.table.specs.inner.Work.{Sound, Admits}
-use Rattle.table.proofs.Laws.{row-count}
-use Rattle.table.proofs.SoundLaws.{sound}
-use Rattle.words.specs.inner.Rows.{tableRows, placeAt, typeAt}
-use Rattle.words.specs.inner.Words.{firstOctet, Worded}
-use Rattle.words.specs.inner.Pass.{Leaves}
+use Rattle.types.specs.Types as types
+use Rattle.types.specs.Types.{untagged, taggingOf, Ty}
+use Rattle.types.specs.inner.Rows.{rowType}
+use Rattle.types.specs.Admitted.{admitted}
+use Rattle.types.specs.inner.Work.{rowCount}
+use Rattle.types.specs.inner.Work.{Sound, Admits}
+use Rattle.types.proofs.Laws.{row-count}
+use Rattle.types.proofs.SoundLaws.{sound}
+use Rattle.table.specs.inner.Rows.{tableRows, placeAt, typeAt}
+use Rattle.table.specs.inner.Words.{firstOctet, Worded}
+use Rattle.table.specs.inner.Pass.{Leaves}
 use Rattle.value.specs.Paper.{valueLimits}
 use Rattle.value.specs.Decode.{Decoded, unwrapped, decode, inWrapper, storedValue}
 use Rattle.value.specs.Check.{good, refused, report, valueFits, isStored, storage, valueReport}

@@ -12,9 +12,9 @@ use Rattle.der.specs.Header.{insideAt}
 use Rattle.der.proofs.Laws.{other-octet}
 use Rattle.rows.specs.Paper.{tableLimits}
 use Rattle.rows.specs.Row.{kindAt, modeAt, numberAt}
-use Rattle.table.specs.Types.{Tagging}
-use Rattle.words.specs.inner.Rows.{tableRows, placeAt, memberAt, taggingAt, memberTypeAt, memberKindAt}
-use Rattle.words.specs.inner.Words.{firstOctet, how, Worded}
+use Rattle.types.specs.Types.{Tagging}
+use Rattle.table.specs.inner.Rows.{tableRows, placeAt, memberAt, taggingAt, memberTypeAt, memberKindAt}
+use Rattle.table.specs.inner.Words.{firstOctet, how, Worded}
 use Rattle.value.specs.Decode.{startsHere}
 use Rattle.value.specs.inner.Work.{sameTag, plainOf, plainChecked, absentChecked, memberChecked}
 use Rattle.value.specs.declared.Checked.{Checked}

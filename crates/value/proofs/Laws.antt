@@ -12,8 +12,8 @@ use Rattle.octets.specs.Octets.{octet, part}
 use Rattle.octets.proofs.Laws.{both-true}
 use Rattle.der.specs.Tag.{tagOf, wrapperOctet}
 use Rattle.der.proofs.Laws.{header-long, header-within, inside-long}
-use Rattle.table.specs.Types.{Tagging, Ty, choice, Members}
-use Rattle.table.specs.Begins.{asTagged, begins, someBegins, memberBegins}
+use Rattle.types.specs.Types.{Tagging, Ty, choice, Members}
+use Rattle.types.specs.Begins.{asTagged, begins, someBegins, memberBegins}
 use Rattle.value.specs.Value.{Spot, spotAt, spotOf, encoding, Value, leaf, fields, chosen, elements}
 use Rattle.value.specs.Value.{Fields, endFields, present, absent, Values, endValues, next}
 use Rattle.value.specs.inner.Lies.{InSpot, endOf, Lies, LieInFields, LieInTurn}

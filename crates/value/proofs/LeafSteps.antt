@@ -15,9 +15,9 @@ use Rattle.der.specs.Header.{insideAt}
 use Rattle.der.specs.Order.{notAbove}
 use Rattle.der.specs.declared.Inside.{Inside}
 use Rattle.der.proofs.Laws.{inside-within}
-use Rattle.groups.specs.Clauses.{memberPlace}
-use Rattle.table.specs.Types.{Tagging, untagged, explicit, implicit, taggingOf, memberOf, typeFrom}
-use Rattle.table.specs.inner.Work.{bitOf, memberMask}
+use Rattle.clauses.specs.Clauses.{memberPlace}
+use Rattle.types.specs.Types.{Tagging, untagged, explicit, implicit, taggingOf, memberOf, typeFrom}
+use Rattle.types.specs.inner.Work.{bitOf, memberMask}
 use Rattle.value.specs.Decode.{tagOctet, startsHere}
 use Rattle.value.specs.inner.Work.{upTo, first, marked, markedOf, startsOf, contentsAt, holds, within, storedDefault, absentChecked, neighbours}
 use Rattle.value.specs.declared.Checked.{Checked}

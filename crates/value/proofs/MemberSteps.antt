@@ -16,13 +16,13 @@ use Rattle.der.specs.Header.{insideAt}
 use Rattle.der.specs.declared.Inside.{Inside}
 use Rattle.der.proofs.Laws.{tag-small}
 use Rattle.rows.specs.Row.{rowAt, kindAt, typeRowAt, membersAt, modeAt, numberAt, presenceAt, defaultAt}
-use Rattle.groups.specs.Clauses.{typeKind, defaultAllowed, defaultLegal}
-use Rattle.table.specs.Types.{Tagging, untagged, explicit, implicit, mandatory, optional, default, taggingOf, presenceOf, Member, memberOf, Ty, basic, Members, more, membersFrom, typed, typeFrom}
-use Rattle.table.specs.Begins.{isMandatory}
-use Rattle.table.specs.inner.Work.{Sound}
-use Rattle.words.specs.inner.Words.{how, Ready}
-use Rattle.table.proofs.TagLaws.{mandatory-as}
-use Rattle.table.proofs.SoundLaws.{member-tags}
+use Rattle.clauses.specs.Clauses.{typeKind, defaultAllowed, defaultLegal}
+use Rattle.types.specs.Types.{Tagging, untagged, explicit, implicit, mandatory, optional, default, taggingOf, presenceOf, Member, memberOf, Ty, basic, Members, more, membersFrom, typed, typeFrom}
+use Rattle.types.specs.Begins.{isMandatory}
+use Rattle.types.specs.inner.Work.{Sound}
+use Rattle.table.specs.inner.Words.{how, Ready}
+use Rattle.types.proofs.TagLaws.{mandatory-as}
+use Rattle.types.proofs.SoundLaws.{member-tags}
 use Rattle.value.specs.Value.{spotAt, spotOf, Fields, endFields, present, absent}
 use Rattle.value.specs.Decode.{Decoded, afterOf, tagOctet, inWrapper, startsHere, isDefault, unlessDefault, presentThen, absentThen, unwrapped, fieldsFrom, decode}
 use Rattle.value.specs.inner.Work.{checked, upTo, marked, within, contentsAt, holds, storedDefault, plainChecked, absentChecked, memberChecked, fieldsChecked}

@@ -7,8 +7,8 @@ use borrow.Author.Tests.{eq-eqb, ne-eqb, eqb-true, eqb-false, leb-true}
 use lib.Dec.{leb, eqb}
 use Rattle.octets.specs.Pick.{pick}
 use Rattle.der.specs.Tag.{wrapperOctet}
-use Rattle.table.specs.Types.{untagged, implicit, taggingOf}
-use Rattle.words.specs.inner.Words.{firstOctet, how}
+use Rattle.types.specs.Types.{untagged, implicit, taggingOf}
+use Rattle.table.specs.inner.Words.{firstOctet, how}
 use Rattle.value.specs.Decode.{tagOctet}
 
 pub own-tag : (f k n : ℕ) → f ≡ firstOctet untagged k → (k ≡ 13 → ⊥) → (f ≡ tagOctet (taggingOf 0 0) k) × (f ≡ tagOctet (taggingOf 1 n) k)

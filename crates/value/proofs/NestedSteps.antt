@@ -10,10 +10,10 @@ use lib.Dec.{eqb}
 use Rattle.octets.specs.Pick.{no}
 use Rattle.octets.proofs.Laws.{both-true}
 use Rattle.rows.specs.Paper.{tableLimits}
-use Rattle.groups.proofs.Steps.{not-no}
+use Rattle.clauses.proofs.Steps.{not-no}
 use Rattle.rows.specs.Row.{typeRowAt, membersAt, modeAt, numberAt}
-use Rattle.words.specs.inner.Rows.{tableRows, placeAt, MemberRow, membersAfter, memberTypeAt, taggingAt, memberKindAt}
-use Rattle.words.specs.inner.Words.{how, Worded}
+use Rattle.table.specs.inner.Rows.{tableRows, placeAt, MemberRow, membersAfter, memberTypeAt, taggingAt, memberKindAt}
+use Rattle.table.specs.inner.Words.{how, Worded}
 use Rattle.value.specs.Decode.{alternativeFrom, decode}
 use Rattle.value.specs.inner.Work.{checked, first, startsOf, isNested, ChosenRow, Chooses}
 use Rattle.value.specs.declared.Alternative.{Alternative}

@@ -11,8 +11,8 @@ use Rattle.der.specs.Header.{insideAt, opened}
 use Rattle.der.specs.Contents.{legal}
 use Rattle.der.specs.declared.Inside.{Inside}
 use Rattle.rows.specs.Row.{modeAt, numberAt, presenceAt, defaultAt}
-use Rattle.table.specs.Types.{taggingOf, Ty, basic, Members, typed}
-use Rattle.words.specs.inner.Words.{firstOctet, how}
+use Rattle.types.specs.Types.{taggingOf, Ty, basic, Members, typed}
+use Rattle.table.specs.inner.Words.{firstOctet, how}
 use Rattle.value.specs.Decode.{tagOctet, leafOf, unwrapped, decode}
 use Rattle.value.specs.inner.Work.{checked, upTo, contentsAt, holds, isDefaultAt, plainOf, plainChecked}
 use Rattle.value.specs.declared.Checked.{Checked}

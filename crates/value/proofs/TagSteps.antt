@@ -17,13 +17,13 @@ use Rattle.der.specs.Kind.{isConstructed}
 use Rattle.der.specs.Contents.{legal}
 use Rattle.der.proofs.Laws.{tag-small, universal-most, universal-first}
 use Rattle.rows.specs.Row.{rowAt, kindAt, typeRowAt, isList, modeAt, numberAt, presenceAt, defaultAt}
-use Rattle.groups.specs.Clauses.{defaultAllowed, defaultLegal}
-use Rattle.table.specs.Types.{untagged, explicit, implicit, taggingOf, memberOf, Ty, Members, typed}
-use Rattle.table.specs.Begins.{begins, memberBegins}
-use Rattle.table.specs.inner.Work.{bitOf}
-use Rattle.table.proofs.TagLaws.{tagged-as}
-use Rattle.words.specs.inner.Rows.{tableRows, placeAt, memberTypeAt, memberKindAt}
-use Rattle.words.specs.inner.Words.{firstOctet, secondOf, Worded}
+use Rattle.clauses.specs.Clauses.{defaultAllowed, defaultLegal}
+use Rattle.types.specs.Types.{untagged, explicit, implicit, taggingOf, memberOf, Ty, Members, typed}
+use Rattle.types.specs.Begins.{begins, memberBegins}
+use Rattle.types.specs.inner.Work.{bitOf}
+use Rattle.types.proofs.TagLaws.{tagged-as}
+use Rattle.table.specs.inner.Rows.{tableRows, placeAt, memberTypeAt, memberKindAt}
+use Rattle.table.specs.inner.Words.{firstOctet, secondOf, Worded}
 use Rattle.value.specs.Decode.{startsHere}
 use Rattle.value.specs.inner.Work.{sameTag, opensBy}
 

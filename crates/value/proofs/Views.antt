@@ -14,8 +14,8 @@ use Rattle.der.specs.Tag.{wrapperOctet}
 use Rattle.der.specs.Header.{headerAt, insideAt, anyTag, opened}
 use Rattle.der.specs.Contents.{legal}
 use Rattle.der.specs.declared.Inside.{Inside}
-use Rattle.table.specs.Types.{Tagging, untagged, explicit, implicit, Member, Ty, basic, sequence, listOf, Members}
-use Rattle.table.specs.Begins.{isMandatory}
+use Rattle.types.specs.Types.{Tagging, untagged, explicit, implicit, Member, Ty, basic, sequence, listOf, Members}
+use Rattle.types.specs.Begins.{isMandatory}
 use Rattle.value.specs.Value.{spotAt, spotOf, leaf, fields, chosen, elements, Fields, present, absent, Values, endValues, next}
 use Rattle.value.specs.Order.{rising}
 use Rattle.value.specs.Decode.{Decoded, decoded, tagOctet, inside, inWrapper, leafOf, fieldsOf, elementsOf, choiceOf, isDefault, unlessDefault}

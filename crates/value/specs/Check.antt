@@ -7,8 +7,8 @@ use Rattle.octets.specs.Pick.{pick, both, isSome}
 use Rattle.octets.specs.Text.{within}
 use Rattle.rows.specs.Limits as table
 use Rattle.rows.specs.Limits.{tableFits}
-use Rattle.table.specs.Types.{typeAt}
-use Rattle.table.specs.Admitted.{admitted}
+use Rattle.types.specs.Types.{typeAt}
+use Rattle.types.specs.Admitted.{admitted}
 use Rattle.value.specs.Limits.{Limits}
 use Rattle.value.specs.Decode.{storedValue}
 use Rattle.value.specs.declared.ValueCheck.{ValueCheck}

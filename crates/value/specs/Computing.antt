@@ -1,6 +1,6 @@
 -- The definitions of this crate and those below, as one name for the `unfolding` line of a computed example.
 use Prim.Native.Nat.{ℕ}
-use Rattle.table.specs.Computing.{tableComputes}
+use Rattle.types.specs.Computing.{tableComputes}
 use Rattle.value.specs.Value.{spotAt, encoding}
 use Rattle.value.specs.Order.{rising}
 use Rattle.value.specs.Decode.{inWrapper, startsHere, many, unwrapped, decode, storedValue}

@@ -9,8 +9,8 @@ use lib.ListN.{replicate}
 use Rattle.octets.specs.Pick.{isSome}
 use Rattle.octets.specs.Octets.{bytes, hex}
 use Rattle.rows.specs.Paper.{tableLimits}
-use Rattle.table.specs.Paper.{licence}
-use Rattle.table.specs.Types.{Tagging, untagged, explicit, implicit, Presence, mandatory, optional, default, Member, Ty, basic, sequence, choice, listOf, noMore, more}
+use Rattle.types.specs.Paper.{licence}
+use Rattle.types.specs.Types.{Tagging, untagged, explicit, implicit, Presence, mandatory, optional, default, Member, Ty, basic, sequence, choice, listOf, noMore, more}
 use Rattle.value.specs.Paper.{valueLimits, licenceRecord}
 use Rattle.value.specs.Value.{leaf, fields, chosen, endFields, present, absent}
 use Rattle.value.specs.Decode.{storedValue}

@@ -2,7 +2,7 @@
 use Prim.Native.Nat.{ℕ, _+_, _-_}
 use mathlib.Core.List.{List}
 use Rattle.octets.specs.Octets.{part}
-use Rattle.table.specs.Types.{Member}
+use Rattle.types.specs.Types.{Member}
 
 -- where a value stands: the place of its own tag octet (inside its member's explicit wrapper; a CHOICE starts at its alternative's first
 -- octet), its whole length, and the contents behind its header

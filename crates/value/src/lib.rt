@@ -13,10 +13,10 @@ ghost use Rattle.der.specs.Kind.{generalizedTime};
 ghost use Rattle.der.specs.Tag.{number, tagOf};
 ghost use Rattle.der.specs.Contents.{legal};
 ghost use Rattle.rows.specs.Row.{kindAt, elementAt, membersAt, isList, modeAt, presenceAt, defaultAt};
-ghost use Rattle.table.specs.Types.{taggingOf};
-ghost use Rattle.table.specs.Begins.{memberBegins};
-ghost use Rattle.words.specs.inner.Rows.{tableRows, MemberRow, TypeRow, placeAt, typeAt, membersAfter, memberAt, taggingAt, memberTypeAt, memberKindAt};
-ghost use Rattle.words.specs.inner.Words.{firstOctet, how, Worded};
+ghost use Rattle.types.specs.Types.{taggingOf};
+ghost use Rattle.types.specs.Begins.{memberBegins};
+ghost use Rattle.table.specs.inner.Rows.{tableRows, MemberRow, TypeRow, placeAt, typeAt, membersAfter, memberAt, taggingAt, memberTypeAt, memberKindAt};
+ghost use Rattle.table.specs.inner.Words.{firstOctet, how, Worded};
 ghost use Rattle.value.specs.Decode.{tagOctet, startsHere, alternativeFrom, decode, storedValue};
 ghost use Rattle.value.specs.Paper.{valueLimits};
 ghost use Rattle.value.specs.Check.{report, valueFits, storage, valueReport};
@@ -91,7 +91,7 @@ fn opens(first: usize, set: u64, o: u8) -> bool
     ensures { λ r. ⌜ r ≡ work.opensBy first set o ⌝ }
 {
     if first == 0 {
-        return table::has_tag(set, o);
+        return types::has_tag(set, o);
     }
     same_tag(first, octets::wide(o))
 }
@@ -103,7 +103,7 @@ fn begins_with(t: &[u8], w: &[u64; 256], row: usize, o: u8) -> bool
     requires member { ⌜ MemberRow (now t) row ⌝ }
     ensures { λ r. ⌜ r ≡ memberBegins (memberAt (now (t .entry)) row) (memberTypeAt (now (t .entry)) row) (tagOf o) ⌝ }
 {
-    opens(words::first(t, w, row), words::second_word(w, row), o)
+    opens(table::first(t, w, row), table::second_word(w, row), o)
 }
 
 // Whether it can begin with the octet at i, which has to lie before stop.
@@ -128,7 +128,7 @@ fn absent(t: &[u8], w: &[u64; 256], row: usize, i: usize) -> Checked
     requires member { ⌜ MemberRow (now t) row ⌝ }
     ensures { λ r. ⌜ r ≡ work.absentChecked (now (t .entry)) (placeAt (now (t .entry)) row) i ⌝ }
 {
-    if words::presence(t, w, row) == 0 {
+    if table::presence(t, w, row) == 0 {
         return Checked::Bad;
     }
     Checked::At(i)
@@ -142,10 +142,10 @@ fn equals_default(t: &[u8], w: &[u64; 256], row: usize, c: &[u8]) -> bool
     requires stored { ⌜ presenceAt (now t) (placeAt (now t) row) ≡ 2 ⌝ }
     ensures { λ r. ⌜ r ≡ same (now (c .entry)) (defaultAt (now (t .entry)) (placeAt (now (t .entry)) row)) ⌝ }
 {
-    if c.len() != words::default_length(t, w, row) {
+    if c.len() != table::default_length(t, w, row) {
         return false;
     }
-    der::plain(c) == words::default_number(t, w, row)
+    der::plain(c) == table::default_number(t, w, row)
 }
 
 // Whether the n octets from start on are the contents of the default of the member of a row.
@@ -156,7 +156,7 @@ fn is_default(t: &[u8], w: &[u64; 256], row: usize, v: &[u8], start: usize, n: u
     requires inside { ⌜ start + n ≤ length (now v) ⌝ }
     ensures { λ r. ⌜ r ≡ work.isDefaultAt (now (t .entry)) (placeAt (now (t .entry)) row) (now (v .entry)) start n ⌝ }
 {
-    if words::presence(t, w, row) == 2 {
+    if table::presence(t, w, row) == 2 {
         let stop = start + n;
         return equals_default(t, w, row, &v[start..stop]);
     }
@@ -193,7 +193,7 @@ fn check_leaf(
     requires usable { ⌜ number tag < 31 ⌝ }
     ensures { λ r. ⌜ work.Answers (typeAt (now (t .entry)) row) (kindAt (now (t .entry)) (placeAt (now (t .entry)) row)) tag (now (v .entry)) at end r ⌝ }
 {
-    let kind = words::kind(t, w, row);
+    let kind = table::kind(t, w, row);
     let Inside::Of(start, n) = der::open_within(tag, v, at, end) else {
         return Checked::Bad;
     };
@@ -219,7 +219,7 @@ fn check_plain(t: &[u8], w: &[u64; 256], v: &[u8], row: usize, at: usize, end: u
     if is_default(t, w, row, v, start, n) {
         return Checked::Bad;
     }
-    check_basic(words::kind_of_type(t, w, row), v, start, start + n)
+    check_basic(table::kind_of_type(t, w, row), v, start, start + n)
 }
 
 // The plain member of a row at a place, before stop: by its first octet alone.
@@ -241,7 +241,7 @@ fn check_plain_member(
     if stop <= i {
         return absent(t, w, row, i);
     }
-    let first = words::first(t, w, row);
+    let first = table::first(t, w, row);
     let o = octets::wide(v[i]);
     if o == first {
         return check_plain(t, w, v, row, i, stop);
@@ -262,11 +262,11 @@ fn wrapped_contents(t: &[u8], w: &[u64; 256], v: &[u8], row: usize, at: usize, e
     requires inside { ⌜ end ≤ length (now v) ⌝ }
     ensures { λ r. ⌜ r ≡ work.contentsAt (taggingAt (now (t .entry)) row) (memberKindAt (now (t .entry)) row) (now (v .entry)) at end ⌝ }
 {
-    let Inside::Of(start, n) = der::open_within(words::first(t, w, row), v, at, end) else {
+    let Inside::Of(start, n) = der::open_within(table::first(t, w, row), v, at, end) else {
         return Inside::Misfit;
     };
     der::open_within(
-        der::own_octet(words::kind_of_type(t, w, row)),
+        der::own_octet(table::kind_of_type(t, w, row)),
         v,
         start,
         start + n,
@@ -301,7 +301,7 @@ fn stored_default(t: &[u8], w: &[u64; 256], v: &[u8], row: usize, at: usize, end
     requires inside { ⌜ end ≤ length (now v) ⌝ }
     ensures { λ r. ⌜ r ≡ work.storedDefault (now (t .entry)) (tableRows (now (t .entry))) (placeAt (now (t .entry)) row) (now (v .entry)) at end ⌝ }
 {
-    if words::presence(t, w, row) != 2 {
+    if table::presence(t, w, row) != 2 {
         return false;
     }
     wrapped_default(t, w, v, row, at, end)
@@ -353,10 +353,10 @@ fn is_nested(t: &[u8], w: &[u64; 256], row: usize) -> bool
     requires member { ⌜ MemberRow (now t) row ⌝ }
     ensures { λ r. ⌜ r ≡ work.isNested (memberKindAt (now (t .entry)) row) (modeAt (now (t .entry)) (placeAt (now (t .entry)) row)) ⌝ }
 {
-    if words::kind_of_type(t, w, row) != Kind::CHOICE {
+    if table::kind_of_type(t, w, row) != Kind::CHOICE {
         return false;
     }
-    words::tagged(t, w, row) != 1
+    table::tagged(t, w, row) != 1
 }
 
 // The alternative of the CHOICE of a row that can begin here.
@@ -366,7 +366,7 @@ fn choose(t: &[u8], w: &[u64; 256], v: &[u8], row: usize, at: usize, end: usize)
     requires inside { ⌜ end ≤ length (now v) ⌝ }
     ensures { λ r. ⌜ work.Chooses (now (t .entry)) (now (v .entry)) row at end r ⌝ }
 {
-    let n = words::members(t, w, row);
+    let n = table::members(t, w, row);
     let j = first_alternative(t, w, v, row, n, at, end);
     if n <= j {
         return Alternative::Missing;
@@ -396,7 +396,7 @@ fn choose_inner(
         if !is_nested(t, w, member) {
             return Alternative::Of(member);
         }
-        choice = words::type_row(t, w, member);
+        choice = table::type_row(t, w, member);
     }
 }
 
@@ -408,7 +408,7 @@ fn has_leaves(t: &[u8], w: &[u64; 256], row: usize) -> bool
     ensures { λ r. ⌜ r
         ≡ leb (kindAt (now (t .entry)) (placeAt (now (t .entry)) (elementAt (now (t .entry)) (placeAt (now (t .entry)) row)))) generalizedTime ⌝ }
 {
-    words::kind(t, w, words::element(t, w, row)) <= Kind::GENERALIZED_TIME
+    table::kind(t, w, table::element(t, w, row)) <= Kind::GENERALIZED_TIME
 }
 
 // The elements of the list of a row, whose type is basic, from start up to stop: without a call of the recursion for each.
@@ -430,9 +430,9 @@ fn check_leaves(
         ≡ work.elementsChecked (kindAt (now (t .entry)) (placeAt (now (t .entry)) row))
         (typeAt (now (t .entry)) (elementAt (now (t .entry)) (placeAt (now (t .entry)) row))) (now (v .entry)) stop start ⌝ }
 {
-    let kind = words::kind(t, w, row);
-    let element = words::element(t, w, row);
-    let tag = words::own_first(t, w, element);
+    let kind = table::kind(t, w, row);
+    let element = table::element(t, w, row);
+    let tag = table::own_first(t, w, element);
     let mut before = start;
     let mut i = start;
     while i < stop {
@@ -470,9 +470,9 @@ fn check_elements(
     if has_leaves(t, w, row) {
         return check_leaves(t, w, v, row, start, stop);
     }
-    let kind = words::kind(t, w, row);
-    let element = words::element(t, w, row);
-    let tag = words::own_first(t, w, element);
+    let kind = table::kind(t, w, row);
+    let element = table::element(t, w, row);
+    let tag = table::own_first(t, w, element);
     let mut before = start;
     let mut i = start;
     while i < stop {
@@ -502,7 +502,7 @@ fn check_fields(
     requires inside { ⌜ stop ≤ length (now v) ⌝ }
     ensures { λ r. ⌜ r ≡ work.fieldsChecked (membersAfter (now (t .entry)) row) (now (v .entry)) stop start ⌝ }
 {
-    let n = words::members(t, w, row);
+    let n = table::members(t, w, row);
     let mut i = start;
     let mut j = 0;
     while j < n {
@@ -526,7 +526,7 @@ fn check_member(t: &[u8], w: &[u64; 256], v: &[u8], row: usize, i: usize, stop: 
     requires inside { ⌜ stop ≤ length (now v) ⌝ }
     ensures { λ r. ⌜ r ≡ work.memberChecked (memberAt (now (t .entry)) row) (memberTypeAt (now (t .entry)) row) (now (v .entry)) stop i ⌝ }
 {
-    if words::tagged(t, w, row) == 0 {
+    if table::tagged(t, w, row) == 0 {
         return check_plain_member(t, w, v, row, i, stop);
     }
     if !member_starts(t, w, v, row, stop, i) {
@@ -546,9 +546,9 @@ fn check_tagged(t: &[u8], w: &[u64; 256], v: &[u8], row: usize, at: usize, end: 
     requires inside { ⌜ end ≤ length (now v) ⌝ }
     ensures { λ r. ⌜ r ≡ work.checked (decode (memberTypeAt (now (t .entry)) row) (taggingAt (now (t .entry)) row) (now (v .entry)) at end) ⌝ }
 {
-    let target = words::type_row(t, w, row);
-    let first = words::first(t, w, row);
-    if words::tagged(t, w, row) == 1 {
+    let target = table::type_row(t, w, row);
+    let first = table::first(t, w, row);
+    if table::tagged(t, w, row) == 1 {
         return check_wrapped(t, w, v, target, first, at, end);
     }
     check(t, w, v, target, first, at, end)
@@ -575,7 +575,7 @@ fn check_wrapped(
         return Checked::Bad;
     };
     let stop = start + n;
-    let own = words::own_first(t, w, row);
+    let own = table::own_first(t, w, row);
     let Checked::At(next) = check(t, w, v, row, own, start, stop) else {
         return Checked::Bad;
     };
@@ -614,7 +614,7 @@ fn check(
     requires usable { ⌜ number tag < 31 ⌝ }
     ensures { λ r. ⌜ work.Answers (typeAt (now (t .entry)) row) (kindAt (now (t .entry)) (placeAt (now (t .entry)) row)) tag (now (v .entry)) at end r ⌝ }
 {
-    let kind = words::kind(t, w, row);
+    let kind = table::kind(t, w, row);
     if kind == Kind::CHOICE {
         return check_choice(t, w, v, row, at, end);
     }
@@ -637,7 +637,7 @@ pub fn is_stored(t: &[u8], w: &[u64; 256], v: &[u8]) -> bool
     requires worded { ⌜ Worded (now t) (now w) ⌝ }
     ensures { λ r. ⌜ r ≡ isSome (storedValue (typeAt (now (t .entry)) 0) (now (v .entry))) ⌝ }
 {
-    let tag = words::own_first(t, w, 0);
+    let tag = table::own_first(t, w, 0);
     let Checked::At(next) = check(t, w, v, 0, tag, 0, v.len()) else {
         return false;
     };
@@ -649,7 +649,7 @@ fn check_storage(table: &[u8], value: &[u8]) -> ValueCheck
     ensures { λ r. ⌜ report r ≡ storage tableLimits (now (table .entry)) (now (value .entry)) ⌝ }
 {
     let mut w = [0u64; 256];
-    if words::admit_table(table, &mut w) == 0 {
+    if table::admit_table(table, &mut w) == 0 {
         return ValueCheck::Refused(2);
     }
     if !is_stored(table, &w, value) {

@@ -11,7 +11,7 @@ use Rattle.octets.specs.Pick.{pick}
 use Rattle.octets.specs.Octets.{part}
 use Rattle.octets.proofs.Laws.{part-past}
 use Rattle.rows.specs.Row.{rowAt, presenceAt, defaultAt}
-use Rattle.table.specs.Types.{mandatory, optional, default, presenceOf, memberOf}
+use Rattle.types.specs.Types.{mandatory, optional, default, presenceOf, memberOf}
 use Rattle.value.specs.Value.{spotAt}
 use Rattle.reference.specs.Numbers.{Component, contentsOf, numbersOf}
 use Rattle.rules.specs.Rule as rule

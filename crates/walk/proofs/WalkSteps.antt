@@ -12,8 +12,8 @@ use Rattle.octets.specs.Pick.{pick, isSome}
 use Rattle.octets.specs.Octets.{part}
 use Rattle.octets.proofs.Laws.{both-true}
 use Rattle.rows.specs.Row.{rowAt, kindAt, elementAt, membersAt, presenceAt, defaultAt, isList}
-use Rattle.table.specs.Types.{untagged, taggingOf, Presence, mandatory, optional, default, presenceOf, Member, memberOf, Ty, basic, sequence, choice, listOf, Members, membersFrom, typed, typeFrom}
-use Rattle.table.specs.inner.Work.{Sound}
+use Rattle.types.specs.Types.{untagged, taggingOf, Presence, mandatory, optional, default, presenceOf, Member, memberOf, Ty, basic, sequence, choice, listOf, Members, membersFrom, typed, typeFrom}
+use Rattle.types.specs.inner.Work.{Sound}
 use Rattle.value.proofs.CheckSteps.{typed-list, typed-choice, typed-sequence, typed-basic}
 use Rattle.reference.specs.Reference.{Index, position, fromEnd, count, all, Id, name, index, readReference}
 use Rattle.reference.specs.Numbers.{Component, byDefault, byCount}

@@ -12,8 +12,8 @@ ghost use lib.ListN.{length};
 ghost use mathlib.Core.List.{[], _∷_};
 ghost use Rattle.octets.specs.Pick.{isSome};
 ghost use Rattle.rows.specs.Row.{presenceAt, defaultAt};
-ghost use Rattle.table.specs.Types.{untagged, presenceOf};
-ghost use Rattle.table.specs.inner.Work.{Sound};
+ghost use Rattle.types.specs.Types.{untagged, presenceOf};
+ghost use Rattle.types.specs.inner.Work.{Sound};
 ghost use Rattle.reference.specs.Reference.{count, all, index, givenIds};
 ghost use Rattle.reference.specs.inner.Work.{idsAt, headCapped, reportIdStep, advances};
 ghost use Rattle.reference.specs.Numbers.{contentsOf, byCount};
@@ -23,7 +23,7 @@ ghost use Rattle.trail.specs.inner.Work.{reportFound, landsIn, standing};
 ghost use Rattle.rules.specs.inner.Answers.{meant};
 ghost use Rattle.walk.specs.inner.Run as run;
 ghost use Rattle.rows.specs.Paper.{tableLimits};
-ghost use Rattle.table.specs.inner.Rows.{rowType, rowMember};
+ghost use Rattle.types.specs.inner.Rows.{rowType, rowMember};
 
 // Where a walk stands: going on after so many components; stopped at an accepted one, after so many tests; over, without room or budget; at a header
 // that doesn't fit.

@@ -4,7 +4,7 @@ use Prim.Native.Nat.{ℕ, _<_, _+_, _-_, _*_}
 use lib.ListN.{length}
 use borrow.Fn.Kinds.{In}
 use borrow.Fn.PlainCycle.{Measures, is, falls, and}
-use Rattle.table.specs.Types.{typeFrom}
+use Rattle.types.specs.Types.{typeFrom}
 use Rattle.filter.specs.inner.Answers.{reportJoin}
 use Rattle.judge.specs.inner.Work.{begun}
 use Rattle.judge.proofs.judge_filter.Reads as judge-filter

@@ -9,9 +9,9 @@ use lib.Dec.{leb}
 use Rattle.octets.specs.Pick.{pick, bind, isSome}
 use Rattle.octets.specs.Octets.{same}
 use Rattle.rows.specs.Row.{nameAt, rowAt, membersAt}
-use Rattle.groups.specs.Clauses.{memberPlace}
-use Rattle.table.specs.Types.{unfilled, typeFrom}
-use Rattle.table.specs.inner.Work.{Sound}
+use Rattle.clauses.specs.Clauses.{memberPlace}
+use Rattle.types.specs.Types.{unfilled, typeFrom}
+use Rattle.types.specs.inner.Work.{Sound}
 use Rattle.value.specs.Decode.{storedValue}
 use Rattle.reference.specs.Allowed.{Target}
 use Rattle.rules.specs.Rule.{Rule, Known}

@@ -10,8 +10,8 @@ use Rattle.octets.specs.Pick.{pick, both, bind, consed}
 use Rattle.octets.specs.Octets.{octet, part, same}
 use Rattle.octets.specs.Text.{isName, decimal}
 use Rattle.rows.specs.Row.{nameAt, elementAt, rowAt, membersAt}
-use Rattle.groups.specs.Clauses.{memberPlace}
-use Rattle.table.specs.Types.{Ty, Members, unfilled, membersFrom, typeFrom}
+use Rattle.clauses.specs.Clauses.{memberPlace}
+use Rattle.types.specs.Types.{Ty, Members, unfilled, membersFrom, typeFrom}
 use Rattle.value.specs.inner.Work.{first}
 use Rattle.reference.specs.Reference.{Index, position, fromEnd, count, all, Id, name, index, isPosition, readReference, givenIds}
 use Rattle.reference.specs.Allowed as allowed

@@ -16,8 +16,8 @@ use Rattle.binary.specs.Asserted.{isOctets, assertedOctets, isBits, assertedBit
 use Rattle.strings.specs.Asserted.{isText, assertedText}
 use Rattle.times.specs.Asserted.{assertedTime}
 use Rattle.rows.specs.Row.{kindAt, modeAt, rowAt, membersAt}
-use Rattle.groups.specs.Clauses.{memberPlace}
-use Rattle.groups.specs.inner.Work.{memberType}
+use Rattle.clauses.specs.Clauses.{memberPlace}
+use Rattle.clauses.specs.inner.Work.{memberType}
 use Rattle.rules.specs.Rule.{Syntax, booleans, integers, objectIdentifiers, octetStrings, bitStrings, strings, times, Rule, present, equal, less}
 use Rattle.rules.specs.Rule.{sameName}
 use Rattle.rules.specs.Suits.{suitsKind}

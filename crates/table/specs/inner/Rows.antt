@@ -1,23 +1,44 @@
--- What a row describes, by the table's octets t and the places s of its rows, at document 01's limits: names for contracts.
-use Prim.Native.Nat.{ℕ, _+_}
+-- What row i of a table describes, at document 01's limits: names for contracts.
+use Prim.Native.Nat.{ℕ}
+use mathlib.Core.Path.{_≡_}
 use mathlib.Core.List.{List}
+use Rattle.der.specs.Kind as kind
 use Rattle.rows.specs.Paper.{tableLimits}
-use Rattle.rows.specs.Row.{rowAt, typeRowAt, modeAt, numberAt, membersAt}
-use Rattle.table.specs.Types.{Tagging, taggingOf, Member, memberOf, Ty, typeFrom, Members, membersFrom}
+use Rattle.rows.specs.Row.{rows, rowAt, kindAt}
+use Rattle.clauses.specs.Clauses.{typeKind}
+use Rattle.types.specs.Types.{Tagging, Member, Ty, Members}
+use Rattle.types.specs.inner.Rows.{rowType, rowMembers, rowMember, rowTagging, rowMemberType}
 
-abbrev pub rowType : List ℕ → List ℕ → ℕ → Ty
-rowType t s i = typeFrom (tableLimits .chain) t s i
+-- the places of a table's rows
+abbrev pub tableRows : List ℕ → List ℕ
+tableRows t = rows (tableLimits .rows) t
 
--- the members or alternatives that stand after a row
-abbrev pub rowMembers : List ℕ → List ℕ → ℕ → Members
-rowMembers t s i = membersFrom (typeFrom (tableLimits .chain) t s) t s (i + 1) (membersAt t (rowAt s i))
+abbrev pub placeAt : List ℕ → ℕ → ℕ
+placeAt t i = rowAt (tableRows t) i
 
--- of a member row: the member, its tag mode, its type
-abbrev pub rowMember : List ℕ → List ℕ → ℕ → Member
-rowMember t s i = memberOf t i (rowAt s i)
+-- row i is a member row, is none
+abbrev pub MemberRow : List ℕ → ℕ → Type 0
+MemberRow t i = kindAt t (placeAt t i) ≡ kind.member
 
-abbrev pub rowTagging : List ℕ → List ℕ → ℕ → Tagging
-rowTagging t s i = taggingOf (modeAt t (rowAt s i)) (numberAt t (rowAt s i))
+abbrev pub TypeRow : List ℕ → ℕ → Type 0
+TypeRow t i = kindAt t (placeAt t i) ≡ kind.member → ⊥
 
-abbrev pub rowMemberType : List ℕ → List ℕ → ℕ → Ty
-rowMemberType t s i = rowType t s (typeRowAt t (rowAt s i))
+abbrev pub typeAt : List ℕ → ℕ → Ty
+typeAt t i = rowType t (tableRows t) i
+
+-- the members or alternatives that stand after row i
+abbrev pub membersAfter : List ℕ → ℕ → Members
+membersAfter t i = rowMembers t (tableRows t) i
+
+-- of a member row: the member, its tag mode, its type, the kind of its type
+abbrev pub memberAt : List ℕ → ℕ → Member
+memberAt t i = rowMember t (tableRows t) i
+
+abbrev pub taggingAt : List ℕ → ℕ → Tagging
+taggingAt t i = rowTagging t (tableRows t) i
+
+abbrev pub memberTypeAt : List ℕ → ℕ → Ty
+memberTypeAt t i = rowMemberType t (tableRows t) i
+
+abbrev pub memberKindAt : List ℕ → ℕ → ℕ
+memberKindAt t i = typeKind t (tableRows t) i

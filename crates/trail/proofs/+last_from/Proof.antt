@@ -1,6 +1,6 @@
 use borrow.Author.Needs.{needs}
 use Prim.Native.Nat.{ℕ, _<_, _-_}
-use Rattle.table.specs.Types.{typeFrom}
+use Rattle.types.specs.Types.{typeFrom}
 use Rattle.trail.proofs.KeepSteps.{Keeping, keep-start, keep-room, keep-high, keep-small, keep-ends, keep-misfit, keep-slot, place-small, start-small, span-small, end-fits, number-fits, keep-less, keep-again, keep-falls, keep-landed, keep-broken, keep-below, keep-sum, keep-short}
 use borrow.Fn.Kinds.{In}
 use borrow.Fn.PlainCycle.{Measures, is, falls, and}

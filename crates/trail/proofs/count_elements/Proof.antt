@@ -1,5 +1,5 @@
 use Prim.Native.Nat.{_-_}
-use Rattle.table.specs.Types.{typeFrom}
+use Rattle.types.specs.Types.{typeFrom}
 use Rattle.trail.proofs.ListSteps.{Counting, count-start, count-bad, element-fits, count-fits, element-less, count-again, count-done}
 use borrow.Author.Needs.{needs}
 use Rattle.trail.proofs.count_elements.Statement.{statement}

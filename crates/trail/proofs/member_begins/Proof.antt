@@ -1,4 +1,4 @@
-use Rattle.table.proofs.SoundLaws.{set-begins}
+use Rattle.types.proofs.SoundLaws.{set-begins}
 use borrow.Author.Needs.{needs}
 use Rattle.trail.proofs.member_begins.Statement.{statement}
 use Rattle.trail.proofs.member_begins.Tie as tie

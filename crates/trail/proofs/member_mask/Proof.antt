@@ -1,4 +1,4 @@
-use Rattle.table.proofs.TagSteps.{mask-tagged, mask-untagged}
+use Rattle.types.proofs.TagSteps.{mask-tagged, mask-untagged}
 use borrow.Author.Needs.{needs}
 use Rattle.trail.proofs.member_mask.Statement.{statement}
 use Rattle.trail.proofs.member_mask.Tie as tie

@@ -1,5 +1,5 @@
 use Prim.Native.Nat.{_-_}
-use Rattle.table.specs.Types.{typeFrom}
+use Rattle.types.specs.Types.{typeFrom}
 use Rattle.trail.proofs.ListSteps.{Seeking, nth-start, nth-bad, nth-found, element-fits, element-less, nth-again, nth-done}
 use borrow.Author.Needs.{needs}
 use Rattle.trail.proofs.nth_element.Statement.{statement}

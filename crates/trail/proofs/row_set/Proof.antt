@@ -1,4 +1,4 @@
-use Rattle.table.proofs.TagSteps.{kept-past}
+use Rattle.types.proofs.TagSteps.{kept-past}
 use borrow.Author.Needs.{needs}
 use Rattle.trail.proofs.row_set.Statement.{statement}
 use Rattle.trail.proofs.row_set.Tie as tie

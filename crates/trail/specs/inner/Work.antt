@@ -12,9 +12,9 @@ use Rattle.der.specs.Tag.{tagOf}
 use Rattle.der.specs.Header.{headerAt, anyTag}
 use Rattle.der.specs.declared.Inside.{Inside}
 use Rattle.rows.specs.Row.{rowAt}
-use Rattle.table.specs.Types.{untagged, taggingOf, Member, memberOf, Ty, basic, sequence, choice, listOf, typeFrom}
-use Rattle.table.specs.Begins.{isMandatory}
-use Rattle.table.specs.inner.Work.{bitOf}
+use Rattle.types.specs.Types.{untagged, taggingOf, Member, memberOf, Ty, basic, sequence, choice, listOf, typeFrom}
+use Rattle.types.specs.Begins.{isMandatory}
+use Rattle.types.specs.inner.Work.{bitOf}
 use Rattle.value.specs.Decode.{tagOctet, startsHere}
 use Rattle.reference.specs.Reference.{Index, position, fromEnd, count, all, Id, name, index}
 use Rattle.trail.specs.Opened.{Opened, after, openAt}

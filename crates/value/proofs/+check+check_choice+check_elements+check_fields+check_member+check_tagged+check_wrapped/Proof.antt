@@ -16,7 +16,7 @@ use borrow.Author.Needs.{needs}
 use lib.ListN.{length}
 use Rattle.rows.specs.Paper.{tableLimits}
 use Rattle.rows.specs.Row.{rowAt, typeRowAt}
-use Rattle.words.specs.inner.Rows.{tableRows}
+use Rattle.table.specs.inner.Rows.{tableRows}
 use borrow.Fn.Kinds.{In}
 use borrow.Fn.PlainCycle.{Measures, is, falls, and}
 use Rattle.value.proofs.check.Reads as check
@@ -51,13 +51,13 @@ use Rattle.value.proofs.choose_inner.Reads as choose-inner-reads
 use Rattle.value.proofs.in_order.Reads as in-order-reads
 use Rattle.value.proofs.member_starts.Reads as member-starts-reads
 use Rattle.value.proofs.stored_default.Reads as stored-default-reads
-use Rattle.words.proofs.element.Reads as element-reads
-use Rattle.words.proofs.first.Reads as first-reads
-use Rattle.words.proofs.kind.Reads as kind-reads
-use Rattle.words.proofs.members.Reads as members-reads
-use Rattle.words.proofs.own_first.Reads as own-first-reads
-use Rattle.words.proofs.tagged.Reads as tagged-reads
-use Rattle.words.proofs.type_row.Reads as type-row-reads
+use Rattle.table.proofs.element.Reads as element-reads
+use Rattle.table.proofs.first.Reads as first-reads
+use Rattle.table.proofs.kind.Reads as kind-reads
+use Rattle.table.proofs.members.Reads as members-reads
+use Rattle.table.proofs.own_first.Reads as own-first-reads
+use Rattle.table.proofs.tagged.Reads as tagged-reads
+use Rattle.table.proofs.type_row.Reads as type-row-reads
 use Rattle.value.proofs.+check+check_choice+check_elements+check_fields+check_member+check_tagged+check_wrapped.{statement}
 use Rattle.value.proofs.+check+check_choice+check_elements+check_fields+check_member+check_tagged+check_wrapped.Tie.{close}
 

@@ -1,4 +1,4 @@
-use Rattle.words.proofs.Reading.{row-small}
+use Rattle.table.proofs.Reading.{row-small}
 use Rattle.value.proofs.TagSteps.{begins-as}
 use borrow.Author.Needs.{needs}
 use Rattle.value.proofs.begins_with.Statement.{statement}

@@ -1,6 +1,6 @@
 use Prim.Native.Nat.{_-_}
 use Rattle.rows.specs.Paper.{tableLimits}
-use Rattle.words.specs.inner.Rows.{tableRows}
+use Rattle.table.specs.inner.Rows.{tableRows}
 use Rattle.value.proofs.ElementSteps.{Listed, element-here, element-typed, element-small, elements-bad, element-after, element-ends, element-less}
 use Rattle.value.proofs.ElementSteps.{elements-disorder, elements-again, elements-done, elements-start, listed-low}
 use Rattle.value.proofs.TagSteps.{own-usable}

@@ -1,6 +1,6 @@
 use Prim.Native.Nat.{_-_}
 use lib.ListN.{length}
-use Rattle.words.specs.inner.Rows.{tableRows}
+use Rattle.table.specs.inner.Rows.{tableRows}
 use Rattle.value.proofs.NestedSteps.{row-here, row-member, Descends, descends-start, inner-none, inner-this, inner-less, inner-again}
 use borrow.Author.Needs.{needs}
 use Rattle.value.proofs.choose_inner.Statement.{statement}

@@ -1,7 +1,7 @@
 use Rattle.value.specs.inner.Work.{startsOf}
 use Rattle.value.specs.inner.Work.{first}
 use Rattle.rows.specs.Paper.{tableLimits}
-use Rattle.words.specs.inner.Rows.{tableRows}
+use Rattle.table.specs.inner.Rows.{tableRows}
 use native.Mathlib.Omega.{arith}
 use mathlib.Core.Path.{_≡_}
 use Prim.Native.Nat.{_-_, _≤_}

@@ -15,11 +15,11 @@ use Rattle.der.specs.Contents.{legal}
 use Rattle.der.specs.Order.{notAbove}
 use Rattle.der.specs.declared.Inside.{Inside}
 use Rattle.rows.specs.Row.{rowAt, kindAt, typeRowAt, modeAt, numberAt, presenceAt, defaultAt}
-use Rattle.groups.specs.Clauses.{memberPlace}
-use Rattle.table.specs.Types.{Tagging, untagged, explicit, implicit, taggingOf, Member, memberOf, Ty, typeFrom, Members}
-use Rattle.table.specs.Begins.{isMandatory}
-use Rattle.table.specs.inner.Work.{bitOf, memberMask}
-use Rattle.words.specs.inner.Rows.{tableRows, placeAt, MemberRow, membersAfter, taggingAt, memberTypeAt}
+use Rattle.clauses.specs.Clauses.{memberPlace}
+use Rattle.types.specs.Types.{Tagging, untagged, explicit, implicit, taggingOf, Member, memberOf, Ty, typeFrom, Members}
+use Rattle.types.specs.Begins.{isMandatory}
+use Rattle.types.specs.inner.Work.{bitOf, memberMask}
+use Rattle.table.specs.inner.Rows.{tableRows, placeAt, MemberRow, membersAfter, taggingAt, memberTypeAt}
 use Rattle.value.specs.Value.{Values, endValues, next, encoding}
 use Rattle.value.specs.Order.{rising}
 use Rattle.value.specs.Decode.{Decoded, tagOctet, startsHere, unlessDefault, many, unwrapped, fieldsFrom, alternativeFrom, decode}

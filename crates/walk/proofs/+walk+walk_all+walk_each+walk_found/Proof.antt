@@ -2,7 +2,7 @@ use borrow.Author.Needs.{needs}
 use Rattle.trail.proofs.ListSteps.{element-less}
 use lib.ListN.{length}
 use Prim.Native.Nat.{ℕ, _<_, _*_, _+_, _-_}
-use Rattle.table.specs.Types.{typeFrom}
+use Rattle.types.specs.Types.{typeFrom}
 use Rattle.walk.specs.inner.Run.{idsFrom}
 use Rattle.walk.proofs.WalkSteps.{Each, name-falls, position-falls, from-end-falls, all-falls, found-falls, each-falls, name-read, position-read, from-end-read, count-read, all-read, walk-name, walk-last, walk-position, walk-from-end, walk-counts, walk-alls, walk-end, walk-bad, all-none, all-each, element-here, each-start, each-misfit, each-ends, each-fits, each-again, each-accepted, each-over, each-fault, each-done, each-length, lands-row, lands-end, found-last, found-at, found-lacking, found-nothing, found-broken}
 use borrow.Fn.Kinds.{In}

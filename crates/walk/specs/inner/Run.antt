@@ -7,7 +7,7 @@ use lib.ListN.{length, set}
 use lib.Dec.{ltb, leb}
 use Rattle.octets.specs.Pick.{pick}
 use Rattle.rows.specs.Row.{rowAt}
-use Rattle.table.specs.Types.{Ty, memberOf}
+use Rattle.types.specs.Types.{Ty, memberOf}
 use Rattle.value.specs.Value.{spotAt}
 use Rattle.reference.specs.Reference.{Id}
 use Rattle.reference.specs.inner.Work.{idsAt}

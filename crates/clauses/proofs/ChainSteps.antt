@@ -1,0 +1,76 @@
+-- Chains: the longest from a row on, by the longest from the rows that it names.
+use mathlib.Core.Path.{_≡_, refl, sym, ap, ap₂, _∙_}
+use mathlib.Core.Bool.{Bool, true, false}
+use mathlib.Core.List.{List}
+use Prim.Native.Nat.{ℕ, zero, suc, _≤_, _<_, _+_}
+use native.Mathlib.Omega.{arith}
+use native.Mathlib.Numerals.{add-one}
+use borrow.Author.Tests.{ltb-true, ltb-false, leb-true, leb-false, le-leb, lt-leb}
+use lib.Dec.{ltb, leb, leb·suc-suc}
+use Rattle.octets.specs.Pick.{pick, both, all}
+use Rattle.octets.specs.Octets.{two, larger}
+use Rattle.octets.proofs.Laws.{all-cong}
+use Rattle.rows.specs.Row.{kindAt, rowAt, isList, elementAt, membersAt}
+use Rattle.clauses.specs.Clauses.{memberPlace, ofMember, chainFits}
+use Rattle.clauses.specs.inner.Work.{memberType, tallest}
+
+pub type-row-is : (t s : List ℕ) (i j p r : ℕ) → p ≡ memberPlace s i j → r ≡ two t (p + 25) → r ≡ memberType t s i j
+type-row-is t s i j p r e f = rw e at f
+
+-- ---- the largest of some numbers
+pub tallest-none : (f : ℕ → ℕ) → 0 ≡ tallest f 0
+unfolding tallest
+tallest-none f = refl
+
+pub tallest-more : (f : ℕ → ℕ) (j m x r : ℕ) → m ≡ tallest f j → x ≡ f j → r ≡ larger x m → r ≡ tallest f (j + 1)
+unfolding tallest
+tallest-more f j m x r e g h = rw (add-one j) (h ∙ ap₂ larger g e)
+
+pub tallest-done : (f : ℕ → ℕ) (j n m : ℕ) → m ≡ tallest f j → j ≤ n → n ≤ j → m ≡ tallest f n
+tallest-done f j n m e h l = let q : j ≡ n = omega arith in rw q at e
+
+both-leb : (a b k : ℕ) → both (leb a k) (leb b k) ≡ leb (larger a b) k
+unfolding larger
+both-leb a b k = go (ltb a b) refl (leb b k) refl (leb a k) refl ∙ out (ltb a b)
+  where
+    out : (x : Bool) → pick x (leb b k) (leb a k) ≡ leb (pick x b a) k
+    out true = refl
+    out false = refl
+
+    go : (x : Bool) → ltb a b ≡ x → (y : Bool) → leb b k ≡ y → (z : Bool) → leb a k ≡ z → both z y ≡ pick x y z
+    go true p true q true r = refl
+    go true p true q false r = absurd (let h = ltb-true a b p in let l = leb-true b k q in let m = leb-false a k r in omega arith)
+    go true p false q true r = refl
+    go true p false q false r = refl
+    go false p true q true r = refl
+    go false p true q false r = refl
+    go false p false q true r = absurd (let h = ltb-false a b p in let l = leb-false b k q in let m = leb-true a k r in omega arith)
+    go false p false q false r = refl
+
+all-leb : (f : ℕ → ℕ) (k n : ℕ) → all (λ j. leb (f j) k) n ≡ leb (tallest f n) k
+unfolding all tallest
+all-leb f k zero = sym (le-leb 0 k (omega arith))
+all-leb f k (suc n) = rw (all-leb f k n) (both-leb (f n) (tallest f n) k)
+
+-- ---- the chains from row i on
+module _ (t s : List ℕ) (i : ℕ) where
+  one-more : (d k : ℕ) → leb d k ≡ leb (d + 1) (suc k)
+  one-more d k = sym (leb·suc-suc d k) ∙ ap (λ (x : ℕ). leb x (suc k)) (sym (add-one d))
+
+  -- of a list by those from its element's row on
+  pub chain-list : (d : ℕ) → isList (kindAt t (rowAt s i)) ≡ true → ((k : ℕ) → chainFits k t s (elementAt t (rowAt s i)) ≡ leb d k)
+      → (k : ℕ) → chainFits k t s i ≡ leb (d + 1) k
+  unfolding chainFits
+  chain-list d e below zero = sym (lt-leb (d + 1) 0 (omega arith))
+  chain-list d e below (suc k) = rw e (below k ∙ one-more d k)
+
+  -- of any other row by those from its members' types on
+  pub chain-members : (f : ℕ → ℕ) → isList (kindAt t (rowAt s i)) ≡ false
+      → ((j : ℕ) → j < membersAt t (rowAt s i) → (k : ℕ) → chainFits k t s (memberType t s i j) ≡ leb (f j) k)
+      → (k : ℕ) → chainFits k t s i ≡ leb (tallest f (membersAt t (rowAt s i)) + 1) k
+  unfolding chainFits ofMember
+  chain-members f e below zero = sym (lt-leb (tallest f (membersAt t (rowAt s i)) + 1) 0 (omega arith))
+  chain-members f e below (suc k) =
+      rw e (all-cong (ofMember (chainFits k t s) t s i) (λ j. leb (f j) k) (membersAt t (rowAt s i)) (λ j l. below j l k)
+      ∙ all-leb f k (membersAt t (rowAt s i))
+      ∙ one-more (tallest f (membersAt t (rowAt s i))) k)

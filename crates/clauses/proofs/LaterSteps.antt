@@ -1,0 +1,120 @@
+-- Rows that pass the clauses on row numbers and on where members stand name later rows.
+use mathlib.Core.Path.{_≡_, refl, sym, ap, _∙_}
+use mathlib.Core.Bool.{Bool, true, false}
+use mathlib.Core.Logic.{_⊎_, ⊎-elim, inl, inr}
+use mathlib.Core.List.{List, [], _∷_}
+use Prim.Native.Nat.{ℕ, zero, suc, _<_, _+_, _-_}
+use native.Mathlib.Omega.{arith}
+use borrow.Author.Tests.{ltb-true, eqb-true, eqb-false}
+use lib.ListN.{length, getD, drop, length-drop}
+use lib.Seq.{drop-cons, getD-drop}
+use lib.Dec.{ltb, eqb}
+use Rattle.octets.specs.Pick.{pick}
+use Rattle.octets.proofs.Laws.{both-true, all-at}
+use Rattle.rows.proofs.KindLaws.{type-no-member}
+use Rattle.rows.specs.Row.{kindAt, countAt, rowAt, isTypeKind, followerKind, isGroup, isList, elementAt, typeRowAt, membersAt}
+use Rattle.clauses.specs.Clauses.{everyRow, isType, laterType, pointsLater, standing, membersStand, memberPlace}
+use Rattle.clauses.specs.inner.Work.{memberType, Later}
+
+pick-true : (b x y : Bool) → pick b x y ≡ true → ((b ≡ true) × (x ≡ true)) ⊎ ((b ≡ false) × (y ≡ true))
+pick-true true x y e = inl (refl, e)
+pick-true false x y e = inr (refl, e)
+
+-- a row of a type, and one that is named
+pub type-row : (t s : List ℕ) (j : ℕ) → isType t s j ≡ true → (j < length s) × (kindAt t (rowAt s j) ≡ 16 → ⊥)
+unfolding isType
+type-row t s j e =
+    let v = both-true (ltb j (length s)) (isTypeKind (kindAt t (rowAt s j))) e in
+    (ltb-true j (length s) (v .0), type-no-member (kindAt t (rowAt s j)) (v .1))
+
+pub later-row : (t s : List ℕ) (i j : ℕ) → laterType t s i j ≡ true → (i < j) × (isType t s j ≡ true)
+unfolding laterType
+later-row t s i j e = let w = both-true (ltb i j) (isType t s j) e in (ltb-true i j (w .0), w .1)
+
+later : (t s : List ℕ) (i c : ℕ) → laterType t s i c ≡ true → (i < c) × (c < length s)
+later t s i c e = let w = later-row t s i c e in (w .0, type-row t s c (w .1) .0)
+
+-- as many rows follow as are due
+stand-due : (t : List ℕ) (ps : List ℕ) (k due j : ℕ) → standing t k due ps ≡ true → j < due → (j < length ps) × (kindAt t (rowAt ps j) ≡ k)
+unfolding standing
+stand-due t [] k due j e h = absurd (let z = eqb-true due 0 e in omega arith)
+stand-due t (p ∷ ps) k due zero e h =
+    ⊎-elim
+    (λ w. absurd (let z = eqb-true due 0 (w .0) in omega arith))
+    (λ w. (omega arith, eqb-true (kindAt t p) k (both-true (eqb (kindAt t p) k) _ (w .1) .0)))
+    (pick-true (eqb due 0) _ _ e)
+stand-due t (p ∷ ps) k due (suc j) e h =
+    ⊎-elim
+    (λ w. absurd (let z = eqb-true due 0 (w .0) in omega arith))
+    (λ w. let v = stand-due t ps k (due - 1) j (both-true (eqb (kindAt t p) k) _ (w .1) .1) (omega arith) in (omega arith, v .1))
+    (pick-true (eqb due 0) _ _ e)
+
+-- only members follow a row
+pub follower-member : (t : List ℕ) (p : ℕ) → 0 < membersAt t p → followerKind (kindAt t p) ≡ 16
+unfolding membersAt followerKind
+follower-member t p h = go (isGroup (kindAt t p)) h
+  where
+    go : (x : Bool) → 0 < pick x (countAt t p) 0 → _≡_ {A = ℕ} (pick x 16 0) 16
+    go true l = refl
+    go false l = absurd (omega arith)
+
+-- the rows from i on stand as they should
+record Stands (t ps : List ℕ) : Type 0 where
+  pub kind : ℕ
+  pub due : ℕ
+  pub members : 0 < due → kind ≡ 16
+  pub stand : standing t kind due ps ≡ true
+
+stand-at : (t s : List ℕ) (k due i : ℕ) → (0 < due → k ≡ 16) → standing t k due s ≡ true → i < length s → Stands t (drop i s)
+unfolding standing
+stand-at t [] k due i f e h = absurd (omega arith)
+stand-at t (p ∷ ps) k due zero f e h = record { kind = k; due = due; members = f; stand = e }
+stand-at t (p ∷ ps) k due (suc i) f e h =
+    ⊎-elim
+    (λ w. stand-at t ps (followerKind (kindAt t p)) (membersAt t p) i (follower-member t p) (both-true (isTypeKind (kindAt t p)) _ (w .1) .1) (omega arith))
+    (λ w. stand-at t ps k (due - 1) i (λ l. f (omega arith)) (both-true (eqb (kindAt t p) k) _ (w .1) .1) (omega arith))
+    (pick-true (eqb due 0) _ _ e)
+
+no-members : (t : List ℕ) (p : ℕ) → kindAt t p ≡ 16 → membersAt t p ≡ 0
+unfolding membersAt isGroup
+no-members t p k = rw k
+
+module _ (t s : List ℕ) (stands : membersStand t s ≡ true) where
+  -- the members of row i follow it
+  behind : (i : ℕ) → i < length s → (j : ℕ) → j < membersAt t (rowAt s i) → standing t 16 (membersAt t (rowAt s i)) (drop (suc i) s) ≡ true
+  unfolding standing membersStand
+  behind i h j l =
+      let w = stand-at t s 0 0 i (λ z. absurd (omega arith)) stands h in
+      let e : standing t (w .kind) (w .due) (rowAt s i ∷ drop (suc i) s) ≡ true = rw (drop-cons s i 0 h) at (w .stand) in
+      ⊎-elim
+      (λ v. rw (follower-member t (rowAt s i) (omega arith)) at (both-true (isTypeKind (kindAt t (rowAt s i))) _ (v .1) .1))
+      (λ v. absurd (let z = no-members t (rowAt s i) (eqb-true _ (w .kind) (both-true (eqb (kindAt t (rowAt s i)) (w .kind)) _ (v .1) .0) ∙ w .members (some-due (w .due) (v .0))) in omega arith))
+      (pick-true (eqb (w .due) 0) _ _ e)
+    where
+      some-due : (n : ℕ) → eqb n 0 ≡ false → 0 < n
+      some-due n q = let z = eqb-false n 0 q in omega arith
+
+  pub member-follows : (i : ℕ) → i < length s → (j : ℕ) → j < membersAt t (rowAt s i) → (i + 1 + j < length s) × (kindAt t (memberPlace s i j) ≡ 16)
+  member-follows i h j l =
+      let w = stand-due t (drop (suc i) s) 16 (membersAt t (rowAt s i)) j (behind i h j l) l in
+      let q : suc i + j ≡ i + 1 + j = omega arith in
+      let n = length-drop (suc i) s in
+      (omega arith, ap (λ (x : ℕ). kindAt t (getD s x 0)) (sym q) ∙ ap (kindAt t) (sym (getD-drop (suc i) s j 0)) ∙ w .1)
+
+module _ (t s : List ℕ) (points : everyRow (pointsLater t s) s ≡ true) (stands : membersStand t s ≡ true) where
+  list-row : (i : ℕ) → i < length s → isList (kindAt t (rowAt s i)) ≡ true → laterType t s i (elementAt t (rowAt s i)) ≡ true
+  unfolding pointsLater
+  list-row i h k = rw k at (all-at (pointsLater t s) (length s) i points h)
+
+  member-row : (i : ℕ) → i < length s → kindAt t (rowAt s i) ≡ 16 → laterType t s i (typeRowAt t (rowAt s i)) ≡ true
+  unfolding pointsLater isList
+  member-row i h k = rw k at (all-at (pointsLater t s) (length s) i points h)
+
+  pub is-later : Later t s
+  is-later = record {
+    of-list = λ i h k. later t s i (elementAt t (rowAt s i)) (list-row i h k);
+    of-member = λ i h j l.
+        let f = member-follows t s stands i h j l in
+        let w = later t s (i + 1 + j) (memberType t s i j) (member-row (i + 1 + j) (f .0) (f .1)) in
+        (omega arith, w .1);
+  }

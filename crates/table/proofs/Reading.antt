@@ -1,0 +1,119 @@
+-- What the words of an admitted table say, and that they are there.
+use mathlib.Core.Path.{_≡_, refl, sym, _∙_}
+use mathlib.Core.Bool.{Bool, true, false, false≢true}
+use mathlib.Core.List.{List}
+use Prim.Native.Nat.{ℕ, _≤_, _<_, _+_, _*_}
+use native.Mathlib.Omega.{arith}
+use borrow.Author.Tests.{eqb-true, eqb-false}
+use lib.ListN.{length, getD}
+use lib.Dec.{eqb}
+use Rattle.octets.specs.Octets.{baseFrom}
+use Rattle.rows.specs.Limits.{Limits}
+use Rattle.rows.specs.Row.{rows, rowAt, kindAt, elementAt, typeRowAt, membersAt, isGroup, isList, modeAt, presenceAt, defaultAt}
+use Rattle.clauses.specs.Clauses.{isType, laterType, pointsLater}
+use Rattle.clauses.proofs.LaterSteps.{type-row, later-row}
+use Rattle.types.specs.Types.{untagged}
+use Rattle.types.specs.Admitted.{admitted}
+use Rattle.types.specs.inner.Work.{Masked}
+use Rattle.types.proofs.Laws.{row-count, row-0-is-type, member-formed, points-later}
+use Rattle.types.proofs.SoundLaws.{sound}
+use Rattle.table.proofs.Places.{row-place}
+use Rattle.table.specs.inner.Rows.{tableRows, placeAt, taggingAt, memberKindAt}
+use Rattle.table.specs.inner.Fields.{kindOf, firstOf, countOf, targetOf, typeOf, howOf, presenceOf, lengthOf, placeOf}
+use Rattle.table.specs.inner.Words.{firstOctet, how, elementRow, secondOf, Shaped, Ready, Worded}
+use Rattle.rows.specs.Paper.{tableLimits}
+
+-- ---- an admitted table is ready for its words
+is-type : (t s : List ℕ) (j : ℕ) → isType t s j ≡ true → kindAt t (rowAt s j) ≡ 16 → ⊥
+is-type t s j e h = type-row t s j e .1 h
+
+later-type : (t s : List ℕ) (i j : ℕ) → laterType t s i j ≡ true → (j < length s) × (kindAt t (rowAt s j) ≡ 16 → ⊥)
+later-type t s i j e = type-row t s j (later-row t s i j e .1)
+
+module _ (t s : List ℕ) (i : ℕ) (points : pointsLater t s i ≡ true) where
+  of-list : isList (kindAt t (rowAt s i)) ≡ true → laterType t s i (elementAt t (rowAt s i)) ≡ true
+  unfolding pointsLater
+  of-list h = rw h at points
+
+  of-member : kindAt t (rowAt s i) ≡ 16 → laterType t s i (typeRowAt t (rowAt s i)) ≡ true
+  unfolding pointsLater isList
+  of-member h = rw h at points
+
+pub ready : (l : Limits) (t m : List ℕ) → admitted l t ≡ true → l .rows ≤ tableLimits .rows → Masked (l .chain) t (rows (l .rows) t) m
+    → Ready (l .chain) t (rows (l .rows) t) m
+ready l t m ok few masked = record {
+  sound = sound l t m ok masked;
+  rooted = row-count l t ok .0;
+  root = is-type t _ 0 (row-0-is-type l t ok);
+  few = let a = row-count l t ok .1 in omega arith;
+  place = λ i h. let a = row-place (l .rows) t i h in let b = row-count l t ok .1 in omega arith;
+  number = λ i h k. member-formed l t ok i h k .number;
+  size = λ i h k. member-formed l t ok i h k .length;
+  target = λ i h k. later-type t _ i _ (of-member t _ i (points-later l t ok i h) k) .0;
+  of-element = λ i h k. later-type t _ i _ (of-list t _ i (points-later l t ok i h) k) .1;
+  of-member = λ i h k. later-type t _ i _ (of-member t _ i (points-later l t ok i h) k) .1;
+}
+
+-- ---- reading
+module _ (t w : List ℕ) (i : ℕ) (ok : Worded t w) (here : i < length (tableRows t)) where
+  pub row-small : i < tableLimits .rows
+  row-small = let a = ok .ready .few in omega arith
+
+  module _ (x r : ℕ) (read : x ≡ getD w (2 * i) 0) where
+    shaped : Shaped t (tableRows t) i x
+    shaped = rw read (ok .filled .shape i here)
+
+    by-kind : (P : ℕ → Type 0) → (kindAt t (placeAt t i) ≡ 16 → P r) → ((kindAt t (placeAt t i) ≡ 16 → ⊥) → P r) → P r
+    by-kind P f g = go (eqb (kindAt t (placeAt t i)) 16) refl
+      where
+        go : (b : Bool) → eqb (kindAt t (placeAt t i)) 16 ≡ b → P r
+        go true q = f (eqb-true _ _ q)
+        go false q = g (eqb-false _ _ q)
+
+    pub read-kind : r ≡ kindOf x → r ≡ kindAt t (placeAt t i)
+    read-kind e = by-kind (λ r. r ≡ kindAt t (placeAt t i)) (λ h. e ∙ shaped .of-member h .kind ∙ sym h) (λ h. e ∙ shaped .of-type h .kind)
+
+    pub read-place : r ≡ placeOf x → r ≡ placeAt t i
+    read-place e = by-kind (λ r. r ≡ placeAt t i) (λ h. e ∙ shaped .of-member h .placed) (λ h. e ∙ shaped .of-type h .placed)
+
+    no-members : kindAt t (placeAt t i) ≡ 16 → 0 ≡ membersAt t (placeAt t i)
+    unfolding membersAt isGroup
+    no-members h = rw h
+
+    pub read-members : r ≡ countOf x → r ≡ membersAt t (placeAt t i)
+    read-members e = by-kind (λ r. r ≡ membersAt t (placeAt t i)) (λ h. e ∙ shaped .of-member h .members ∙ no-members h) (λ h. e ∙ shaped .of-type h .members)
+
+    pub read-own : (kindAt t (placeAt t i) ≡ 16 → ⊥) → r ≡ firstOf x → r ≡ firstOctet untagged (kindAt t (placeAt t i))
+    read-own h e = e ∙ shaped .of-type h .opens
+
+    list-type : isList (kindAt t (placeAt t i)) ≡ true → kindAt t (placeAt t i) ≡ 16 → ⊥
+    unfolding isList
+    list-type h e = false≢true (rw e at h)
+
+    pub read-element : isList (kindAt t (placeAt t i)) ≡ true → r ≡ targetOf x → r ≡ elementAt t (placeAt t i)
+    unfolding elementRow
+    read-element h e = e ∙ shaped .of-type (list-type h) .leads ∙ rw h
+
+    module _ (member : kindAt t (placeAt t i) ≡ 16) where
+      pub read-first : r ≡ firstOf x → r ≡ firstOctet (taggingAt t i) (memberKindAt t i)
+      read-first e = e ∙ shaped .of-member member .opens
+
+      pub read-type-row : r ≡ targetOf x → r ≡ typeRowAt t (placeAt t i)
+      read-type-row e = e ∙ shaped .of-member member .leads
+
+      pub read-type-kind : r ≡ typeOf x → r ≡ memberKindAt t i
+      read-type-kind e = e ∙ shaped .of-member member .typed
+
+      pub read-how : r ≡ howOf x → r ≡ how (memberKindAt t i) (modeAt t (placeAt t i))
+      read-how e = e ∙ shaped .of-member member .tagged
+
+      pub read-presence : r ≡ presenceOf x → r ≡ presenceAt t (placeAt t i)
+      read-presence e = e ∙ shaped .of-member member .needed
+
+      pub read-length : r ≡ lengthOf x → r ≡ length (defaultAt t (placeAt t i))
+      read-length e = e ∙ shaped .of-member member .sized
+
+  pub read-number : (r : ℕ) → kindAt t (placeAt t i) ≡ 16 → presenceAt t (placeAt t i) ≡ 2 → r ≡ getD w (2 * i + 1) 0
+      → r ≡ baseFrom 0 (defaultAt t (placeAt t i))
+  unfolding secondOf
+  read-number r h g e = e ∙ ok .filled .second i here ∙ rw (h, g)

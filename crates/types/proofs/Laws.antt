@@ -1,0 +1,97 @@
+-- What the layers above use of an admitted table. s below is its list of rows.
+use mathlib.Core.Path.{_≡_, _∙_}
+use mathlib.Core.Bool.{true}
+use mathlib.Core.List.{List}
+use Prim.Native.Nat.{ℕ, _≤_, _<_, _+_}
+use borrow.Author.Tests.{leb-true}
+use lib.ListN.{length}
+use Rattle.octets.proofs.Laws.{both-true, all-at}
+use Rattle.rows.specs.Limits.{Limits}
+use Rattle.rows.specs.Row.{rows, rowAt, kindAt, elementAt, membersAt}
+use Rattle.rows.proofs.Laws.{MemberFacts, member-facts}
+use Rattle.clauses.specs.Clauses.{everyRow, wholeRows, bodyFormed, pointsLater, membersStand, memberPlace, namesDiffer, alternativesMandatory, noImplicitChoice, defaultLegal, chainFits, isType, firstIsType}
+use Rattle.clauses.specs.inner.Work.{Later}
+use Rattle.clauses.proofs.LaterSteps.{is-later, member-follows}
+use Rattle.types.specs.Types.{membersFrom, typed, typeAt}
+use Rattle.types.specs.Admitted.{rowsFormed, rowsNamed, membersAgree, typesFit, admittedRows, admitted}
+use Rattle.types.proofs.TypeLaws.{step}
+use Rattle.types.proofs.AdmitSteps.{named-points, named-stand}
+
+module _ (l : Limits) (t : List ℕ) (ok : admitted l t ≡ true) where
+  abbrev s : List ℕ
+  s = rows (l .rows) t
+
+  whole : admittedRows l t s ≡ true
+  unfolding admitted
+  whole = ok
+
+  formed : rowsFormed (l .rows) (l .members) (l .name) t s ≡ true
+  unfolding admittedRows
+  formed = both-true (rowsFormed (l .rows) (l .members) (l .name) t s) _ whole .0
+
+  named : rowsNamed t s ≡ true
+  unfolding admittedRows
+  named = both-true (rowsNamed t s) _ (both-true (rowsFormed (l .rows) (l .members) (l .name) t s) _ whole .1) .0
+
+  agree : membersAgree t s ≡ true
+  unfolding admittedRows
+  agree = both-true (membersAgree t s) _ (both-true (rowsNamed t s) _ (both-true (rowsFormed (l .rows) (l .members) (l .name) t s) _ whole .1) .1) .0
+
+  fit : typesFit (l .chain) t s ≡ true
+  unfolding admittedRows
+  fit = both-true (membersAgree t s) _ (both-true (rowsNamed t s) _ (both-true (rowsFormed (l .rows) (l .members) (l .name) t s) _ whole .1) .1) .1
+
+  -- ---- the facts of a row
+  -- at least one row, at most as many as the limit
+  pub row-count : (1 ≤ length s) × (length s ≤ l .rows)
+  unfolding rowsFormed wholeRows
+  row-count = let w = both-true _ _ (both-true (wholeRows (l .rows) s) _ formed .0) in (leb-true _ _ (w .0), leb-true _ _ (w .1))
+
+  pub row-0-is-type : isType t s 0 ≡ true
+  unfolding rowsFormed firstIsType
+  row-0-is-type = both-true (everyRow (bodyFormed (l .members) (l .name) t s) s) _ (both-true (wholeRows (l .rows) s) _ formed .1) .1
+
+  points : everyRow (pointsLater t s) s ≡ true
+  points = named-points t s named
+
+  stands : membersStand t s ≡ true
+  stands = named-stand t s named
+
+  chains : everyRow (chainFits (l .chain) t s) s ≡ true
+  unfolding typesFit
+  chains = both-true (everyRow (chainFits (l .chain) t s) s) _ fit .0
+
+  -- the rows of elements and of members' types come later and are there
+  pub names-later : Later t s
+  names-later = is-later t s points stands
+
+  module _ (i : ℕ) (here : i < length s) where
+    pub body-formed : bodyFormed (l .members) (l .name) t s i ≡ true
+    unfolding rowsFormed
+    body-formed = all-at (bodyFormed (l .members) (l .name) t s) (length s) i (both-true (everyRow (bodyFormed (l .members) (l .name) t s) s) _ (both-true (wholeRows (l .rows) s) _ formed .1) .0) here
+
+    pub member-formed : kindAt t (rowAt s i) ≡ 16 → MemberFacts (l .name) t (rowAt s i)
+    unfolding bodyFormed
+    member-formed k = member-facts (l .members) (l .name) t (rowAt s i) body-formed k
+
+    pub points-later : pointsLater t s i ≡ true
+    points-later = all-at (pointsLater t s) (length s) i points here
+
+    -- the members of a row follow it directly
+    pub member-stands : (j : ℕ) → j < membersAt t (rowAt s i) → (i + 1 + j < length s) × (kindAt t (memberPlace s i j) ≡ 16)
+    member-stands j h = member-follows t s stands i here j h
+
+    pub names-differ : namesDiffer t s i ≡ true
+    unfolding membersAgree
+    names-differ = all-at (namesDiffer t s) (length s) i (both-true (everyRow (namesDiffer t s) s) _ agree .0) here
+
+    pub default-legal : defaultLegal t s i ≡ true
+    unfolding membersAgree
+    default-legal =
+        let rest = both-true (everyRow (alternativesMandatory t s) s) _ (both-true (everyRow (namesDiffer t s) s) _ agree .1) .1 in
+        all-at (defaultLegal t s) (length s) i (both-true (everyRow (noImplicitChoice t s) s) _ rest .1) here
+
+    -- ---- the type of a row: by the types of the rows that it names, with no depth to speak of
+    pub type-step : typeAt l t i ≡ typed (kindAt t (rowAt s i)) (typeAt l t (elementAt t (rowAt s i))) (membersFrom (typeAt l t) t s (i + 1) (membersAt t (rowAt s i)))
+    unfolding typeAt
+    type-step = step t s (l .chain) names-later chains i here

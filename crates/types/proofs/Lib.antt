@@ -1,0 +1,9 @@
+pub mod BitSets
+pub mod TypeLaws
+pub mod TagLaws
+pub mod TagSteps
+pub mod AdmitSteps
+pub mod Laws
+pub mod SoundLaws
+pub mod TypeCases
+pub mod NameLaws

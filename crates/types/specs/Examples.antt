@@ -1,0 +1,161 @@
+-- Computed examples: the licence table, and for each clause of "Admitted" tables that break only that clause.
+use mathlib.Core.Path.{_≡_, refl}
+use mathlib.Core.Bool.{Bool, true, false}
+use mathlib.Core.List.{List, [], _∷_, _++_, map}
+use Prim.Native.Nat.{ℕ, zero, suc}
+use Prim.Native.String.{String}
+use lib.ListN.{length, set, replicate}
+use Rattle.rows.specs.Paper.{tableLimits}
+use Rattle.types.specs.Paper.{memberRow, licence}
+use Rattle.rows.specs.Row.{rows}
+use Rattle.types.specs.Types.{typeAt}
+use Rattle.types.specs.Begins.{begins}
+use Rattle.clauses.specs.Clauses.{everyRow, wholeRows, bodyFormed, firstIsType, pointsLater, membersStand, namesDiffer, alternativesMandatory, noImplicitChoice, defaultLegal, chainFits}
+use Rattle.types.specs.Admitted.{tagsDiffer}
+use Rattle.types.specs.Check.{TableReport, refused, admits, tableReport}
+use Rattle.types.specs.Computing.{tableComputes}
+
+-- "206 bytes"
+licence-octets : length licence ≡ 206
+licence-octets = refl
+
+licence-admitted : tableReport tableLimits licence ≡ admits 12
+unfolding tableComputes
+licence-admitted = refl
+
+abbrev answer : List ℕ → TableReport
+answer t = tableReport tableLimits t
+
+-- the clauses, each on its own
+clausesOf : List ℕ → List ℕ → List Bool
+clausesOf t s =
+    wholeRows 128 s ∷ everyRow (bodyFormed 16 24 t s) s ∷ firstIsType t s ∷ everyRow (pointsLater t s) s ∷ membersStand t s ∷ everyRow (namesDiffer t s) s
+    ∷ everyRow (alternativesMandatory t s) s ∷ everyRow (noImplicitChoice t s) s ∷ everyRow (defaultLegal t s) s ∷ everyRow (chainFits 16 t s) s ∷ everyRow (tagsDiffer 16 t s) s ∷ []
+
+clauses : List ℕ → List Bool
+clauses t = clausesOf t (rows 128 t)
+
+-- all hold but the n-th, from 0
+abbrev allBut : ℕ → List Bool
+allBut n = set (replicate 11 true) n false
+
+-- a mandatory, untagged member
+abbrev plain : String → ℕ → List ℕ
+plain name type = memberRow name type 0 0 0 []
+
+-- a SEQUENCE of one member, of the type in row 2, which is an INTEGER
+abbrev one : List ℕ → List ℕ
+one m = 12 ∷ 1 ∷ m ++ 2 ∷ []
+
+-- the same of two members, of the types in rows 3 and 4
+abbrev pair : ℕ → List ℕ → List ℕ → List ℕ → List ℕ
+pair k m n types = k ∷ 2 ∷ m ++ n ++ types
+
+-- ---- bodies as the type table has them (clause 1)
+abbrev sixteen : List ℕ
+sixteen = plain "a" 17 ++ plain "b" 17 ++ plain "c" 17 ++ plain "d" 17 ++ plain "e" 17 ++ plain "f" 17 ++ plain "g" 17 ++ plain "h" 17
+    ++ plain "i" 17 ++ plain "j" 17 ++ plain "k" 17 ++ plain "l" 17 ++ plain "m" 17 ++ plain "n" 17 ++ plain "o" 17 ++ plain "p" 17
+
+abbrev seventeen : List ℕ
+seventeen = plain "a" 18 ++ plain "b" 18 ++ plain "c" 18 ++ plain "d" 18 ++ plain "e" 18 ++ plain "f" 18 ++ plain "g" 18 ++ plain "h" 18
+    ++ plain "i" 18 ++ plain "j" 18 ++ plain "k" 18 ++ plain "l" 18 ++ plain "m" 18 ++ plain "n" 18 ++ plain "o" 18 ++ plain "p" 18 ++ plain "q" 18
+
+-- 17 members; no alternative; names that start with a capital or a digit, have two hyphens, end in a hyphen, fill with another octet, end in a
+-- hyphen at 24, are empty; tag mode 3; number 31; a number in mode 0; presence 3; a default's fill
+bodies : map clauses ((12 ∷ 17 ∷ seventeen ++ 2 ∷ []) ∷ (13 ∷ 0 ∷ [])
+    ∷ one (plain "Ab" 2) ∷ one (plain "1b" 2) ∷ one (plain "a--b" 2) ∷ one (plain "a-" 2) ∷ one (set (plain "a" 2) 5 97) ∷ one (plain "abcdefghijklmnopqrstuvw-" 2) ∷ one (plain "" 2)
+    ∷ one (memberRow "a" 2 3 0 0 []) ∷ one (memberRow "a" 2 1 31 0 []) ∷ one (memberRow "a" 2 0 1 0 []) ∷ one (memberRow "a" 2 0 0 3 []) ∷ one (set (memberRow "a" 2 0 0 2 (1 ∷ [])) 32 1) ∷ [])
+    ≡ allBut 1 ∷ allBut 1
+    ∷ allBut 1 ∷ allBut 1 ∷ allBut 1 ∷ allBut 1 ∷ allBut 1 ∷ allBut 1 ∷ allBut 1
+    ∷ allBut 1 ∷ allBut 1 ∷ allBut 1 ∷ allBut 1 ∷ allBut 1 ∷ []
+unfolding tableComputes clauses clausesOf
+bodies = refl
+
+-- 16 members, a name of 24 letters, one with single hyphens, numbers 0 and 30
+formed : map answer ((12 ∷ 16 ∷ sixteen ++ 2 ∷ []) ∷ one (plain "abcdefghijklmnopqrstuvwx" 2) ∷ one (plain "a-B-9" 2) ∷ one (memberRow "a" 2 1 30 0 []) ∷ one (memberRow "a" 2 2 0 1 []) ∷ (12 ∷ 0 ∷ []) ∷ [])
+    ≡ admits 18 ∷ admits 3 ∷ admits 3 ∷ admits 3 ∷ admits 3 ∷ admits 1 ∷ []
+unfolding tableComputes
+formed = refl
+
+-- ---- clauses 0 and 2: a last row that is cut off, an unknown kind, 129 rows: there is then no row 0; a member in row 0 stands after no SEQUENCE
+whole : map answer ((14 ∷ 0 ∷ []) ∷ (17 ∷ []) ∷ (0 ∷ []) ∷ replicate 128 2 ∷ replicate 129 2 ∷ [] ∷ replicate 4993 2 ∷ (plain "a" 1 ++ 2 ∷ []) ∷ [])
+    ≡ refused 2 ∷ refused 2 ∷ refused 2 ∷ admits 128 ∷ refused 2 ∷ refused 1 ∷ refused 1 ∷ refused 2 ∷ []
+unfolding tableComputes
+whole = refl
+
+-- ---- clause 3: an element in an earlier row; in a member's row; a member's type in a member's row
+later : map clauses ((2 ∷ 14 ∷ 0 ∷ 0 ∷ []) ∷ (14 ∷ 0 ∷ 2 ∷ one (plain "a" 3)) ∷ (12 ∷ 2 ∷ plain "a" 2 ++ plain "b" 3 ++ 2 ∷ []) ∷ [])
+    ≡ allBut 3 ∷ allBut 3 ∷ allBut 3 ∷ []
+unfolding tableComputes clauses clausesOf
+later = refl
+
+-- ---- clause 4: a member more than its SEQUENCE has
+standing : clauses (12 ∷ 1 ∷ plain "a" 3 ++ plain "b" 3 ++ 2 ∷ []) ≡ allBut 4
+unfolding tableComputes clauses clausesOf
+standing = refl
+
+-- ---- clause 5: one name twice; names that differ in case are two
+names : clauses (pair 12 (plain "a" 3) (plain "a" 4) (1 ∷ 2 ∷ [])) ∷ clauses (pair 12 (plain "ab" 3) (plain "aB" 4) (1 ∷ 2 ∷ [])) ∷ [] ≡ allBut 5 ∷ replicate 11 true ∷ []
+unfolding tableComputes clauses clausesOf
+names = refl
+
+-- ---- clause 6: an optional alternative
+alternatives : clauses (13 ∷ 1 ∷ memberRow "a" 2 0 0 1 [] ++ 2 ∷ []) ≡ allBut 6
+unfolding tableComputes clauses clausesOf
+alternatives = refl
+
+-- ---- clause 7: an implicit tag on a CHOICE; an explicit one is good
+implicits : clauses (12 ∷ 1 ∷ memberRow "a" 2 2 0 0 [] ++ 13 ∷ 1 ∷ plain "b" 4 ++ 2 ∷ []) ∷ clauses (12 ∷ 1 ∷ memberRow "a" 2 1 0 0 [] ++ 13 ∷ 1 ∷ plain "b" 4 ++ 2 ∷ []) ∷ []
+    ≡ allBut 7 ∷ replicate 11 true ∷ []
+unfolding tableComputes clauses clausesOf
+implicits = refl
+
+-- ---- clause 8: a default of a string, of an INTEGER that is not shortest, of none, a length without presence 2; of BOOLEAN 01
+defaults : map clauses ((12 ∷ 1 ∷ memberRow "a" 2 0 0 2 (97 ∷ []) ++ 8 ∷ []) ∷ one (memberRow "a" 2 0 0 2 (0 ∷ 1 ∷ [])) ∷ one (memberRow "a" 2 0 0 2 [])
+    ∷ one (memberRow "a" 2 0 0 0 (1 ∷ [])) ∷ (12 ∷ 1 ∷ memberRow "a" 2 0 0 2 (1 ∷ []) ++ 1 ∷ []) ∷ [])
+    ≡ allBut 8 ∷ allBut 8 ∷ allBut 8 ∷ allBut 8 ∷ allBut 8 ∷ []
+unfolding tableComputes clauses clausesOf
+defaults = refl
+
+-- ---- clause 9: chains of 16 and 17 type rows: SEQUENCE OFs, each of the next row, from row i on, above an INTEGER
+lists : ℕ → ℕ → List ℕ
+lists i zero = 2 ∷ []
+lists i (suc n) = 14 ∷ 0 ∷ suc i ∷ lists (suc i) n
+
+chains : clauses (lists 0 15) ∷ clauses (lists 0 16) ∷ [] ≡ replicate 11 true ∷ allBut 9 ∷ []
+unfolding tableComputes clauses clausesOf lists
+chains = refl
+
+-- ---- clause 10: alternatives of one tag; `[0]` explicit and implicit; SEQUENCE and SEQUENCE OF; an untagged CHOICE that shares a tag
+alternative-tags : map clauses (pair 13 (plain "a" 3) (plain "b" 4) (2 ∷ 2 ∷ []) ∷ pair 13 (memberRow "a" 3 1 0 0 []) (memberRow "b" 4 2 0 0 []) (1 ∷ 2 ∷ [])
+    ∷ pair 13 (plain "a" 3) (plain "b" 4) (12 ∷ 0 ∷ 14 ∷ 0 ∷ 5 ∷ 2 ∷ []) ∷ pair 13 (plain "a" 3) (plain "b" 5) (13 ∷ 1 ∷ plain "c" 5 ++ 2 ∷ []) ∷ [])
+    ≡ allBut 10 ∷ allBut 10 ∷ allBut 10 ∷ allBut 10 ∷ []
+unfolding tableComputes clauses clausesOf
+alternative-tags = refl
+
+-- a run: an optional member and the mandatory one after it; two optional ones; an optional one after a mandatory one is none
+run-tags : map clauses (pair 12 (memberRow "a" 3 0 0 1 []) (plain "b" 4) (2 ∷ 2 ∷ []) ∷ pair 12 (memberRow "a" 3 0 0 1 []) (memberRow "b" 4 0 0 1 []) (2 ∷ 2 ∷ [])
+    ∷ pair 12 (plain "a" 3) (memberRow "b" 4 0 0 1 []) (2 ∷ 2 ∷ []) ∷ pair 12 (plain "a" 3) (plain "b" 4) (2 ∷ 2 ∷ []) ∷ [])
+    ≡ allBut 10 ∷ allBut 10 ∷ replicate 11 true ∷ replicate 11 true ∷ []
+unfolding tableComputes clauses clausesOf
+run-tags = refl
+
+-- a run goes to its mandatory member, past optional ones in between, and ends there
+abbrev run : ℕ → List ℕ
+run presence = 12 ∷ 3 ∷ memberRow "a" 4 0 0 1 [] ++ memberRow "b" 5 0 0 presence [] ++ plain "c" 6 ++ 2 ∷ 1 ∷ 2 ∷ []
+
+run-ends : map clauses (run 1 ∷ run 0 ∷ []) ≡ allBut 10 ∷ replicate 11 true ∷ []
+unfolding tableComputes clauses clausesOf
+run-ends = refl
+
+-- an untagged CHOICE of a CHOICE begins with the tags of all alternatives: universal 2 and 1, context 3
+abbrev nested : List ℕ
+nested = 13 ∷ 2 ∷ plain "a" 3 ++ memberRow "b" 6 1 3 0 [] ++ 13 ∷ 2 ∷ plain "c" 6 ++ plain "d" 7 ++ 2 ∷ 1 ∷ []
+
+nested-begins : tableReport tableLimits nested ≡ admits 8
+unfolding tableComputes
+nested-begins = refl
+
+nested-tags : map (begins (typeAt tableLimits nested 0)) (1 ∷ 2 ∷ 3 ∷ 35 ∷ 34 ∷ []) ≡ true ∷ true ∷ false ∷ true ∷ false ∷ []
+unfolding tableComputes
+nested-tags = refl

@@ -1,7 +1,0 @@
-pub mod Steps
-pub mod Places
-pub mod Reading
-pub mod PassLaws
-pub mod PassSteps
-pub mod Writing
-pub mod Unpacking

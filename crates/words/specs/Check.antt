@@ -1,7 +1,0 @@
--- What the answer of the table check says.
-use Rattle.table.specs.Check.{TableReport, refused, admits}
-use Rattle.words.specs.declared.TableCheck.{TableCheck}
-
-abbrev pub report : TableCheck → TableReport
-report (TableCheck.Admitted t) = admits (t .rows)
-report (TableCheck.Refused n) = refused n

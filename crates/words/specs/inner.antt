@@ -1,4 +1,0 @@
-pub mod Rows
-pub mod Fields
-pub mod Words
-pub mod Pass
