@@ -10,7 +10,6 @@ use lib.Dec.{eqb}
 use Rattle.octets.specs.Pick.{no}
 use Rattle.octets.proofs.Laws.{both-true}
 use Rattle.rows.specs.Paper.{tableLimits}
-use Rattle.clauses.proofs.Steps.{not-no}
 use Rattle.rows.specs.Row.{typeRowAt, membersAt, modeAt, numberAt}
 use Rattle.table.specs.inner.Rows.{tableRows, placeAt, MemberRow, membersAfter, memberTypeAt, taggingAt, memberKindAt}
 use Rattle.table.specs.inner.Words.{how, Worded}
@@ -21,6 +20,10 @@ use Rattle.value.specs.declared.Checked.{Checked}
 use Rattle.value.proofs.CheckSteps.{check-by-choice, bare-decode}
 use Rattle.value.proofs.ChoiceSteps.{choice-none, choice-here, choice-member, choice-is}
 use Rattle.value.proofs.ModeSteps.{is-explicit, not-explicit}
+
+not-no : (x : Bool) → not x ≡ no x
+not-no true = refl
+not-no false = refl
 
 module _ (k mode : ℕ) where
   pub nested-other : (x : ℕ) → x ≡ k → (x ≡ 13 → ⊥) → false ≡ isNested k mode
