@@ -17,6 +17,7 @@ use Rattle.binary.specs.inner.Answers.{hexFrom, restBits, reportBit, isE
 use Rattle.binary.specs.declared.Quarter.{Quarter}
 use Rattle.binary.specs.declared.Bits.{Bits}
 use Rattle.binary.specs.declared.BitStep.{BitStep}
+use Rattle.binary.proofs.Laws.{bits-binary, bits-hexadecimal}
 
 -- ---- one bit
 module _ (n at after : ℕ) (q : Quarter) where
@@ -102,10 +103,8 @@ pub bits-too-long : (c : List ℕ) (x : Bool) → 65536 < length c → false ≡
 bits-too-long c x h = rw (lt-leb (length c) 65536 h)
 
 module _ (t c p : List ℕ) (u r : Bool) (short : length c ≤ 65536) (inside : p ≡ digits t) (told : u ≡ isBitText t) where
-  pub bits-of-text : u ≡ true → r ≡ same (bitsOf c) (bitsIn false p) → r ≡ both (leb (length c) 65536) (same (bitsOf c) (assertedBits t))
-  unfolding assertedBits
-  bits-of-text h e = rw (le-leb (length c) 65536 short, sym told ∙ h) (e ∙ ap (λ (x : List ℕ). same (bitsOf c) (textBits x)) inside)
+  pub bits-of-text : u ≡ true → r ≡ same (bitsOf c) (textBits p) → r ≡ both (leb (length c) 65536) (same (bitsOf c) (assertedBits t))
+  bits-of-text h e = rw (le-leb (length c) 65536 short, bits-binary t (sym told ∙ h)) (e ∙ ap (λ (x : List ℕ). same (bitsOf c) (textBits x)) inside)
 
-  pub bits-of-hex : u ≡ false → r ≡ same (bitsOf c) (bitsIn true p) → r ≡ both (leb (length c) 65536) (same (bitsOf c) (assertedBits t))
-  unfolding assertedBits
-  bits-of-hex h e = rw (le-leb (length c) 65536 short, sym told ∙ h) (e ∙ ap (λ (x : List ℕ). same (bitsOf c) (hexBits x)) inside)
+  pub bits-of-hex : u ≡ false → r ≡ same (bitsOf c) (hexBits p) → r ≡ both (leb (length c) 65536) (same (bitsOf c) (assertedBits t))
+  bits-of-hex h e = rw (le-leb (length c) 65536 short, bits-hexadecimal t (sym told ∙ h)) (e ∙ ap (λ (x : List ℕ). same (bitsOf c) (hexBits x)) inside)

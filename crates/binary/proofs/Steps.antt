@@ -15,6 +15,7 @@ use Rattle.binary.specs.Asserted.{inQuotes, digits, isHexDigit, isBit, i
 use Rattle.binary.specs.inner.Answers.{ordered, isSame, isLess, reportPair}
 use Rattle.binary.specs.declared.Order.{Order}
 use Rattle.binary.specs.declared.Pair.{Pair}
+use Rattle.binary.proofs.Laws.{octets-operand}
 
 -- ---- between the quotes
 pub digits-none : (t r : List ℕ) → length t ≤ 3 → r ≡ part t 1 0 → r ≡ digits t
@@ -136,13 +137,16 @@ ordered-less (a ∷ l) (b ∷ s) = go (ltb a b) (ltb b a) (ordered-less l s) ∙
     go false true f = refl
     go false false f = f
 
-module _ (t c p : List ℕ) (o : Order) (r : Bool) (inside : p ≡ digits t) (told : o ≡ ordered c (paired p)) where
-  against : o ≡ ordered c (assertedOctets t)
-  unfolding assertedOctets
-  against = told ∙ ap (λ (x : List ℕ). ordered c (paired x)) inside
+module _ (c h : List ℕ) (o : Order) (r : Bool) (told : o ≡ ordered c (paired h)) where
+  pub same-hex-is : r ≡ isSame o → r ≡ same c (paired h)
+  same-hex-is e = e ∙ ap isSame told ∙ ordered-same c (paired h)
 
-  pub same-octets-is : r ≡ isSame o → r ≡ same c (assertedOctets t)
-  same-octets-is e = e ∙ ap isSame against ∙ ordered-same c (assertedOctets t)
+  pub less-hex-is : r ≡ isLess o → r ≡ below c (paired h)
+  less-hex-is e = e ∙ ap isLess told ∙ ordered-less c (paired h)
 
-  pub less-octets-is : r ≡ isLess o → r ≡ below c (assertedOctets t)
-  less-octets-is e = e ∙ ap isLess against ∙ ordered-less c (assertedOctets t)
+module _ (t c p : List ℕ) (r : Bool) (inside : p ≡ digits t) where
+  pub same-octets-is : r ≡ same c (paired p) → r ≡ same c (assertedOctets t)
+  same-octets-is e = e ∙ ap (λ (x : List ℕ). same c (paired x)) inside ∙ ap (same c) (sym (octets-operand t))
+
+  pub less-octets-is : r ≡ below c (paired p) → r ≡ below c (assertedOctets t)
+  less-octets-is e = e ∙ ap (λ (x : List ℕ). below c (paired x)) inside ∙ ap (below c) (sym (octets-operand t))

@@ -59,8 +59,8 @@ fn in_quotes(letter: u8, t: &[u8]) -> bool
     t[last] == letter
 }
 
-// The digits between the single quotes.
-fn digits(t: &[u8]) -> &[u8]
+// The digits between the single quotes: what stored octets or bits are compared with.
+pub fn operand(t: &[u8]) -> &[u8]
     ensures { λ r. ⌜ now r ≡ asserted.digits (now (t .entry)) ⌝ }
 {
     if t.len() <= 3 {
@@ -104,22 +104,24 @@ fn all_bits(s: &[u8]) -> bool
     true
 }
 
-fn is_hex_string(t: &[u8]) -> bool
+// Whether a text is hexadecimal digits, `'..'H`.
+pub fn is_hex_string(t: &[u8]) -> bool
     ensures { λ r. ⌜ r ≡ asserted.isHexString (now (t .entry)) ⌝ }
 {
     if !in_quotes(72, t) {
         return false;
     }
-    all_hex(digits(t))
+    all_hex(operand(t))
 }
 
-fn is_bit_text(t: &[u8]) -> bool
+// Whether a text is binary digits, `'..'B`.
+pub fn is_bit_text(t: &[u8]) -> bool
     ensures { λ r. ⌜ r ≡ asserted.isBitText (now (t .entry)) ⌝ }
 {
     if !in_quotes(66, t) {
         return false;
     }
-    all_bits(digits(t))
+    all_bits(operand(t))
 }
 
 // Whether a value text conforms to octets: `'..'H`, an even number of digits.
@@ -129,7 +131,7 @@ pub fn is_octets(t: &[u8]) -> bool
     if !is_hex_string(t) {
         return false;
     }
-    let h = digits(t);
+    let h = operand(t);
     h.len() % 2 == 0
 }
 
@@ -220,18 +222,31 @@ fn is_less(o: Order) -> bool
     }
 }
 
+// Whether stored octets are those of hexadecimal digits, or less.
+pub fn same_hex(c: &[u8], h: &[u8]) -> bool
+    ensures { λ r. ⌜ r ≡ octets.same (now (c .entry)) (octets.paired (now (h .entry))) ⌝ }
+{
+    is_same(order_octets(c, h))
+}
+
+pub fn less_hex(c: &[u8], h: &[u8]) -> bool
+    ensures { λ r. ⌜ r ≡ octets.below (now (c .entry)) (octets.paired (now (h .entry))) ⌝ }
+{
+    is_less(order_octets(c, h))
+}
+
 // Whether stored octets are the asserted ones.
 pub fn same_octets(t: &[u8], c: &[u8]) -> bool
     ensures { λ r. ⌜ r ≡ octets.same (now (c .entry)) (asserted.assertedOctets (now (t .entry))) ⌝ }
 {
-    is_same(order_octets(c, digits(t)))
+    same_hex(c, operand(t))
 }
 
 // Whether stored octets are less than the asserted ones.
 pub fn less_octets(t: &[u8], c: &[u8]) -> bool
     ensures { λ r. ⌜ r ≡ octets.below (now (c .entry)) (asserted.assertedOctets (now (t .entry))) ⌝ }
 {
-    is_less(order_octets(c, digits(t)))
+    less_hex(c, operand(t))
 }
 
 // ---- bits of a text, one after another
@@ -331,7 +346,22 @@ fn same_bit_list(c: &[u8], h: &[u8], hexed: bool) -> bool
     is_end(next_bit(h, hexed, a))
 }
 
-// Whether stored bits are the asserted ones: equal in number and bit by bit; of contents above 65,536 octets the answer is false.
+// Whether stored bits are those of hexadecimal digits, or of binary ones: equal in number and bit by bit.
+pub fn same_bits_hex(c: &[u8], h: &[u8]) -> bool
+    requires { ⌜ length (now c) ≤ 65536 ⌝ }
+    ensures { λ r. ⌜ r ≡ octets.same (bitsOf (now (c .entry))) (asserted.hexBits (now (h .entry))) ⌝ }
+{
+    same_bit_list(c, h, true)
+}
+
+pub fn same_bits_bin(c: &[u8], h: &[u8]) -> bool
+    requires { ⌜ length (now c) ≤ 65536 ⌝ }
+    ensures { λ r. ⌜ r ≡ octets.same (bitsOf (now (c .entry))) (asserted.textBits (now (h .entry))) ⌝ }
+{
+    same_bit_list(c, h, false)
+}
+
+// Whether stored bits are the asserted ones; of contents above 65,536 octets the answer is false.
 pub fn same_bits(t: &[u8], c: &[u8]) -> bool
     ensures { λ r. ⌜ r ≡ both (leb (length (now (c .entry))) 65536) (octets.same (bitsOf (now (c .entry))) (asserted.assertedBits (now (t .entry)))) ⌝ }
 {
@@ -339,7 +369,7 @@ pub fn same_bits(t: &[u8], c: &[u8]) -> bool
         return false;
     }
     if is_bit_text(t) {
-        return same_bit_list(c, digits(t), false);
+        return same_bits_bin(c, operand(t));
     }
-    same_bit_list(c, digits(t), true)
+    same_bits_hex(c, operand(t))
 }

@@ -1,3 +1,5 @@
 pub mod ArcSteps
 pub mod Steps
 pub mod HeldSteps
+pub mod StoredLaws
+pub mod StoredSteps

@@ -1,42 +1,41 @@
 -- The answer to a filter: one lemma for each return; its premises are the facts as the code has them.
-use mathlib.Core.Path.{_≡_, refl, sym, ap, _∙_, subst}
-use mathlib.Core.Bool.{Bool, true, false, not, _&&_}
+use mathlib.Core.Path.{_≡_, refl, sym, ap, _∙_}
+use mathlib.Core.Bool.{Bool, true, false, not}
 use mathlib.Core.Option.{Option, none, some}
-use mathlib.Core.List.{List, []}
-use Prim.Native.Nat.{ℕ, _≤_, _<_, _+_}
+use mathlib.Core.List.{List}
+use Prim.Native.Nat.{ℕ, _≤_, _+_}
 use native.Mathlib.Omega.{arith}
 use borrow.Author.Tests.{not-true, not-false, leb-true}
-use lib.ListN.{length, take}
+use lib.ListN.{length}
 use lib.Dec.{leb}
 use Rattle.octets.specs.Pick.{pick, both, isSome}
 use Rattle.octets.proofs.Laws.{both-true}
 use Rattle.rows.specs.Limits.{tableFits}
 use Rattle.rows.specs.Paper.{tableLimits}
-use Rattle.rows.specs.Row.{rows}
-use Rattle.types.specs.Types.{Ty, typeFrom, typeAt}
+use Rattle.types.specs.Types.{Ty, typeAt}
+use Rattle.types.specs.Admitted.{admitted}
 use Rattle.types.specs.inner.Work.{rowCount}
-use Rattle.types.specs.inner.Work.{Sound, Admits}
 use Rattle.table.specs.inner.Rows as words
-use Rattle.table.specs.inner.Rows.{tableRows}
+use Rattle.table.specs.inner.Words.{Worded}
 use Rattle.value.specs.Paper.{valueLimits}
 use Rattle.value.specs.Decode.{storedValue}
 use Rattle.value.specs.Check.{valueFits}
-use Rattle.value.proofs.EntrySteps.{not-admitted, is-admitted, rows-are, stored-here}
+use Rattle.value.proofs.EntrySteps.{not-admitted, is-admitted}
 use Rattle.rules.specs.Rule.{knownRules}
 use Rattle.assertion.specs.Assertion.{Read}
 use Rattle.filter.specs.Filter.{Item, Filter}
 use Rattle.filter.specs.Parse.{filterFits, filterAt, parse}
 use Rattle.filter.specs.Paper.{filterLimits}
 use Rattle.filter.specs.inner.Answers as filter
-use Rattle.filter.specs.Paper.{filterLimits}
 use Rattle.filter.specs.declared.Filter as declared
 use Rattle.filter.specs.declared.Reading.{Reading}
 use Rattle.filter.proofs.Laws.{parse-read, counted-some, counted-none}
 use Rattle.judge.specs.Truth.{TRUE, FALSE, UNDEFINED}
 use Rattle.judge.specs.Reading.{Outcome, settled, misfitAfter, reading}
 use Rattle.judge.specs.Assertion.{outcome}
-use Rattle.judge.specs.inner.Work.{NamesDiffer, Ready, charged, judgedText}
-use Rattle.judge.proofs.Names.{names-apart}
+use Rattle.judge.specs.inner.Work.{Ready, charged, judgedText}
+use Rattle.judge.proofs.ItemSteps.{some-there}
+use Rattle.judge.proofs.Settled.{Settled, filter-settled}
 use Rattle.judge.specs.declared.Verdict.{Verdict}
 use Rattle.judge.specs.declared.Judged.{Judged}
 use Rattle.engine.specs.Answer.{Report, refused, budgeted, questionFits, evaluated, withFilter, questionOf, askReport, report}
@@ -82,20 +81,17 @@ module _ (w z : Judged) (told : w ≡ z) where
   pub judged-over : w ≡ Judged.Over → refused 5 ≡ judgedReport z
   judged-over e = ap judgedReport (sym e ∙ told)
 
-  pub judged-fault : w ≡ Judged.Misfit → refused 7 ≡ judgedReport z
-  judged-fault e = ap judgedReport (sym e ∙ told)
-
 judged-pick : (b : Bool) (j : Judged) → judgedReport (pick b j Judged.Over) ≡ pick b (judgedReport j) (refused 5)
 judged-pick true j = refl
 judged-pick false j = refl
 
--- without tests before it
-budget-told : (budget : ℕ) (o : Outcome) → judgedReport (charged budget 0 o) ≡ budgeted budget o
+-- without tests before it; over a stored value no header is met that doesn't fit
+budget-told : (budget : ℕ) (o : Outcome) → Settled o → judgedReport (charged budget 0 o) ≡ budgeted budget o
 unfolding charged budgeted
-budget-told budget (settled TRUE k) = let e : 0 + k ≡ k = omega arith in judged-pick (leb (0 + k) budget) (Judged.Of Verdict.True (0 + k)) ∙ rw e
-budget-told budget (settled FALSE k) = let e : 0 + k ≡ k = omega arith in judged-pick (leb (0 + k) budget) (Judged.Of Verdict.False (0 + k)) ∙ rw e
-budget-told budget (settled UNDEFINED k) = let e : 0 + k ≡ k = omega arith in judged-pick (leb (0 + k) budget) (Judged.Of Verdict.Undefined (0 + k)) ∙ rw e
-budget-told budget (misfitAfter k) = let e : 0 + k ≡ k = omega arith in judged-pick (leb (0 + k) budget) Judged.Misfit ∙ rw e
+budget-told budget (settled TRUE k) s = let e : 0 + k ≡ k = omega arith in judged-pick (leb (0 + k) budget) (Judged.Of Verdict.True (0 + k)) ∙ rw e
+budget-told budget (settled FALSE k) s = let e : 0 + k ≡ k = omega arith in judged-pick (leb (0 + k) budget) (Judged.Of Verdict.False (0 + k)) ∙ rw e
+budget-told budget (settled UNDEFINED k) s = let e : 0 + k ≡ k = omega arith in judged-pick (leb (0 + k) budget) (Judged.Of Verdict.Undefined (0 + k)) ∙ rw e
+budget-told budget (misfitAfter k) s = absurd s
 
 -- ---- 3, then 4
 module _ (s : List ℕ) (r : Reading) (told : filter.report r ≡ filter.itemsOf (parse filterLimits s)) where
@@ -124,12 +120,17 @@ module _ (ty : Ty) (v s : List ℕ) (budget : ℕ) (r : Reading) (told : filter.
 
     pub typed-judged : (a : Report) → not x ≡ false → a ≡ judgedReport (judgedText (outcome knownRules ty v) budget (filterAt s 0)) → a ≡ withFilter knownRules ty v budget (parse filterLimits s)
     unfolding withFilter judgedText evaluated
-    typed-judged a e q = q ∙ ap (λ (o : Option (Read (Filter Item))). judgedReport (judgedText (outcome knownRules ty v) budget o)) (read-at s r told f good) ∙ budget-told budget (reading (outcome knownRules ty v) (the-filter s r told f good .0)) ∙ sym (rw (the-filter s r told f good .1, sym stored ∙ not-false x e) refl)
+    typed-judged a e q =
+        let is = the-filter s r told f good in
+        let y = some-there (storedValue ty v) (sym stored ∙ not-false x e) in
+        q
+        ∙ ap (λ (o : Option (Read (Filter Item))). judgedReport (judgedText (outcome knownRules ty v) budget o)) (read-at s r told f good)
+        ∙ budget-told budget (reading (outcome knownRules ty v) (is .0)) (filter-settled knownRules ty v (y .0) (y .1) (is .0))
+        ∙ sym (rw (is .1, sym stored ∙ not-false x e) refl)
 
-pub typed-ready : (t s m v : List ℕ) (x : Bool) → Sound (tableLimits .chain) t s m → NamesDiffer t s → 0 < length s → s ≡ tableRows t → length v ≤ 65536
-    → x ≡ isSome (storedValue (words.typeAt t 0) v) → not x ≡ false → Ready (tableLimits .chain) t s m v
-typed-ready t s m v x sound names here places short stored e =
-    record { sound = sound; names = names; rows = here; short = short; stored = sym (stored-here t s v x places stored) ∙ not-false x e }
+pub typed-ready : (t w v : List ℕ) (x : Bool) → Worded t w → admitted tableLimits t ≡ true → length v ≤ 65536 → x ≡ isSome (storedValue (words.typeAt t 0) v) → not x ≡ false
+    → Ready t w v
+typed-ready t w v x worded admits short stored e = record { worded = worded; admits = admits; short = short; stored = sym stored ∙ not-false x e }
 
 -- ---- 2, then the others
 module _ (t v s : List ℕ) (budget n : ℕ) (count : n ≡ rowCount tableLimits t) where
@@ -137,18 +138,9 @@ module _ (t v s : List ℕ) (budget n : ℕ) (count : n ≡ rowCount tableLimits
   unfolding questionOf
   admitted-not z = rw (not-admitted tableLimits t n count z)
 
-  module _ (starts masks : List ℕ) (z : n ≡ 0 → ⊥) (left : Admits (tableLimits .rows) (tableLimits .chain) t n starts masks) where
-    the-rows : take n starts ≡ rows (tableLimits .rows) t
-    the-rows = rows-are tableLimits t n count starts masks z left
-
-    pub names-here : NamesDiffer t (take n starts)
-    names-here = subst (λ (s : List ℕ). NamesDiffer t s) (sym the-rows) (names-apart tableLimits t (is-admitted tableLimits t n count z) refl)
-
-    pub admitted-is : (a : Answer) → report a ≡ withFilter knownRules (typeFrom (tableLimits .chain) t (take n starts) 0) v budget (parse filterLimits s) → report a ≡ questionOf limits knownRules t v s budget
-    unfolding questionOf typeAt
-    admitted-is a told =
-        told ∙ ap (λ (y : List ℕ). withFilter knownRules (typeFrom (tableLimits .chain) t y 0) v budget (parse filterLimits s)) the-rows
-        ∙ rw (is-admitted tableLimits t n count z)
+  pub admitted-is : (a : Answer) → (n ≡ 0 → ⊥) → report a ≡ withFilter knownRules (words.typeAt t 0) v budget (parse filterLimits s) → report a ≡ questionOf limits knownRules t v s budget
+  unfolding questionOf typeAt
+  admitted-is a z told = told ∙ rw (is-admitted tableLimits t n count z)
 
 -- ---- 1, then the others
 module _ (t v s : List ℕ) (budget : ℕ) (b : Bool) (fits : b ≡ questionFits limits t v s budget) where

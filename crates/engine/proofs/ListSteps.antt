@@ -2,38 +2,44 @@
 use mathlib.Core.Path.{_≡_, refl, sym, ap, _∙_}
 use mathlib.Core.Bool.{Bool, true, false, not, true≢false}
 use mathlib.Core.Option.{Option, none, some}
-use mathlib.Core.List.{List, [], _∷_}
-use mathlib.Core.Logic.{inl, inr}
+use mathlib.Core.List.{List, [], map}
 use Prim.Native.Nat.{ℕ, _≤_, _<_, _+_, _*_, _/_, min}
 use native.Mathlib.Omega.{arith}
-use borrow.Author.Tests.{not-true, not-false, lt-ltb, le-ltb, leb-true}
-use lib.ListN.{length, take}
+use borrow.Author.Tests.{not-true, not-false, lt-ltb, le-ltb}
+use lib.ListN.{length}
 use lib.Dec.{leb}
-use denote.Enum.Declared.{tagOf}
-use types.Run.{OneOf}
-use Rattle.octets.specs.Pick.{pick, both, bind, isSome}
-use Rattle.octets.proofs.Laws.{both-true}
+use Rattle.octets.specs.Pick.{bind, isSome}
 use Rattle.rows.specs.Limits.{tableFits}
 use Rattle.rows.specs.Paper.{tableLimits}
-use Rattle.types.specs.Types.{Ty, typeFrom, typeAt}
+use Rattle.types.specs.Types.{Ty, typeAt}
 use Rattle.types.specs.inner.Work.{rowCount}
-use Rattle.types.specs.inner.Work.{Admits}
+use Rattle.table.specs.inner.Rows as table
+use Rattle.table.specs.inner.Rows.{tableRows}
 use Rattle.value.specs.Paper.{valueLimits}
+use Rattle.value.specs.Value.{Value}
 use Rattle.value.specs.Decode.{storedValue}
 use Rattle.value.specs.Check.{valueFits}
-use Rattle.value.proofs.EntrySteps.{not-admitted, is-admitted, rows-are}
-use Rattle.reference.specs.Reference.{Id, readReference, givenIds}
+use Rattle.value.proofs.EntrySteps.{not-admitted, is-admitted}
+use Rattle.reference.specs.Reference.{Id, givenIds}
 use Rattle.reference.specs.Allowed.{allowed}
+use Rattle.reference.specs.Named.{named}
+use Rattle.reference.specs.Numbers.{component}
 use Rattle.reference.specs.inner.Work.{reportTarget, leadsTo}
 use Rattle.reference.specs.declared.Target.{Target}
-use Rattle.trail.specs.Trail.{Trail, trail, hasMisfit, reached}
-use Rattle.walk.specs.inner.Run.{seen, run, idsOr}
-use Rattle.walk.specs.declared.State.{State}
-use Rattle.walk.specs.declared.Task.{Task}
-use Rattle.walk.proofs.State as state
-use Rattle.walk.proofs.ListLaws.{count-run, list-run}
+use Rattle.trail.proofs.Agreeing.{trail-named, laid-sound, laid-reached}
+use Rattle.plan.specs.inner.Task as task
+use Rattle.plan.specs.inner.Task.{Task, counting, taskOf}
+use Rattle.plan.specs.inner.Plan.{Relisted}
+use Rattle.plan.specs.inner.Resolve.{Lands, Resolves}
+use Rattle.along.specs.inner.Run.{seen, run}
+use Rattle.along.specs.inner.Walk.{Asks, Answers, Tallies}
+use Rattle.along.specs.declared.State.{State}
+use Rattle.along.proofs.Callers.{asks-of, asks-listed}
+use Rattle.along.proofs.ListLaws.{counted-all, list-run}
+use Rattle.judge.proofs.ItemSteps.{some-there}
 use Rattle.engine.specs.Listing.{Listing, refusedList, lists, report, written, listed, walked, referenceFits, listingFits, withIds, listingOf, listReport, listing}
 use Rattle.engine.specs.Paper.{limits}
+use Rattle.engine.specs.inner.Listed.{landed, Asked, Lists, LeadsFrom, PlannedTo, Leads, LeadsOn, Led, ListsLed, ListsTo}
 use Rattle.engine.specs.declared.Listed.{Listed}
 
 -- ---- sizes
@@ -58,64 +64,42 @@ module _ (given : Bool) (r : List ℕ) where
       unfolding listingFits
       fits-reference b f q = rw (sym fits ∙ not-false x e, sym fits-v ∙ not-false y f) q
 
--- ---- the reference
-module _ (t s r : List ℕ) (given : Bool) (g : Target) (leads : reportTarget (tableLimits .chain) t s g ≡ leadsTo given r (typeFrom (tableLimits .chain) t s 0)) where
-  pub allowed-row : (i : ℕ) → g ≡ Target.Row i → true ≡ isSome (leadsTo given r (typeFrom (tableLimits .chain) t s 0))
-  allowed-row i e = ap isSome (rw e at leads)
+-- ---- what a plan names
+pub asked-so : (t q v : List ℕ) → Asked t q v → Asks t q [] v
+unfolding Asked
+asked-so t q v k = k
 
-  pub allowed-count : g ≡ Target.Count → true ≡ isSome (leadsTo given r (typeFrom (tableLimits .chain) t s 0))
-  allowed-count e = ap isSome (rw e at leads)
+pub asked-listed : (t q p v : List ℕ) (limit : ℕ) → taskOf q ≡ counting limit → Relisted q p → Asked t q v → Asks t p [] v
+unfolding Asked
+asked-listed t q p v limit e relisted k = asks-listed t q p v limit e relisted k
 
-  pub allowed-no : g ≡ Target.No → false ≡ isSome (leadsTo given r (typeFrom (tableLimits .chain) t s 0))
-  allowed-no e = ap isSome (rw e at leads)
+module _ (t q v : List ℕ) (limit n : ℕ) (m : List ℕ) (counts : taskOf q ≡ counting limit) (told : Tallies t q v 0 n) (least : limit ≡ length m / 3 + 1) where
+  abbrev size : Asks t q [] v → ℕ
+  size g = length (map component (named (g .defaults) (g .ids) (g .val)))
 
--- ---- the walk
-module _ (limit : ℕ) (x m m' : List ℕ) (a : Trail) (w : State) (ran : seen w m' ≡ run (Task.Count limit) x (seen (State.Going 0) m) a) where
-  abbrev least : ℕ
-  least = min limit (0 + length (reached a))
+  counted : (g : Asks t q [] v) → n ≡ min limit (0 + length (map component (named (g .defaults) (g .ids) (g .val))))
+  unfolding Tallies
+  counted g = told g limit counts ∙ counted-all limit 0 (named (g .defaults) (g .ids) (g .val)) (omega arith)
 
-  counted : seen w m' ≡ seen (pick (hasMisfit a) State.Misfit (State.Going least)) m
-  counted = let z : 0 ≤ limit = omega arith in ran ∙ count-run limit x m a 0 z
+  pub planned-short : limit ≤ n → Lists t q v m (listing (Listed.Refused 6) m)
+  unfolding Lists listed
+  planned-short h g =
+      let f = counted g in
+      let z : length m < size g * 3 = omega arith in
+      rw (lt-ltb (length m) (size g * 3) z)
 
-  not-going : (x : ℕ) → OneOf (1 ∷ 2 ∷ 3 ∷ []) x → x ≡ 0 → ⊥
-  not-going x (inl a) e = omega arith
-  not-going x (inr (inl a)) e = omega arith
-  not-going x (inr (inr a)) e = omega arith
-
-  pub walked-fault : OneOf (1 ∷ 2 ∷ 3 ∷ []) (tagOf state.the-type w) → listing (Listed.Refused 7) m' ≡ walked a m
-  unfolding walked
-  walked-fault z = go (hasMisfit a) counted
-    where
-      go : (b : Bool) → seen w m' ≡ seen (pick b State.Misfit (State.Going least)) m → listing (Listed.Refused 7) m' ≡ pick b (refusedList 7 m) (listed (reached a) m)
-      go true q = let s : m' ≡ m = cc in rw s
-      go false q = absurd (let s : w ≡ State.Going least = cc in not-going (tagOf state.the-type w) z (ap (tagOf state.the-type) s))
-
-  module _ (n : ℕ) (going : w ≡ State.Going n) where
-    -- what the first walk has shown
-    first : (hasMisfit a ≡ false) × (m' ≡ m) × (n ≡ least)
-    first = go (hasMisfit a) counted
-      where
-        go : (b : Bool) → seen w m' ≡ seen (pick b State.Misfit (State.Going least)) m → (b ≡ false) × (m' ≡ m) × (n ≡ least)
-        go true q = absurd (let z : _≡_ {A = ℕ} 0 1 = cc in omega arith)
-        go false q = (refl, cc, cc)
-
-    pub walked-short : limit ≡ length m / 3 + 1 → limit ≤ n → listing (Listed.Refused 6) m' ≡ walked a m
-    unfolding walked listed
-    walked-short k h =
-        let f = first in
-        let z : length m < length (reached a) * 3 = omega (arith, f .2) in
-        rw (f .1, f .0, lt-ltb (length m) (length (reached a) * 3) z)
-
-    pub walked-whole : (w' : State) (m'' : List ℕ) (values : Listed) → limit ≡ length m / 3 + 1 → n < limit → seen w' m'' ≡ run Task.List x (seen (State.Going 0) m') a
-        → report values ≡ lists n → listing values m'' ≡ walked a m
-    unfolding walked listed written
-    walked-whole w' m'' values k h g made =
-        let f = first in
-        let same : n ≡ length (reached a) = omega (arith, f .2) in
-        let enough : length (reached a) * 3 ≤ length m = omega (arith, f .2) in
-        let all : seen w' m'' ≡ seen (State.Going (length (reached a))) (written (reached a) m) = rw (f .1) at g ∙ list-run x a m (f .0) enough in
-        let memory : m'' ≡ written (reached a) m = cc in
-        rw (f .0, le-ltb (length m) (length (reached a) * 3) enough, made, same, memory)
+  pub planned-whole : (p : List ℕ) (w : State) (m' : List ℕ) (values : Listed) → n < limit → Relisted q p → taskOf p ≡ task.listing → Answers t p [] v 0 m (seen w m')
+      → report values ≡ lists n → Lists t q v m (listing values m')
+  unfolding Lists listed written Answers asks-listed
+  planned-whole p w m' values h relisted lists-all answers made g =
+      let f = counted g in
+      let hs = named (g .defaults) (g .ids) (g .val) in
+      let same : n ≡ size g = omega arith in
+      let enough : size g * 3 ≤ length m = omega arith in
+      let ran : seen w m' ≡ run (taskOf p) [] (seen (State.Going 0) m) hs = answers (asks-listed t q p v limit counts relisted g) in
+      let all : seen w m' ≡ seen (State.Going (size g)) (written (map component hs) m) = ran ∙ ap (λ (y : Task). run y [] (seen (State.Going 0) m) hs) lists-all ∙ list-run [] hs m enough in
+      let memory : m' ≡ written (map component hs) m = cc in
+      rw (le-ltb (length m) (size g * 3) enough, made, same, memory)
 
 -- ---- 3, then 4
 module _ (ty : Ty) (v m : List ℕ) (d : Bool) where
@@ -129,28 +113,100 @@ module _ (ty : Ty) (v m : List ℕ) (d : Bool) where
   not-stored none e f = absurd (true≢false (sym e))
   not-stored (some is) e f = rw (e, f)
 
-  is-walked : (o : Option (List Id)) → isSome (bind o (λ is. allowed is ty)) ≡ true → isSome (storedValue ty v) ≡ true → walked (trail d (idsOr o) ty v) m ≡ withIds ty v d m o
-  unfolding withIds
-  is-walked none e f = absurd (true≢false (sym e))
-  is-walked (some is) e f = rw (e, f)
+  -- the walk over a stored value reaches what is named, and no header that doesn't fit
+  is-listed : (is : List Id) (x : Value) → isSome (allowed is ty) ≡ true → storedValue ty v ≡ some x → listed (map component (named d is x)) m ≡ withIds ty v d m (some is)
+  unfolding withIds walked
+  is-listed is x e f = rw (e, f, trail-named d is ty v x f, laid-sound (named d is x), laid-reached (named d is x))
 
-  module _ (given : Bool) (r : List ℕ) (b : Bool) (asked : b ≡ isSome (leadsTo given r ty)) where
-    pub typed-not : not b ≡ true → listing (Listed.Refused 3) m ≡ withIds ty v d m (givenIds given r)
-    typed-not e = not-allowed (givenIds given r) (sym asked ∙ not-true b e)
+landed-there : (t : List ℕ) (g : Target) → landed g ≡ isSome (reportTarget (tableLimits .chain) t (tableRows t) g)
+landed-there t (Target.Row i) = refl
+landed-there t Target.Count = refl
+landed-there t Target.No = refl
 
-    module _ (e : not b ≡ false) (x : Bool) (stored : x ≡ isSome (storedValue ty v)) where
-      pub typed-bad : not x ≡ true → listing (Listed.Refused 4) m ≡ withIds ty v d m (givenIds given r)
-      typed-bad f = not-stored (givenIds given r) (sym asked ∙ not-false b e) (sym stored ∙ not-true x f)
+landed-so : (g : Target) → Lands g → landed g ≡ true
+landed-so (Target.Row i) e = refl
+landed-so Target.Count e = refl
+landed-so Target.No e = absurd e
 
-      pub typed-walked : (l : Listing) → not x ≡ false → l ≡ walked (trail d (idsOr (pick given (readReference r) (some []))) ty v) m → l ≡ withIds ty v d m (givenIds given r)
-      typed-walked l f q = q ∙ is-walked (givenIds given r) (sym asked ∙ not-false b e) (sym stored ∙ not-false x f)
+lands-so : (g : Target) → landed g ≡ true → Lands g
+lands-so (Target.Row i) e = tt
+lands-so Target.Count e = tt
+lands-so Target.No e = absurd (true≢false (sym e))
 
-allowed-read : (ty : Ty) (o : Option (List Id)) → isSome (bind o (λ is. allowed is ty)) ≡ true → isSome o ≡ true
-allowed-read ty none e = e
-allowed-read ty (some is) e = refl
+allowed-by : (t q : List ℕ) (g : Target) (k : PlannedTo t q g) → isSome (bind (givenIds (k .given) (k .reference)) (λ is. allowed is (table.typeAt t 0))) ≡ landed g
+allowed-by t q g k = ap isSome (sym (k .leads)) ∙ sym (landed-there t g)
 
-pub typed-read : (ty : Ty) (given : Bool) (r : List ℕ) (b : Bool) → b ≡ isSome (leadsTo given r ty) → not b ≡ false → isSome (pick given (readReference r) (some [])) ≡ true
-typed-read ty given r b asked e = allowed-read ty (givenIds given r) (sym asked ∙ not-false b e)
+-- the identifiers of a reference that leads somewhere
+ids : (t q : List ℕ) (k : LeadsOn t q) → (is : List Id) × (givenIds (k .planned .given) (k .planned .reference) ≡ some is) × (isSome (allowed is (table.typeAt t 0)) ≡ true)
+ids t q k = go (givenIds (k .planned .given) (k .planned .reference)) refl (allowed-by t q (k .target) (k .planned) ∙ landed-so (k .target) (k .lands))
+  where
+    go : (o : Option (List Id)) → givenIds (k .planned .given) (k .planned .reference) ≡ o → isSome (bind o (λ is. allowed is (table.typeAt t 0))) ≡ true
+        → (is : List Id) × (givenIds (k .planned .given) (k .planned .reference) ≡ some is) × (isSome (allowed is (table.typeAt t 0)) ≡ true)
+    go none p h = absurd (true≢false (sym h))
+    go (some is) p h = (is, p, h)
+
+module _ (t v : List ℕ) (x : Bool) (stored : x ≡ isSome (storedValue (table.typeAt t 0) v)) (q : List ℕ) where
+  pub led-bad : (m : List ℕ) → not x ≡ true → ListsLed t q v m (listing (Listed.Refused 4) m)
+  unfolding ListsLed
+  led-bad m f k =
+      not-stored (table.typeAt t 0) v m (k .planned .defaults) (givenIds (k .planned .given) (k .planned .reference))
+      (allowed-by t q (k .target) (k .planned) ∙ landed-so (k .target) (k .lands)) (sym stored ∙ not-true x f)
+
+  module _ (f : not x ≡ false) where
+    val : (y : Value) × (storedValue (table.typeAt t 0) v ≡ some y)
+    val = some-there (storedValue (table.typeAt t 0) v) (sym stored ∙ not-false x f)
+
+    unfoldable asks : LeadsOn t q → Asks t q [] v
+    asks k =
+        asks-of t (k .planned .given) (k .planned .reference) [] (k .planned .defaults) q v (k .target) (k .planned .resolves) (k .lands) (ids t q k .0) (ids t q k .1) (val .0) (val .1)
+
+    pub led-asked : Led t q → Asked t q v
+    unfolding Asked Led
+    led-asked k = asks k
+
+    pub led-listed : (m : List ℕ) (l : Listing) → Lists t q v m l → ListsLed t q v m l
+    unfolding Lists ListsLed asks asks-of
+    led-listed m l told k =
+        told (asks k) ∙ is-listed (table.typeAt t 0) v m (k .planned .defaults) (ids t q k .0) (val .0) (ids t q k .2) (val .1)
+        ∙ ap (withIds (table.typeAt t 0) v (k .planned .defaults) m) (sym (ids t q k .1))
+
+module _ (t q : List ℕ) (g : Target) (b : Bool) (led : b ≡ landed g) where
+  pub resolved-not : (v m : List ℕ) → not b ≡ true → ListsTo t q v m g (listing (Listed.Refused 3) m)
+  unfolding ListsTo
+  resolved-not v m e k = not-allowed (table.typeAt t 0) v m (k .defaults) (givenIds (k .given) (k .reference)) (allowed-by t q g k ∙ sym led ∙ not-true b e)
+
+  module _ (e : not b ≡ false) where
+    unfoldable on : PlannedTo t q g → LeadsOn t q
+    on k = record { target = g; lands = lands-so g (sym led ∙ not-false b e); planned = k }
+
+    pub resolved-led : Leads t q g → Led t q
+    unfolding Leads Led
+    resolved-led k = on k
+
+    pub resolved-listed : (v m : List ℕ) (l : Listing) → ListsLed t q v m l → ListsTo t q v m g l
+    unfolding ListsLed ListsTo on
+    resolved-listed v m l told k = told (on k)
+
+module _ (t r : List ℕ) (given d : Bool) (q : List ℕ) (g : Target) where
+  pub counted-leads : reportTarget (tableLimits .chain) t (tableRows t) g ≡ leadsTo given r (table.typeAt t 0) → Resolves t given r [] d q g → LeadsFrom t q given r d g
+  unfolding LeadsFrom
+  counted-leads leads resolves = (leads, resolves)
+
+  unfoldable plans : LeadsFrom t q given r d g → PlannedTo t q g
+  unfolding LeadsFrom
+  plans k = record { given = given; reference = r; defaults = d; leads = k .0; resolves = k .1 }
+
+  module _ (k : LeadsFrom t q given r d g) where
+    pub typed-leads : Leads t q g
+    unfolding Leads
+    typed-leads = plans k
+
+    pub typed-listed : (v m : List ℕ) (l : Listing) → ListsTo t q v m g l → l ≡ withIds (table.typeAt t 0) v d m (givenIds given r)
+    unfolding ListsTo plans
+    typed-listed v m l told = told (plans k)
+
+pub counted-task : (q p : List ℕ) (limit : ℕ) → taskOf q ≡ counting limit → taskOf p ≡ taskOf q → taskOf p ≡ counting limit
+counted-task q p limit e f = f ∙ e
 
 -- ---- 2, then the others
 module _ (t v r m : List ℕ) (given d : Bool) (n : ℕ) (count : n ≡ rowCount tableLimits t) where
@@ -158,12 +214,9 @@ module _ (t v r m : List ℕ) (given d : Bool) (n : ℕ) (count : n ≡ rowCount
   unfolding listingOf
   admitted-not z = rw (not-admitted tableLimits t n count z)
 
-  pub admitted-typed : (starts masks : List ℕ) (l : Listing) → (n ≡ 0 → ⊥) → Admits (tableLimits .rows) (tableLimits .chain) t n starts masks → l ≡ withIds (typeFrom (tableLimits .chain) t (take n starts) 0) v d m (givenIds given r)
-      → l ≡ listingOf limits t v given r d m
+  pub admitted-typed : (l : Listing) → (n ≡ 0 → ⊥) → l ≡ withIds (table.typeAt t 0) v d m (givenIds given r) → l ≡ listingOf limits t v given r d m
   unfolding listingOf typeAt
-  admitted-typed starts masks l z left q =
-      let e = rows-are tableLimits t n count starts masks z left in
-      q ∙ ap (λ (s : List ℕ). withIds (typeFrom (tableLimits .chain) t s 0) v d m (givenIds given r)) e ∙ rw (is-admitted tableLimits t n count z)
+  admitted-typed l z q = q ∙ rw (is-admitted tableLimits t n count z)
 
 -- ---- 1, then the others
 module _ (t v r m : List ℕ) (given d b : Bool) (fits : b ≡ listingFits limits t v given r) where
@@ -174,12 +227,3 @@ module _ (t v r m : List ℕ) (given d b : Bool) (fits : b ≡ listingFits limit
   pub sizes-are : (a : Listed) (m' : List ℕ) → not b ≡ false → listing a m' ≡ listingOf limits t v given r d m → listing a m' ≡ listReport limits t v given r d m
   unfolding listReport
   sizes-are a m' e q = rw (sym fits ∙ not-false b e) q
-
--- a value of an admitted size is short
-pub small-here : (t v r : List ℕ) (given b : Bool) → b ≡ listingFits limits t v given r → not b ≡ false → length v < 18446744073709551615
-unfolding listingFits valueFits
-small-here t v r given b fits e =
-    let w = both-true (tableFits tableLimits t) (both (valueFits valueLimits v) (referenceFits limits given r)) (sym fits ∙ not-false b e) in
-    let u = both-true (valueFits valueLimits v) (referenceFits limits given r) (w .1) in
-    let h = leb-true (length v) (valueLimits .most) (both-true (leb (valueLimits .least) (length v)) (leb (length v) (valueLimits .most)) (u .0) .1) in
-    omega arith

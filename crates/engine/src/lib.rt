@@ -6,32 +6,27 @@ use judge::Verdict;
 use reference::Target;
 use rows::Table;
 use value::Value;
-use walk::State;
-use walk::Task;
 ghost use mathlib.Core.Path.{_≡_};
-ghost use mathlib.Core.Bool.{true, false};
-ghost use mathlib.Core.List.{[]};
-ghost use Prim.Native.Nat.{_≤_, _<_, _+_, _/_};
+ghost use mathlib.Core.Bool.{true};
+ghost use Prim.Native.Nat.{_≤_, _+_, _/_};
 ghost use lib.ListN.{length};
 ghost use Rattle.octets.specs.Pick.{isSome};
-ghost use Rattle.types.specs.inner.Work.{Sound};
+ghost use Rattle.rows.specs.Paper.{tableLimits};
+ghost use Rattle.types.specs.Admitted.{admitted};
+ghost use Rattle.table.specs.inner.Rows.{typeAt};
+ghost use Rattle.table.specs.inner.Words.{Worded};
 ghost use Rattle.reference.specs.Reference.{givenIds};
-ghost use Rattle.reference.specs.inner.Work.{leadsTo};
-ghost use Rattle.trail.specs.Trail.{trail};
-ghost use Rattle.walk.specs.inner.Run.{idsOr};
+ghost use Rattle.rules.specs.Rule.{knownRules};
+ghost use Rattle.plan.specs.inner.Task.{counting, taskOf};
 ghost use Rattle.filter.specs.Parse.{filterAt, parse};
 ghost use Rattle.filter.specs.Paper.{filterLimits};
 ghost use Rattle.judge.specs.Assertion.{outcome};
-ghost use Rattle.judge.specs.inner.Work.{NamesDiffer, Ready, judgedText};
+ghost use Rattle.judge.specs.inner.Work.{Ready, judgedText};
 ghost use Rattle.engine.specs.Answer as answer;
-ghost use Rattle.engine.specs.inner.Judged.{settledAs, judgedReport};
-ghost use Rattle.engine.specs.Listing.{report, lists, walked, referenceFits, listingFits, withIds, listingOf, listReport, listing};
+ghost use Rattle.engine.specs.Listing.{report, lists, referenceFits, listingFits, withIds, listingOf, listReport, listing};
 ghost use Rattle.engine.specs.Paper.{limits};
-ghost use Rattle.rows.specs.Paper.{tableLimits};
-ghost use Rattle.types.specs.inner.Rows.{rowType};
-ghost use Rattle.rules.specs.Rule.{knownRules};
-ghost use Rattle.table.specs.inner.Rows.{tableRows};
-ghost use Rattle.table.specs.inner.Words.{Worded};
+ghost use Rattle.engine.specs.inner.Judged.{settledAs, judgedReport};
+ghost use Rattle.engine.specs.inner.Listed as inner;
 
 // The answer of the listing: the number of named values, or a refusal.
 pub enum Listed {
@@ -72,21 +67,39 @@ fn listing_fits(table: &[u8], value: &[u8], given: bool, reference: &[u8]) -> bo
     reference_fits(given, reference)
 }
 
-// ---- refusal 3
-// Whether a reference, where one is given, is well formed and allowed by the type of row 0.
-fn is_allowed(t: &[u8], s: &[usize], m: &[u64], given: bool, r: &[u8]) -> bool
-    requires sound { ⌜ Sound (tableLimits .chain) (now t) (now s) (now m) ⌝ }
-    requires rows { ⌜ 0 < length (now s) ⌝ }
-    ensures { λ b. ⌜ b ≡ isSome (leadsTo given (now (r .entry)) (rowType (now (t .entry)) (now (s .entry)) 0)) ⌝ }
+// ---- the listing
+// Whether a reference leads anywhere.
+fn is_led(target: Target) -> bool
+    ensures { λ b. ⌜ b ≡ inner.landed target ⌝ }
 {
-    match reference::target_of(t, s, m, given, r) {
+    match target {
         Target::Row(_) => true,
         Target::Count => true,
         Target::No => false,
     }
 }
 
-// ---- the listing
+// Writes the plan of a count of what a reference names, up to a limit; what the reference leads to.
+fn plan_count(
+    t: &[u8],
+    w: &[u64; 256],
+    q: &mut [usize; 72],
+    limit: usize,
+    given: bool,
+    r: &[u8],
+    defaults: bool,
+) -> Target
+    requires worded { ⌜ Worded (now t) (now w) ⌝ }
+    requires admitted { ⌜ admitted tableLimits (now t) ≡ true ⌝ }
+    requires steps { ⌜ length (now q) ≡ 72 ⌝ }
+    ensures leads { λ g. ⌜ inner.LeadsFrom (now (t .entry)) (now (q .exit)) given (now (r .entry)) defaults g ⌝ }
+    ensures counts { λ g. ⌜ taskOf (now (q .exit)) ≡ counting limit ⌝ }
+    ensures steps { λ g. ⌜ length (now (q .exit)) ≡ 72 ⌝ }
+{
+    plan::plan_tally(q, limit);
+    plan::resolve(t, w, q, given, r, b"", defaults)
+}
+
 // The least number of values that a room of so many numbers is too small for.
 fn too_many(room: usize) -> usize
     ensures { λ r. ⌜ r ≡ room / 3 + 1 ⌝ }
@@ -94,53 +107,79 @@ fn too_many(room: usize) -> usize
     room / 3 + 1
 }
 
-// What the walk reaches: counted first, up to the least number there is no room for, and written where the walk ends well and there is room.
-fn list_walked(
+// What a plan names in a stored value: counted first, up to the least number there is no room for, and written where there is room.
+fn list_planned(
     t: &[u8],
-    s: &[usize],
-    m: &[u64],
+    w: &[u64; 256],
+    q: &mut [usize; 72],
     v: &[u8],
-    given: bool,
-    r: &[u8],
-    defaults: bool,
+    limit: usize,
     room: &mut [u64],
 ) -> Listed
-    requires sound { ⌜ Sound (tableLimits .chain) (now t) (now s) (now m) ⌝ }
-    requires rows { ⌜ 0 < length (now s) ⌝ }
-    requires small { ⌜ length (now v) < 18446744073709551615 ⌝ }
-    requires read { ⌜ isSome (givenIds given (now r)) ≡ true ⌝ }
-    ensures { λ a. ⌜ listing a (now (room .exit))
-        ≡ walked (trail defaults (idsOr (givenIds given (now (r .entry)))) (rowType (now (t .entry)) (now (s .entry)) 0)
-        (now (v .entry))) (now (room .entry)) ⌝ }
+    requires worded { ⌜ Worded (now t) (now w) ⌝ }
+    requires steps { ⌜ length (now q) ≡ 72 ⌝ }
+    requires asks { ⌜ inner.Asked (now t) (now q) (now v) ⌝ }
+    requires counts { ⌜ taskOf (now q) ≡ counting limit ⌝ }
+    requires least { ⌜ limit ≡ length (now room) / 3 + 1 ⌝ }
+    ensures { λ a. ⌜ inner.Lists (now (t .entry)) (now (q .entry)) (now (v .entry)) (now (room .entry)) (listing a (now (room .exit))) ⌝ }
 {
-    let limit = too_many(room.len());
-    let State::Going(n) = walk::walk_value(
-        t,
-        s,
-        m,
-        v,
-        given,
-        r,
-        r,
-        defaults,
-        Task::Count(limit),
-        0,
-        room,
-    ) else {
-        return Listed::Refused(7);
-    };
+    let n = along::tally(t, w, q, v, 0);
     if limit <= n {
         return Listed::Refused(6);
     }
-    walk::walk_value(t, s, m, v, given, r, r, defaults, Task::List, 0, room);
+    plan::plan_listing(q);
+    along::list(t, w, q, v, 0, room);
     Listed::of(n)
 }
 
-// The listing by the rows of an admitted table.
+// The listing by the plan of a reference that leads somewhere.
+fn list_led(
+    t: &[u8],
+    w: &[u64; 256],
+    q: &mut [usize; 72],
+    v: &[u8],
+    limit: usize,
+    room: &mut [u64],
+) -> Listed
+    requires worded { ⌜ Worded (now t) (now w) ⌝ }
+    requires steps { ⌜ length (now q) ≡ 72 ⌝ }
+    requires leads { ⌜ inner.Led (now t) (now q) ⌝ }
+    requires counts { ⌜ taskOf (now q) ≡ counting limit ⌝ }
+    requires least { ⌜ limit ≡ length (now room) / 3 + 1 ⌝ }
+    ensures { λ a. ⌜ inner.ListsLed (now (t .entry)) (now (q .entry)) (now (v .entry)) (now (room .entry)) (listing a (now (room .exit))) ⌝ }
+{
+    if !value::is_stored(t, w, v) {
+        return Listed::Refused(4);
+    }
+    list_planned(t, w, q, v, limit, room)
+}
+
+// The listing by the plan of a reference, and what the reference leads to.
+fn list_resolved(
+    t: &[u8],
+    w: &[u64; 256],
+    q: &mut [usize; 72],
+    v: &[u8],
+    target: Target,
+    limit: usize,
+    room: &mut [u64],
+) -> Listed
+    requires worded { ⌜ Worded (now t) (now w) ⌝ }
+    requires steps { ⌜ length (now q) ≡ 72 ⌝ }
+    requires leads { ⌜ inner.Leads (now t) (now q) target ⌝ }
+    requires counts { ⌜ taskOf (now q) ≡ counting limit ⌝ }
+    requires least { ⌜ limit ≡ length (now room) / 3 + 1 ⌝ }
+    ensures { λ a. ⌜ inner.ListsTo (now (t .entry)) (now (q .entry)) (now (v .entry)) (now (room .entry)) target (listing a (now (room .exit))) ⌝ }
+{
+    if !is_led(target) {
+        return Listed::Refused(3);
+    }
+    list_led(t, w, q, v, limit, room)
+}
+
+// The listing by the words of an admitted table.
 fn list_typed(
     t: &[u8],
-    s: &[usize],
-    m: &[u64],
     w: &[u64; 256],
     v: &[u8],
     given: bool,
@@ -148,21 +187,15 @@ fn list_typed(
     defaults: bool,
     room: &mut [u64],
 ) -> Listed
-    requires sound { ⌜ Sound (tableLimits .chain) (now t) (now s) (now m) ⌝ }
-    requires rows { ⌜ 0 < length (now s) ⌝ }
-    requires places { ⌜ now s ≡ tableRows (now t) ⌝ }
     requires worded { ⌜ Worded (now t) (now w) ⌝ }
-    requires small { ⌜ length (now v) < 18446744073709551615 ⌝ }
+    requires admitted { ⌜ admitted tableLimits (now t) ≡ true ⌝ }
     ensures { λ a. ⌜ listing a (now (room .exit))
-        ≡ withIds (rowType (now (t .entry)) (now (s .entry)) 0) (now (v .entry)) defaults (now (room .entry)) (givenIds given (now (r .entry))) ⌝ }
+        ≡ withIds (typeAt (now (t .entry)) 0) (now (v .entry)) defaults (now (room .entry)) (givenIds given (now (r .entry))) ⌝ }
 {
-    if !is_allowed(t, s, m, given, r) {
-        return Listed::Refused(3);
-    }
-    if !value::is_stored(t, w, v) {
-        return Listed::Refused(4);
-    }
-    list_walked(t, s, m, v, given, r, defaults, room)
+    let limit = too_many(room.len());
+    let mut q = [0usize; 72];
+    let target = plan_count(t, w, &mut q, limit, given, r, defaults);
+    list_resolved(t, w, &mut q, v, target, limit, room)
 }
 
 // The listing where the sizes are admitted.
@@ -174,29 +207,14 @@ fn list_admitted(
     defaults: bool,
     room: &mut [u64],
 ) -> Listed
-    requires small { ⌜ length (now value) < 18446744073709551615 ⌝ }
     ensures { λ a. ⌜ listing a (now (room .exit))
         ≡ listingOf limits (now (table .entry)) (now (value .entry)) given (now (reference .entry)) defaults (now (room .entry)) ⌝ }
 {
     let mut w = [0u64; 256];
-    let n = table::admit_table(table, &mut w);
-    if n == 0 {
+    if table::admit_table(table, &mut w) == 0 {
         return Listed::Refused(2);
     }
-    let mut starts = [0usize; Table::MAX_ROWS];
-    let mut masks = [0u64; Table::MAX_ROWS];
-    table::unpack(table, &w, n, &mut starts, &mut masks);
-    list_typed(
-        table,
-        &starts[..n],
-        &masks,
-        &w,
-        value,
-        given,
-        reference,
-        defaults,
-        room,
-    )
+    list_typed(table, &w, value, given, reference, defaults, room)
 }
 
 // The listing: three numbers for each value that a reference names, or for the whole value where none is given. Any octets for all.
@@ -257,38 +275,25 @@ fn question_fits(table: &[u8], value: &[u8], filter: &[u8], budget: u64) -> bool
 }
 
 // A filter that has been read and a value that has been checked.
-fn ask_judged(t: &[u8], s: &[usize], m: &[u64], v: &[u8], filter: &[u8], budget: usize) -> Answer
-    requires ready { ⌜ Ready (tableLimits .chain) (now t) (now s) (now m) (now v) ⌝ }
+fn ask_judged(t: &[u8], w: &[u64; 256], v: &[u8], filter: &[u8], budget: usize) -> Answer
+    requires ready { ⌜ Ready (now t) (now w) (now v) ⌝ }
     requires read { ⌜ isSome (filterAt (now filter) 0) ≡ true ⌝ }
     ensures { λ a. ⌜ answer.report a
-        ≡ judgedReport (judgedText (outcome knownRules (rowType (now (t .entry)) (now (s .entry)) 0) (now (v .entry))) budget
-        (filterAt (now (filter .entry)) 0)) ⌝ }
+        ≡ judgedReport (judgedText (outcome knownRules (typeAt (now (t .entry)) 0) (now (v .entry))) budget (filterAt (now (filter .entry)) 0)) ⌝ }
 {
-    match judge::judge(t, s, m, v, filter, budget) {
+    match judge::judge(t, w, v, filter, budget) {
         Judged::Of(u, n) => Answer::of(u, n),
         Judged::Over => Answer::Refused(5),
-        Judged::Misfit => Answer::Refused(7),
     }
 }
 
-// The answer by the rows of an admitted table.
-fn ask_typed(
-    t: &[u8],
-    s: &[usize],
-    m: &[u64],
-    w: &[u64; 256],
-    v: &[u8],
-    filter: &[u8],
-    budget: usize,
-) -> Answer
-    requires sound { ⌜ Sound (tableLimits .chain) (now t) (now s) (now m) ⌝ }
-    requires names { ⌜ NamesDiffer (now t) (now s) ⌝ }
-    requires rows { ⌜ 0 < length (now s) ⌝ }
-    requires places { ⌜ now s ≡ tableRows (now t) ⌝ }
+// The answer by the words of an admitted table.
+fn ask_typed(t: &[u8], w: &[u64; 256], v: &[u8], filter: &[u8], budget: usize) -> Answer
     requires worded { ⌜ Worded (now t) (now w) ⌝ }
+    requires admitted { ⌜ admitted tableLimits (now t) ≡ true ⌝ }
     requires short { ⌜ length (now v) ≤ 65536 ⌝ }
     ensures { λ a. ⌜ answer.report a
-        ≡ answer.withFilter knownRules (rowType (now (t .entry)) (now (s .entry)) 0) (now (v .entry)) budget (parse filterLimits (now (filter .entry))) ⌝ }
+        ≡ answer.withFilter knownRules (typeAt (now (t .entry)) 0) (now (v .entry)) budget (parse filterLimits (now (filter .entry))) ⌝ }
 {
     let Reading::Good(_) = filter::read(filter) else {
         return Answer::Refused(3);
@@ -296,7 +301,7 @@ fn ask_typed(
     if !value::is_stored(t, w, v) {
         return Answer::Refused(4);
     }
-    ask_judged(t, s, m, v, filter, budget)
+    ask_judged(t, w, v, filter, budget)
 }
 
 // The answer where sizes and budget are within limits.
@@ -305,14 +310,10 @@ fn ask_admitted(table: &[u8], value: &[u8], filter: &[u8], budget: usize) -> Ans
     ensures { λ a. ⌜ answer.report a ≡ answer.questionOf limits knownRules (now (table .entry)) (now (value .entry)) (now (filter .entry)) budget ⌝ }
 {
     let mut w = [0u64; 256];
-    let n = table::admit_table(table, &mut w);
-    if n == 0 {
+    if table::admit_table(table, &mut w) == 0 {
         return Answer::Refused(2);
     }
-    let mut starts = [0usize; Table::MAX_ROWS];
-    let mut masks = [0u64; Table::MAX_ROWS];
-    table::unpack(table, &w, n, &mut starts, &mut masks);
-    ask_typed(table, &starts[..n], &masks, &w, value, filter, budget)
+    ask_typed(table, &w, value, filter, budget)
 }
 
 // The answer to a filter over a value: any octets for table, value and filter, any budget.

@@ -2,24 +2,26 @@
 use mathlib.Core.Path.{_≡_, refl, sym, ap, ap₂, _∙_}
 use mathlib.Core.Bool.{Bool, true, false, not}
 use mathlib.Core.List.{List}
-use Prim.Native.Nat.{ℕ, _≤_, _<_}
+use Prim.Native.Nat.{ℕ, _≤_, _<_, _+_, _-_}
 use native.Mathlib.Omega.{arith}
-use borrow.Author.Tests.{eq-eqb, ne-eqb, lt-ltb, le-ltb, lt-leb, le-leb, ltb-false, not-true, not-false}
+use borrow.Author.Tests.{eq-eqb, ne-eqb, lt-ltb, le-ltb, lt-leb, le-leb, ltb-true, ltb-false, leb-true, not-true, not-false}
 use lib.Dec.{ltb, leb, eqb}
 use lib.ListN.{length, drop}
 use Rattle.octets.specs.Pick.{pick, both, no}
-use Rattle.octets.specs.Octets.{octet, part, same, bytes}
+use Rattle.octets.specs.Octets.{octet, part, same, bytes, baseFrom}
 use Rattle.octets.specs.Text.{isNumber, decimal}
 use Rattle.octets.specs.inner.Answers.{clip}
 use Rattle.octets.specs.declared.Size.{Size}
-use Rattle.octets.proofs.Laws.{part-rest}
-use Rattle.der.specs.Meaning.{Whole, sameWhole, lessWhole, integerOf}
+use Rattle.octets.proofs.Laws.{part-rest, both-true}
+use Rattle.der.specs.Meaning.{Whole, plus, sameWhole, lessWhole, integerOf}
 use Rattle.der.specs.inner.Answers.{reportInteger}
 use Rattle.der.specs.declared.Integer.{Integer}
 use Rattle.der.proofs.MeaningLaws.{same-whole, less-whole}
 use Rattle.integers.specs.Asserted.{isMinus, isInteger, assertedInteger}
 use Rattle.integers.specs.inner.Answers.{heldOf, sameSize, aboveSize, belowSize}
+use Rattle.integers.specs.inner.Bounds.{fits, lifted, minusBound, plusBound, boundOf, minusBoundOf, plusBoundOf}
 use Rattle.integers.specs.declared.Asked.{Asked}
+use Rattle.integers.specs.declared.Bound.{Bound}
 
 pub after-first-is : (t r : List ℕ) → r ≡ part t 1 (length t) → r ≡ drop 1 t
 after-first-is t r e = e ∙ part-rest t 1 (length t) (omega arith)
@@ -148,3 +150,73 @@ module _ (c : List ℕ) (i : Integer) (w : Whole) (u : Bool) (short : length c �
 
   pub less-contents-is : u ≡ lessWhole (record { minus = i .minus; size = i .size }) w → u ≡ both (leb (length c) 8) (lessWhole (integerOf c) w)
   less-contents-is e = rw (le-leb (length c) 8 short) (e ∙ ap (λ (x : Whole). lessWhole x w) read)
+
+-- ---- bounds
+module _ (size : Size) (n : ℕ) (e : size ≡ Size.Of n) where
+  pub minus-under : 9223372036854775808 < n → Bound.Under ≡ minusBoundOf size
+  minus-under h = rw (e, lt-ltb 9223372036854775808 n h)
+
+  pub minus-at : n ≤ 9223372036854775808 → Bound.At (9223372036854775808 - n) ≡ minusBoundOf size
+  minus-at h = rw (e, le-ltb 9223372036854775808 n h)
+
+  pub plus-at : n < 9223372036854775808 → Bound.At (9223372036854775808 + n) ≡ plusBoundOf size
+  plus-at h = rw (e, lt-ltb n 9223372036854775808 h)
+
+  pub plus-over : 9223372036854775808 ≤ n → Bound.Over ≡ plusBoundOf size
+  plus-over h = rw (e, le-ltb n 9223372036854775808 h)
+
+minus-clip : (n : ℕ) → minusBoundOf (clip n) ≡ minusBound n
+minus-clip n = go (ltb n 18446744073709551616) refl
+  where
+    go : (u : Bool) → ltb n 18446744073709551616 ≡ u → minusBoundOf (pick u (Size.Of n) Size.Beyond) ≡ minusBound n
+    go true e = refl
+    go false e = let h : 9223372036854775808 < n = omega (arith, ltb-false n 18446744073709551616 e) in rw (lt-ltb 9223372036854775808 n h)
+
+plus-clip : (n : ℕ) → plusBoundOf (clip n) ≡ plusBound n
+plus-clip n = go (ltb n 18446744073709551616) refl
+  where
+    go : (u : Bool) → ltb n 18446744073709551616 ≡ u → plusBoundOf (pick u (Size.Of n) Size.Beyond) ≡ plusBound n
+    go true e = refl
+    go false e = let h : 9223372036854775808 ≤ n = omega (arith, ltb-false n 18446744073709551616 e) in rw (le-ltb n 9223372036854775808 h)
+
+module _ (a : Asked) (w : Whole) (r : Bound) (read : a ≡ heldOf w) where
+  pub bound-minus : a .minus ≡ true → r ≡ minusBoundOf (a .size) → r ≡ boundOf w
+  unfolding boundOf
+  bound-minus h e = rw (sym (ap (λ (x : Asked). x .minus) read) ∙ h) (e ∙ ap (λ (x : Asked). minusBoundOf (x .size)) read ∙ minus-clip (w .size))
+
+  pub bound-plus : a .minus ≡ false → r ≡ plusBoundOf (a .size) → r ≡ boundOf w
+  unfolding boundOf
+  bound-plus h e = rw (sym (ap (λ (x : Asked). x .minus) read) ∙ h) (e ∙ ap (λ (x : Asked). plusBoundOf (x .size)) read ∙ plus-clip (w .size))
+
+-- ---- lifted
+pub count-is : (n : ℕ) → 9223372036854775808 + n ≡ lifted (plus n)
+unfolding lifted
+count-is n = refl
+
+module _ (c : List ℕ) (u : Bool) (sign : u ≡ leb 128 (octet c 0)) (f : fits (integerOf c) ≡ true) where
+  module _ (h : u ≡ false) (n : ℕ) (e : n ≡ baseFrom 0 c) where
+    plain-is : integerOf c ≡ plus n
+    unfolding integerOf
+    plain-is = rw (sym sign ∙ h, e)
+
+    pub lift-room : 9223372036854775808 + n < 18446744073709551616
+    unfolding fits
+    lift-room = let s : ltb n 9223372036854775808 ≡ true = sym (ap fits plain-is) ∙ f in omega (arith, ltb-true n 9223372036854775808 s)
+
+    pub lift-plus : 9223372036854775808 + n ≡ lifted (integerOf c)
+    lift-plus = count-is n ∙ ap lifted (sym plain-is)
+
+  module _ (h : u ≡ true) (i : Integer) (e : reportInteger i ≡ integerOf c) where
+    negative : i .minus ≡ true
+    unfolding integerOf
+    negative = ap (λ (x : Whole). x .minus) e ∙ rw (sym sign ∙ h)
+
+    pub lift-low : i .size ≤ 9223372036854775808
+    unfolding fits
+    lift-low =
+        let s : both (leb 1 (i .size)) (leb (i .size) 9223372036854775808) ≡ true = rw negative at (ap fits e ∙ f) in
+        leb-true (i .size) 9223372036854775808 (both-true (leb 1 (i .size)) (leb (i .size) 9223372036854775808) s .1)
+
+    pub lift-minus : 9223372036854775808 - i .size ≡ lifted (integerOf c)
+    unfolding lifted
+    lift-minus = sym (rw negative) ∙ ap lifted e

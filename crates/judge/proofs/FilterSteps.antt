@@ -61,7 +61,7 @@ module _ (s : List ℕ) (j : filter.Join) (p : Progress) (k q : ℕ) (t : tail.T
   pub follow-closed : (a : ℕ) (y : Verdict) → t ≡ tail.Tail.Closed a → y ≡ atEnd j p → Turn.Ends (Judging.At y k a) ≡ turnedBy j p k (tailAt s q)
   follow-closed a y e f = ap (λ (z : Verdict). Turn.Ends (Judging.At z k a)) f ∙ turned-by (tail.Tail.Closed a) e
 
-  pub follow-lost : t ≡ tail.Tail.NoTail → Turn.Ends Judging.Misfit ≡ turnedBy j p k (tailAt s q)
+  pub follow-lost : t ≡ tail.Tail.NoTail → Turn.Ends Judging.Over ≡ turnedBy j p k (tailAt s q)
   follow-lost e = turned-by tail.Tail.NoTail e
 
 module _ (s : List ℕ) (j : filter.Join) (p : Progress) (w : Judging) where
@@ -71,11 +71,8 @@ module _ (s : List ℕ) (j : filter.Join) (p : Progress) (w : Judging) where
   pub turn-over : w ≡ Judging.Over → Turn.Ends Judging.Over ≡ turned s j p w
   turn-over h = sym (ap (turned s j p) h)
 
-  pub turn-fault : w ≡ Judging.Misfit → Turn.Ends Judging.Misfit ≡ turned s j p w
-  turn-fault h = sym (ap (turned s j p) h)
-
 -- ---- the assertion of an item
-made-none : (says : Item → Outcome) (live : Bool) (budget n : ℕ) (x : Option (Read Item)) → x ≡ none → Judging.Misfit ≡ judgedFilter says live budget n (made item x)
+made-none : (says : Item → Outcome) (live : Bool) (budget n : ℕ) (x : Option (Read Item)) → x ≡ none → Judging.Over ≡ judgedFilter says live budget n (made item x)
 unfolding judgedFilter
 made-none says live budget n x e = rw e
 
@@ -84,7 +81,7 @@ unfolding judgedFilter reading
 made-some says live budget n x i after e = rw e
 
 module _ (ty : Ty) (v f : List ℕ) (at : ℕ) (live : Bool) (budget n : ℕ) (a : Assertion) (e : reportAssertion f a ≡ assertionAt f at) where
-  pub assertion-bad : a ≡ Assertion.Bad → Judging.Misfit ≡ judgedFilter (outcome knownRules ty v) live budget n (made item (assertionAt f at))
+  pub assertion-bad : a ≡ Assertion.Bad → Judging.Over ≡ judgedFilter (outcome knownRules ty v) live budget n (made item (assertionAt f at))
   assertion-bad q = made-none (outcome knownRules ty v) live budget n (assertionAt f at) (sym e ∙ ap (reportAssertion f) q)
 
   module _ (p : Parts) (q : a ≡ Assertion.Good p) (after : ℕ) (k : after ≡ p .after) where
@@ -134,7 +131,7 @@ module _ (ty : Ty) (v f : List ℕ) (at : ℕ) (live : Bool) (budget n : ℕ) (h
   pub filter-not : (p : ℕ) (w x : Judging) → h ≡ Head.Negation p → w ≡ judgedFilter (outcome knownRules ty v) live budget n (filterAt f p) → x ≡ inverse w → x ≡ judgedFilter (outcome knownRules ty v) live budget n (filterAt f at)
   filter-not p w x q d g = g ∙ ap inverse d ∙ not-judged (outcome knownRules ty v) live budget n (filterAt f p) ∙ ap (judgedFilter (outcome knownRules ty v) live budget n) (sym (filter-by f at (sym e ∙ ap reportHead q)))
 
-  pub filter-none : h ≡ Head.NoHead → Judging.Misfit ≡ judgedFilter (outcome knownRules ty v) live budget n (filterAt f at)
+  pub filter-none : h ≡ Head.NoHead → Judging.Over ≡ judgedFilter (outcome knownRules ty v) live budget n (filterAt f at)
   unfolding judgedFilter
   filter-none q = ap (judgedFilter (outcome knownRules ty v) live budget n) (sym (filter-by f at (sym e ∙ ap reportHead q)))
 
@@ -196,7 +193,6 @@ module _ (says : Item → Outcome) (f : List ℕ) (j : filter.Join) (p : Progres
     says-turn : (w : Judging) → FirstSays j p budget k o (x .after) w → TurnSays says f j p budget k i (turned f j p w)
     says-turn (Judging.At u c q) s = on-tail (tailAt f q) (ap (tailAt f) (sym (s .0))) u c (s .1) (s .2)
     says-turn Judging.Over s = let y = shape (tailAt f (x .after)) refl in sym (s (readingIn says j (y .0)) (r .after)) ∙ list-is (y .0) (r .after) (y .1) refl
-    says-turn Judging.Misfit s = let y = shape (tailAt f (x .after)) refl in sym (s (readingIn says j (y .0)) (r .after)) ∙ list-is (y .0) (r .after) (y .1) refl
 
   says-judged : (w : Judging) → w ≡ judgedFilter says (goesOn p) budget k (filterAt f i) → TurnSays says f j p budget k i (turned f j p w)
   unfolding judgedFilter
@@ -257,13 +253,8 @@ text-judged says budget (some r) j after e h = go j (charged budget 0 (reading s
     go : (a b : Judged) → placed after a ≡ placed (r .after) b → a ≡ b
     go (Judged.Of u k) (Judged.Of y l) q = cc
     go (Judged.Of u k) Judged.Over q = absurd (let z : _≡_ {A = ℕ} 0 1 = cc in omega arith)
-    go (Judged.Of u k) Judged.Misfit q = absurd (let z : _≡_ {A = ℕ} 0 1 = cc in omega arith)
     go Judged.Over (Judged.Of y l) q = absurd (let z : _≡_ {A = ℕ} 0 1 = cc in omega arith)
     go Judged.Over Judged.Over q = refl
-    go Judged.Over Judged.Misfit q = absurd (let z : _≡_ {A = ℕ} 0 1 = cc in omega arith)
-    go Judged.Misfit (Judged.Of y l) q = absurd (let z : _≡_ {A = ℕ} 0 1 = cc in omega arith)
-    go Judged.Misfit Judged.Over q = absurd (let z : _≡_ {A = ℕ} 0 1 = cc in omega arith)
-    go Judged.Misfit Judged.Misfit q = refl
 
 module _ (ty : Ty) (v f : List ℕ) (budget : ℕ) (w : Judging) (read : isSome (filterAt f 0) ≡ true) (judged : w ≡ judgedFilter (outcome knownRules ty v) true budget 0 (filterAt f 0)) where
   pub text-at : (u : Verdict) (k after : ℕ) → w ≡ Judging.At u k after → Judged.Of u k ≡ judgedText (outcome knownRules ty v) budget (filterAt f 0)
@@ -271,6 +262,3 @@ module _ (ty : Ty) (v f : List ℕ) (budget : ℕ) (w : Judging) (read : isSome 
 
   pub text-over : w ≡ Judging.Over → Judged.Over ≡ judgedText (outcome knownRules ty v) budget (filterAt f 0)
   text-over q = text-judged (outcome knownRules ty v) budget (filterAt f 0) Judged.Over 0 (sym q ∙ judged) read
-
-  pub text-fault : w ≡ Judging.Misfit → Judged.Misfit ≡ judgedText (outcome knownRules ty v) budget (filterAt f 0)
-  text-fault q = text-judged (outcome knownRules ty v) budget (filterAt f 0) Judged.Misfit 0 (sym q ∙ judged) read

@@ -1,4 +1,4 @@
--- Each value that a reference names fits what the reference leads to; so the code's acceptance is the definition's along the trail of a stored value.
+-- Each value that a reference names fits what the reference leads to; so the code's acceptance is the definition's, for what is named in a stored value.
 use mathlib.Core.Path.{_≡_, refl, sym, ap, _∙_, subst}
 use mathlib.Core.Bool.{Bool, true, false, false≢true}
 use mathlib.Core.Option.{Option, some}
@@ -28,7 +28,8 @@ use Rattle.rules.specs.inner.Answers.{conformsTo, conforms, said, isRead, isRea
 use Rattle.rules.proofs.Laws.{read-basic, read-choice, read-count}
 use Rattle.trail.specs.Trail.{trail}
 use Rattle.trail.proofs.Agreeing.{laid, trail-named}
-use Rattle.walk.specs.inner.Run.{acceptsRead}
+use Rattle.plan.specs.inner.Task as task
+use Rattle.plan.specs.inner.Task.{passesContents, passesCount, passes}
 use Rattle.judge.specs.Truth.{TRUE}
 use Rattle.judge.specs.Reading.{settled}
 use Rattle.judge.specs.Assertion.{testing}
@@ -245,7 +246,7 @@ module _ (t : List ℕ) where
   read-list (equal x) k ty c h = absurd (false≢true h)
   read-list (less x) k ty c h = absurd (false≢true h)
 
-  module _ (r : Rule) (v : List ℕ) (short : length v ≤ 65536) (asserted : conforms r t ≡ true) where
+  module _ (r : Rule) (budget : ℕ) (v : List ℕ) (short : length v ≤ 65536) (asserted : conforms r t ≡ true) where
     part-short : (start n : ℕ) → length (part v start n) ≤ 65536
     part-short start n = omega (arith, length-take n (drop start v), rest-length v start)
 
@@ -258,8 +259,8 @@ module _ (t : List ℕ) where
     read-value (is-choice {ms = ms} {x = x} c) h = read-choice t (spotOf x .contents) r ms h
     read-value (is-list {k = k} {ty = ty} {s = s} b w q) h = read-list r k ty (s .contents) h
 
-    accepted : (g : Target) (h : Held) → suits r g ≡ true → Fits v h g → acceptsRead r t (component h) ≡ accepts r (said r t) (component h)
-    unfolding Fits acceptsRead acceptsContentsRead accepts
+    accepted : (g : Target) (h : Held) → suits r g ≡ true → Fits v h g → passes (task.testing r budget) t (component h) ≡ accepts r (said r t) (component h)
+    unfolding Fits passes passesContents passesCount acceptsContentsRead accepts
     accepted (ofType ty) (value x) e w = ap (λ (b : Bool). both b (acceptsContents r (said r t) (spotOf x .contents))) (read-value (w .0 .4) e)
     accepted ofCount (value x) e w = absurd w
     accepted (ofType ty) (defaultValue p m) e w = ap (λ (b : Bool). both b (acceptsContents r (said r t) (contentsOf (m .presence)))) (read-short r (contentsOf (m .presence)) asserted w)
@@ -267,21 +268,20 @@ module _ (t : List ℕ) where
     accepted (ofType ty) (countValue p n) e w = absurd w
     accepted ofCount (countValue p n) e w = read-count t r n e
 
-    laid-tests : (g : Target) (hs : List Held) (n : ℕ) → suits r g ≡ true → AllFit v g hs → testing (acceptsRead r t) n (laid hs) ≡ testing (accepts r (said r t)) n (laid hs)
+    laid-tests : (g : Target) (hs : List Held) (n : ℕ) → suits r g ≡ true → AllFit v g hs → testing (passes (task.testing r budget) t) n (laid hs) ≡ testing (accepts r (said r t)) n (laid hs)
     unfolding AllFit laid testing
     laid-tests g [] n e w = refl
-    laid-tests g (h ∷ hs) n e w = go (acceptsRead r t (component h)) (accepts r (said r t) (component h)) (accepted g h e (w .0)) (laid-tests g hs (n + 1) e (w .1))
+    laid-tests g (h ∷ hs) n e w = go (passes (task.testing r budget) t (component h)) (accepts r (said r t) (component h)) (accepted g h e (w .0)) (laid-tests g hs (n + 1) e (w .1))
       where
-        go : (a b : Bool) → a ≡ b → testing (acceptsRead r t) (n + 1) (laid hs) ≡ testing (accepts r (said r t)) (n + 1) (laid hs)
-            → pick a (settled TRUE (n + 1)) (testing (acceptsRead r t) (n + 1) (laid hs)) ≡ pick b (settled TRUE (n + 1)) (testing (accepts r (said r t)) (n + 1) (laid hs))
+        go : (a b : Bool) → a ≡ b → testing (passes (task.testing r budget) t) (n + 1) (laid hs) ≡ testing (accepts r (said r t)) (n + 1) (laid hs)
+            → pick a (settled TRUE (n + 1)) (testing (passes (task.testing r budget) t) (n + 1) (laid hs)) ≡ pick b (settled TRUE (n + 1)) (testing (accepts r (said r t)) (n + 1) (laid hs))
         go true true q f = refl
         go true false q f = absurd (false≢true (sym q))
         go false true q f = absurd (false≢true q)
         go false false q f = f
 
-    -- along the trail of a stored value, with a rule that is for what the reference leads to and a text that conforms
-    pub trail-tests : (defaults : Bool) (is : List Id) (ty : Ty) (k : Target) (x : Value) (n : ℕ) → Fine ty → storedValue ty v ≡ some x → allowed is ty ≡ some k → suits r k ≡ true
-        → testing (acceptsRead r t) n (trail defaults is ty v) ≡ testing (accepts r (said r t)) n (trail defaults is ty v)
-    trail-tests defaults is ty k x n f e h q =
-        let z = trail-named defaults is ty v x e in
-        ap (testing (acceptsRead r t) n) z ∙ laid-tests k (named defaults is x) n q (named-fit defaults v is ty k x f e h) ∙ ap (testing (accepts r (said r t)) n) (sym z)
+    -- with a rule that is for what the reference leads to and a text that conforms, the trail of a stored value being what is named
+    pub named-tests : (defaults : Bool) (is : List Id) (ty : Ty) (k : Target) (x : Value) (n : ℕ) → Fine ty → storedValue ty v ≡ some x → allowed is ty ≡ some k → suits r k ≡ true
+        → testing (passes (task.testing r budget) t) n (laid (named defaults is x)) ≡ testing (accepts r (said r t)) n (trail defaults is ty v)
+    named-tests defaults is ty k x n f e h q =
+        laid-tests k (named defaults is x) n q (named-fit defaults v is ty k x f e h) ∙ ap (testing (accepts r (said r t)) n) (sym (trail-named defaults is ty v x e))

@@ -6,5 +6,5 @@ pub mod ItemSteps
 pub mod ListLaws
 pub mod FilterSteps
 pub mod Few
-pub mod Names
+pub mod Settled
 pub mod Same

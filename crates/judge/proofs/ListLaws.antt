@@ -14,18 +14,21 @@ use Rattle.judge.specs.declared.Verdict.{Verdict}
 use Rattle.judge.specs.declared.Judged.{Judged}
 use Rattle.judge.specs.declared.Judging.{Judging}
 use Rattle.judge.specs.declared.Progress.{Progress}
-use Rattle.judge.proofs.Testing.{shifted}
 
--- ---- tests made before
+-- ---- tests made before are added
+abbrev shifted : ℕ → Outcome → Outcome
+shifted n (settled t k) = settled t (n + k)
+shifted n (misfitAfter k) = misfitAfter (n + k)
+
 charged-shifted : (budget k n : ℕ) (o : Outcome) → charged budget k (shifted n o) ≡ charged budget (k + n) o
 unfolding charged
 charged-shifted budget k n (settled t i) = let e : k + (n + i) ≡ k + n + i = omega arith in rw e
-charged-shifted budget k n (misfitAfter i) = let e : k + (n + i) ≡ k + n + i = omega arith in rw e
+charged-shifted budget k n (misfitAfter i) = refl
 
 charged-over : (budget n : ℕ) (o : Outcome) → budget < n → charged budget n o ≡ Judged.Over
 unfolding charged
 charged-over budget n (settled t i) h = let l : budget < n + i = omega arith in rw (lt-leb (n + i) budget l)
-charged-over budget n (misfitAfter i) h = let l : budget < n + i = omega arith in rw (lt-leb (n + i) budget l)
+charged-over budget n (misfitAfter i) h = refl
 
 -- the rest behind a filter of truth t
 abbrev onward : Join → Truth → Outcome → Outcome
@@ -171,7 +174,6 @@ module _ (j : Join) (budget k z : ℕ) where
 abbrev pub FirstSays : Join → Progress → ℕ → ℕ → Outcome → ℕ → Judging → Type 0
 FirstSays j p budget k o q (Judging.At u c a) = (a ≡ q) × (c ≤ budget) × ((r : Outcome) (z : ℕ) → judgedRest j p budget k (andThen j o r) z ≡ judgedRest j (joinedBy j p u) budget c r z)
 FirstSays j p budget k o q Judging.Over = (r : Outcome) (z : ℕ) → judgedRest j p budget k (andThen j o r) z ≡ Judging.Over
-FirstSays j p budget k o q Judging.Misfit = (r : Outcome) (z : ℕ) → judgedRest j p budget k (andThen j o r) z ≡ Judging.Misfit
 
 first-plain : (j : Join) (budget k : ℕ) (o : Outcome) (q : ℕ) → FirstSays j Progress.Plain budget k o q (placed q (charged budget k o))
 unfolding charged
@@ -180,11 +182,7 @@ first-plain j budget k (settled t n) q = go (leb (k + n) budget) refl
     go : (b : Bool) → leb (k + n) budget ≡ b → FirstSays j Progress.Plain budget k (settled t n) q (placed q (pick b (Judged.Of (verdictOf t) (k + n)) Judged.Over))
     go true e = (refl, leb-true (k + n) budget e, λ r z. plain-first j budget k z t n r (leb-true (k + n) budget e))
     go false e = λ r z. plain-over j budget k z t n r (leb-false (k + n) budget e)
-first-plain j budget k (misfitAfter n) q = go (leb (k + n) budget) refl
-  where
-    go : (b : Bool) → leb (k + n) budget ≡ b → FirstSays j Progress.Plain budget k (misfitAfter n) q (placed q (pick b Judged.Misfit Judged.Over))
-    go true e = λ r z. ap (λ (b : Bool). placed z (pick b Judged.Misfit Judged.Over)) e
-    go false e = λ r z. ap (λ (b : Bool). placed z (pick b Judged.Misfit Judged.Over)) e
+first-plain j budget k (misfitAfter n) q = λ r z. refl
 
 first-unsure : (j : Join) (budget k : ℕ) (o : Outcome) (q : ℕ) → FirstSays j Progress.Unsure budget k o q (placed q (charged budget k o))
 unfolding charged
@@ -193,11 +191,7 @@ first-unsure j budget k (settled t n) q = go (leb (k + n) budget) refl
     go : (b : Bool) → leb (k + n) budget ≡ b → FirstSays j Progress.Unsure budget k (settled t n) q (placed q (pick b (Judged.Of (verdictOf t) (k + n)) Judged.Over))
     go true e = (refl, leb-true (k + n) budget e, λ r z. unsure-first j budget k z t n r (leb-true (k + n) budget e))
     go false e = λ r z. unsure-over j budget k z t n r (leb-false (k + n) budget e)
-first-unsure j budget k (misfitAfter n) q = go (leb (k + n) budget) refl
-  where
-    go : (b : Bool) → leb (k + n) budget ≡ b → FirstSays j Progress.Unsure budget k (misfitAfter n) q (placed q (pick b Judged.Misfit Judged.Over))
-    go true e = λ r z. ap (λ (b : Bool). placed z (pick b Judged.Misfit Judged.Over)) e
-    go false e = λ r z. ap (λ (b : Bool). placed z (pick b Judged.Misfit Judged.Over)) e
+first-unsure j budget k (misfitAfter n) q = λ r z. refl
 
 pub first-says : (j : Join) (p : Progress) (budget k : ℕ) (o : Outcome) (q : ℕ) → k ≤ budget → FirstSays j p budget k o q (judgedIf (goesOn p) budget k o q)
 first-says j Progress.Plain budget k o q h = first-plain j budget k o q
@@ -242,8 +236,4 @@ inverse-judged true budget n (settled t k) after = go (leb (n + k) budget)
     go : (b : Bool) → inverse (placed after (pick b (Judged.Of (verdictOf t) (n + k)) Judged.Over)) ≡ placed after (pick b (Judged.Of (verdictOf (opposite t)) (n + k)) Judged.Over)
     go true = ap (λ (u : Verdict). Judging.At u (n + k) after) (opposed-same t)
     go false = refl
-inverse-judged true budget n (misfitAfter k) after = go (leb (n + k) budget)
-  where
-    go : (b : Bool) → inverse (placed after (pick b Judged.Misfit Judged.Over)) ≡ placed after (pick b Judged.Misfit Judged.Over)
-    go true = refl
-    go false = refl
+inverse-judged true budget n (misfitAfter k) after = refl

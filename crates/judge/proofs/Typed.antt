@@ -13,12 +13,20 @@ use Rattle.octets.specs.Text.{within}
 use Rattle.octets.proofs.Laws.{both-true}
 use Rattle.der.specs.Contents.{legal, legalBoolean}
 use Rattle.der.proofs.Laws.{integer-octets, legal-boolean, legal-integer, legal-enumerated}
+use Rattle.rows.specs.Paper.{tableLimits}
 use Rattle.rows.specs.Row.{nameAt, kindAt, elementAt, typeRowAt, presenceAt, defaultLengthAt, defaultAt, isList, rowAt, membersAt}
-use Rattle.clauses.specs.Clauses.{defaultAllowed, defaultLegal}
+use Rattle.clauses.specs.Clauses.{memberPlace, defaultAllowed, defaultLegal}
 use Rattle.types.specs.Types.{mandatory, optional, default, Ty, basic, sequence, choice, listOf, Members, noMore, more, unfilled, presenceOf, memberOf, membersFrom, typeFrom}
+use Rattle.types.specs.Admitted.{admitted}
 use Rattle.types.specs.inner.Work.{Sound}
+use Rattle.types.proofs.NameLaws.{unfilled-differ}
+use Rattle.table.specs.inner.Rows.{tableRows, typeAt}
+use Rattle.table.specs.inner.Words.{Worded}
 use Rattle.reference.specs.Numbers.{contentsOf}
-use Rattle.judge.specs.inner.Work.{NamesDiffer}
+
+-- "names in one type differ", without their fill
+pub record NamesDiffer (t s : List ℕ) : Type 0 where
+  pub differ : (i : ℕ) → i < length s → (a b : ℕ) → a < b → b < membersAt t (rowAt s i) → same (unfilled (nameAt t (memberPlace s i b))) (unfilled (nameAt t (memberPlace s i a))) ≡ false
 
 -- ---- lists of octets
 pub same-is : (a b : List ℕ) → same a b ≡ true → a ≡ b
@@ -143,3 +151,8 @@ module _ (chain : ℕ) (t s m : List ℕ) (ok : Sound chain t s m) (names : Name
       go false true z e f = fine-rows (typeFrom n t s) f (membersAt t (rowAt s i)) (i + 1) (λ j d. (ok .stands i h j d, ok .members i h j d, ok .later .of-member i h j d .1)) (λ a b l d. names .differ i h a b l d)
       go false false true e f = f (elementAt t (rowAt s i)) (ok .later .of-list i h e .1)
       go false false false e f = tt
+
+-- the type of row 0 of an admitted table
+pub fine-first : (t w : List ℕ) → Worded t w → admitted tableLimits t ≡ true → Fine (typeAt t 0)
+fine-first t w ok admits =
+    fine-type (tableLimits .chain) t (tableRows t) (ok .m) (ok .ready .sound) (record { differ = unfilled-differ tableLimits t admits refl }) (tableLimits .chain) 0 (ok .ready .rooted)

@@ -1,4 +1,5 @@
 // The truth of a filter over a value, and the tests made.
+use along::State;
 use assertion::Assertion;
 use assertion::Component;
 use assertion::Parts;
@@ -8,30 +9,27 @@ use filter::Tail;
 use reference::Target;
 use rules::Named;
 use rules::Rule;
-use walk::State;
-use walk::Task;
-ghost use Prim.Native.Nat.{_≤_, _<_};
+ghost use Prim.Native.Nat.{_≤_};
 ghost use mathlib.Core.Path.{_≡_};
 ghost use mathlib.Core.Bool.{true};
-ghost use mathlib.Core.List.{[]};
+ghost use mathlib.Core.Option.{some};
 ghost use lib.ListN.{length};
-ghost use Rattle.octets.specs.Pick.{both, isSome};
-ghost use Rattle.types.specs.inner.Work.{Sound};
-ghost use Rattle.reference.specs.Reference.{givenIds};
+ghost use Rattle.octets.specs.Pick.{isSome};
+ghost use Rattle.rows.specs.Paper.{tableLimits};
+ghost use Rattle.types.specs.Admitted.{admitted};
+ghost use Rattle.table.specs.inner.Rows.{tableRows, typeAt};
+ghost use Rattle.table.specs.inner.Words.{Worded};
 ghost use Rattle.reference.specs.inner.Work as reference;
-ghost use Rattle.rules.specs.Rule.{knownRules};
-ghost use Rattle.rules.specs.inner.Answers.{meant, reportRule, conforms};
+ghost use Rattle.rules.specs.Rule.{ruleOf, knownRules};
+ghost use Rattle.rules.specs.inner.Answers.{meant, conforms};
+ghost use Rattle.plan.specs.inner.Task.{taskOf};
 ghost use Rattle.assertion.specs.Assertion.{assertionAt};
-ghost use Rattle.assertion.specs.inner.Places.{itemOf};
+ghost use Rattle.assertion.specs.inner.Places.{componentOf, itemOf};
 ghost use Rattle.filter.specs.Filter.{item};
 ghost use Rattle.filter.specs.Parse as parsing;
 ghost use Rattle.filter.specs.inner.Answers.{filtersAt, reportJoin};
-ghost use Rattle.trail.specs.Trail.{trail};
-ghost use Rattle.walk.specs.inner.Run as run;
-ghost use Rattle.judge.specs.Assertion.{testing, outcome};
+ghost use Rattle.judge.specs.Assertion.{outcome};
 ghost use Rattle.judge.specs.inner.Work as work;
-ghost use Rattle.rows.specs.Paper.{tableLimits};
-ghost use Rattle.types.specs.inner.Rows.{rowType};
 
 pub enum Verdict {
     True,
@@ -39,18 +37,22 @@ pub enum Verdict {
     Undefined,
 }
 
-// A truth after so many tests; more tests than the budget; or a header that doesn't fit.
+// A truth after so many tests; or more tests than the budget.
 pub enum Judged {
     Of(Verdict, usize),
     Over,
-    Misfit,
 }
 
-// The same with the place after the filter.
+// The same with the place after the filter. Of a text that is not a filter nothing is asked: Over.
 pub enum Judging {
     At(Verdict, usize, usize),
     Over,
-    Misfit,
+}
+
+// The tests made, and the most that may be made.
+pub struct Tests {
+    pub made: usize,
+    pub budget: usize,
 }
 
 // One filter of a list: the next one's place, with the list so far and the tests made; or the list's end.
@@ -69,182 +71,119 @@ pub enum Progress {
 
 // ---- one assertion
 // Whether a rule is for what a reference leads to.
-fn suits_target(rule: Rule, t: &[u8], s: &[usize], m: &[u64], target: Target) -> bool
-    requires sound { ⌜ Sound (tableLimits .chain) (now t) (now s) (now m) ⌝ }
-    requires here { ⌜ reference.rowWithin (now s) target ≡ true ⌝ }
-    ensures { λ r. ⌜ r ≡ work.suitsAny (meant rule) (reference.reportTarget (tableLimits .chain) (now (t .entry)) (now (s .entry)) target) ⌝ }
+fn suits_target(rule: Rule, t: &[u8], w: &[u64; 256], target: Target) -> bool
+    requires worded { ⌜ Worded (now t) (now w) ⌝ }
+    requires here { ⌜ reference.rowWithin (tableRows (now t)) target ≡ true ⌝ }
+    ensures { λ r. ⌜ r ≡ work.suitsAny (meant rule) (work.targetOf (now (t .entry)) target) ⌝ }
 {
     match target {
-        Target::Row(i) => rules::suits(rule, t, s, i),
+        Target::Row(i) => rules::suits(rule, t, w, i),
         Target::Count => rules::suits_count(rule),
         Target::No => false,
     }
 }
 
-// Whether a rule is for what a reference leads to, and a value text conforms.
-fn is_asked(
+// Writes the steps of an assertion's reference, for the plan's test with the value text; what it leads to.
+fn resolve_component(
     t: &[u8],
-    s: &[usize],
-    m: &[u64],
-    given: bool,
-    r: &[u8],
-    rule: Rule,
+    w: &[u64; 256],
+    q: &mut [usize; 72],
+    f: &[u8],
+    component: Component,
     text: &[u8],
-) -> bool
-    requires sound { ⌜ Sound (tableLimits .chain) (now t) (now s) (now m) ⌝ }
-    requires rows { ⌜ 0 < length (now s) ⌝ }
-    ensures { λ b. ⌜ b
-        ≡ both (work.suitsAny (meant rule) (reference.leadsTo given (now (r .entry)) (rowType (now (t .entry)) (now (s .entry)) 0)))
-        (conforms (meant rule) (now (text .entry))) ⌝ }
-{
-    let target = reference::target_of(t, s, m, given, r);
-    if !suits_target(rule, t, s, m, target) {
-        return false;
-    }
-    rules::conforms(rule, text)
-}
-
-// The rule of an assertion that isn't Undefined.
-fn asked_rule(
-    t: &[u8],
-    s: &[usize],
-    m: &[u64],
-    given: bool,
-    r: &[u8],
-    name: &[u8],
-    text: &[u8],
-) -> Named
-    requires sound { ⌜ Sound (tableLimits .chain) (now t) (now s) (now m) ⌝ }
-    requires rows { ⌜ 0 < length (now s) ⌝ }
-    ensures { λ w. ⌜ reportRule w
-        ≡ work.askedRule knownRules (reference.leadsTo given (now (r .entry)) (rowType (now (t .entry)) (now (s .entry)) 0))
-        (now (name .entry)) (now (text .entry)) ⌝ }
-{
-    let Named::Known(rule) = rules::rule_of(name) else {
-        return Named::Unknown;
-    };
-    if !is_asked(t, s, m, given, r, rule, text) {
-        return Named::Unknown;
-    }
-    Named::Known(rule)
-}
-
-// The tests of an assertion with a rule, after n tests.
-fn judge_asked(
-    t: &[u8],
-    s: &[usize],
-    m: &[u64],
-    v: &[u8],
-    given: bool,
-    r: &[u8],
     defaults: bool,
-    rule: Rule,
-    text: &[u8],
-    budget: usize,
-    n: usize,
-) -> Judged
-    requires ready { ⌜ work.Ready (tableLimits .chain) (now t) (now s) (now m) (now v) ⌝ }
-    requires read { ⌜ isSome (givenIds given (now r)) ≡ true ⌝ }
-    requires within { ⌜ n ≤ budget ⌝ }
-    ensures { λ w. ⌜ w
-        ≡ work.charged budget n (testing (run.acceptsRead (meant rule) (now (text .entry))) 0
-        (trail defaults (run.idsOr (givenIds given (now (r .entry)))) (rowType (now (t .entry)) (now (s .entry)) 0)
-        (now (v .entry)))) ⌝ }
+) -> Target
+    requires worded { ⌜ Worded (now t) (now w) ⌝ }
+    requires admitted { ⌜ admitted tableLimits (now t) ≡ true ⌝ }
+    requires room { ⌜ length (now q) ≡ 72 ⌝ }
+    ensures leads { λ g. ⌜ work.targetOf (now (t .entry)) g ≡ work.leadsBy (componentOf (now (f .entry)) component) (typeAt (now (t .entry)) 0) ⌝ }
+    ensures within { λ g. ⌜ reference.rowWithin (tableRows (now (t .entry))) g ≡ true ⌝ }
+    ensures planned { λ g. ⌜ work.PlannedFor (now (t .entry)) (now (q .exit)) (now (text .entry)) defaults (componentOf (now (f .entry)) component) g ⌝ }
+    ensures task { λ g. ⌜ taskOf (now (q .exit)) ≡ taskOf (now (q .entry)) ⌝ }
 {
-    let mut out = [0u64; 1];
-    let task = Task::Test(rule, budget);
-    match walk::walk_value(t, s, m, v, given, r, text, defaults, task, n, &mut out) {
+    match component {
+        Component::Missing => plan::resolve(t, w, q, false, f, text, defaults),
+        Component::Quoted(a, b) => {
+            let r = assertion::within_quotes(f, a, b);
+            plan::resolve(t, w, q, true, r, text, defaults)
+        }
+    }
+}
+
+// What the end of a walk says of an assertion.
+fn ended(state: State) -> Judged
+    ensures { λ j. ⌜ j ≡ work.ended state ⌝ }
+{
+    match state {
         State::Going(k) => Judged::Of(Verdict::False, k),
         State::Accepted(k) => Judged::Of(Verdict::True, k),
         State::Over => Judged::Over,
-        State::Misfit => Judged::Misfit,
     }
 }
 
-// An assertion by its parts, after n tests; its reference is r where one is given.
-fn judge_item(
+// An assertion with a rule and a value text that conforms.
+fn judge_conforming(
     t: &[u8],
-    s: &[usize],
-    m: &[u64],
-    v: &[u8],
-    given: bool,
-    r: &[u8],
-    defaults: bool,
-    name: &[u8],
-    text: &[u8],
-    budget: usize,
-    n: usize,
-) -> Judged
-    requires ready { ⌜ work.Ready (tableLimits .chain) (now t) (now s) (now m) (now v) ⌝ }
-    requires within { ⌜ n ≤ budget ⌝ }
-    ensures { λ w. ⌜ w
-        ≡ work.charged budget n (outcome knownRules (rowType (now (t .entry)) (now (s .entry)) 0) (now (v .entry))
-        (work.itemGiven given (now (r .entry)) defaults (now (name .entry)) (now (text .entry)))) ⌝ }
-{
-    match asked_rule(t, s, m, given, r, name, text) {
-        Named::Known(rule) => judge_asked(t, s, m, v, given, r, defaults, rule, text, budget, n),
-        Named::Unknown => Judged::Of(Verdict::Undefined, n),
-    }
-}
-
-// An assertion of the filter text f; its reference stands between quotes, or is missing.
-fn judge_component(
-    t: &[u8],
-    s: &[usize],
-    m: &[u64],
-    v: &[u8],
-    f: &[u8],
-    component: Component,
-    defaults: bool,
-    name: &[u8],
-    text: &[u8],
-    budget: usize,
-    n: usize,
-) -> Judged
-    requires ready { ⌜ work.Ready (tableLimits .chain) (now t) (now s) (now m) (now v) ⌝ }
-    requires within { ⌜ n ≤ budget ⌝ }
-    ensures { λ w. ⌜ w
-        ≡ work.charged budget n (outcome knownRules (rowType (now (t .entry)) (now (s .entry)) 0) (now (v .entry))
-        (work.itemAt (now (f .entry)) component defaults (now (name .entry)) (now (text .entry)))) ⌝ }
-{
-    match component {
-        Component::Missing => judge_item(t, s, m, v, false, f, defaults, name, text, budget, n),
-        Component::Quoted(a, b) => judge_item(
-            t,
-            s,
-            m,
-            v,
-            true,
-            assertion::within_quotes(f, a, b),
-            defaults,
-            name,
-            text,
-            budget,
-            n,
-        ),
-    }
-}
-
-// An assertion of the filter text f by the places of its parts.
-fn judge_parts(
-    t: &[u8],
-    s: &[usize],
-    m: &[u64],
+    w: &[u64; 256],
     v: &[u8],
     f: &[u8],
     p: Parts,
-    budget: usize,
-    n: usize,
+    rule: Rule,
+    text: &[u8],
+    tests: Tests,
 ) -> Judged
-    requires ready { ⌜ work.Ready (tableLimits .chain) (now t) (now s) (now m) (now v) ⌝ }
-    requires within { ⌜ n ≤ budget ⌝ }
-    ensures { λ w. ⌜ w
-        ≡ work.charged budget n (outcome knownRules (rowType (now (t .entry)) (now (s .entry)) 0) (now (v .entry)) (itemOf (now (f .entry)) p)) ⌝ }
+    requires ready { ⌜ work.Ready (now t) (now w) (now v) ⌝ }
+    requires known { ⌜ ruleOf knownRules (itemOf (now f) p .rule) ≡ some (meant rule) ⌝ }
+    requires value { ⌜ now text ≡ itemOf (now f) p .value ⌝ }
+    requires conforming { ⌜ conforms (meant rule) (now text) ≡ true ⌝ }
+    requires within { ⌜ tests .made ≤ tests .budget ⌝ }
+    ensures { λ j. ⌜ j
+        ≡ work.charged (tests .budget) (tests .made) (outcome knownRules (typeAt (now (t .entry)) 0) (now (v .entry)) (itemOf (now (f .entry)) p)) ⌝ }
 {
-    let name = octets::between(f, p.rule, p.rule_end);
-    let text = octets::between(f, p.value, p.value_end);
+    let mut q = [0usize; 72];
+    plan::plan_test(&mut q, rule, tests.budget);
     let component = p.component;
-    judge_component(t, s, m, v, f, component, p.defaults, name, text, budget, n)
+    let target = resolve_component(t, w, &mut q, f, component, text, p.defaults);
+    if !suits_target(rule, t, w, target) {
+        return Judged::Of(Verdict::Undefined, tests.made);
+    }
+    ended(along::test(t, w, &q, v, text, tests.made))
+}
+
+// An assertion with a rule.
+fn judge_ruled(
+    t: &[u8],
+    w: &[u64; 256],
+    v: &[u8],
+    f: &[u8],
+    p: Parts,
+    rule: Rule,
+    tests: Tests,
+) -> Judged
+    requires ready { ⌜ work.Ready (now t) (now w) (now v) ⌝ }
+    requires known { ⌜ ruleOf knownRules (itemOf (now f) p .rule) ≡ some (meant rule) ⌝ }
+    requires within { ⌜ tests .made ≤ tests .budget ⌝ }
+    ensures { λ j. ⌜ j
+        ≡ work.charged (tests .budget) (tests .made) (outcome knownRules (typeAt (now (t .entry)) 0) (now (v .entry)) (itemOf (now (f .entry)) p)) ⌝ }
+{
+    let text = octets::between(f, p.value, p.value_end);
+    if !rules::conforms(rule, text) {
+        return Judged::Of(Verdict::Undefined, tests.made);
+    }
+    judge_conforming(t, w, v, f, p, rule, text, tests)
+}
+
+// An assertion of the filter text f by the places of its parts.
+fn judge_parts(t: &[u8], w: &[u64; 256], v: &[u8], f: &[u8], p: Parts, tests: Tests) -> Judged
+    requires ready { ⌜ work.Ready (now t) (now w) (now v) ⌝ }
+    requires within { ⌜ tests .made ≤ tests .budget ⌝ }
+    ensures { λ j. ⌜ j
+        ≡ work.charged (tests .budget) (tests .made) (outcome knownRules (typeAt (now (t .entry)) 0) (now (v .entry)) (itemOf (now (f .entry)) p)) ⌝ }
+{
+    let Named::Known(rule) = rules::rule_of(octets::between(f, p.rule, p.rule_end)) else {
+        return Judged::Of(Verdict::Undefined, tests.made);
+    };
+    judge_ruled(t, w, v, f, p, rule, tests)
 }
 
 // ---- truths
@@ -254,7 +193,6 @@ fn placed(w: Judged, after: usize) -> Judging
     match w {
         Judged::Of(u, k) => Judging::At(u, k, after),
         Judged::Over => Judging::Over,
-        Judged::Misfit => Judging::Misfit,
     }
 }
 
@@ -274,7 +212,6 @@ fn inverted(w: Judging) -> Judging
     match w {
         Judging::At(u, k, after) => Judging::At(opposite(u), k, after),
         Judging::Over => Judging::Over,
-        Judging::Misfit => Judging::Misfit,
     }
 }
 
@@ -380,29 +317,27 @@ fn at_end(join: Join, p: Progress) -> Verdict
 // The assertion of an item.
 fn judge_assertion(
     t: &[u8],
-    s: &[usize],
-    m: &[u64],
+    w: &[u64; 256],
     v: &[u8],
     f: &[u8],
     at: usize,
     live: bool,
-    budget: usize,
-    n: usize,
+    tests: Tests,
 ) -> Judging
-    requires ready { ⌜ work.Ready (tableLimits .chain) (now t) (now s) (now m) (now v) ⌝ }
-    requires within { ⌜ n ≤ budget ⌝ }
+    requires ready { ⌜ work.Ready (now t) (now w) (now v) ⌝ }
+    requires within { ⌜ tests .made ≤ tests .budget ⌝ }
     ensures { λ w. ⌜ w
-        ≡ work.judgedFilter (outcome knownRules (rowType (now (t .entry)) (now (s .entry)) 0) (now (v .entry))) live budget n
+        ≡ work.judgedFilter (outcome knownRules (typeAt (now (t .entry)) 0) (now (v .entry))) live (tests .budget) (tests .made)
         (parsing.made item (assertionAt (now (f .entry)) at)) ⌝ }
 {
     let Assertion::Good(parts) = assertion::read_assertion(f, at) else {
-        return Judging::Misfit;
+        return Judging::Over;
     };
     let after = parts.after;
     if !live {
-        return Judging::At(Verdict::Undefined, n, after);
+        return Judging::At(Verdict::Undefined, tests.made, after);
     }
-    placed(judge_parts(t, s, m, v, f, parts, budget, n), after)
+    placed(judge_parts(t, w, v, f, parts, tests), after)
 }
 
 // An empty list.
@@ -419,7 +354,7 @@ fn follow(f: &[u8], join: Join, p: Progress, k: usize, q: usize) -> Turn
     match filter::read_tail(f, q) {
         Tail::Another(a) => Turn::Goes(p, k, a),
         Tail::Closed(a) => Turn::Ends(Judging::At(at_end(join, p), k, a)),
-        Tail::NoTail => Turn::Ends(Judging::Misfit),
+        Tail::NoTail => Turn::Ends(Judging::Over),
     }
 }
 
@@ -430,64 +365,70 @@ fn next_turn(f: &[u8], join: Join, p: Progress, w: Judging) -> Turn
     match w {
         Judging::At(u, k, q) => follow(f, join, joined(join, p, u), k, q),
         Judging::Over => Turn::Ends(Judging::Over),
-        Judging::Misfit => Turn::Ends(Judging::Misfit),
     }
 }
 
 // The filter at a place, judged or passed over, after n tests.
 fn judge_filter(
     t: &[u8],
-    s: &[usize],
-    m: &[u64],
+    w: &[u64; 256],
     v: &[u8],
     f: &[u8],
     at: usize,
     live: bool,
-    budget: usize,
-    n: usize,
+    tests: Tests,
 ) -> Judging
-    requires ready { ⌜ work.Ready (tableLimits .chain) (now t) (now s) (now m) (now v) ⌝ }
+    requires ready { ⌜ work.Ready (now t) (now w) (now v) ⌝ }
     requires read { ⌜ isSome (parsing.filterAt (now f) at) ≡ true ⌝ }
-    requires within { ⌜ n ≤ budget ⌝ }
+    requires within { ⌜ tests .made ≤ tests .budget ⌝ }
     ensures { λ w. ⌜ w
-        ≡ work.judgedFilter (outcome knownRules (rowType (now (t .entry)) (now (s .entry)) 0) (now (v .entry))) live budget n
+        ≡ work.judgedFilter (outcome knownRules (typeAt (now (t .entry)) 0) (now (v .entry))) live (tests .budget) (tests .made)
         (parsing.filterAt (now (f .entry)) at) ⌝ }
 {
     match filter::read_head(f, at) {
-        Head::Assertion(p) => judge_assertion(t, s, m, v, f, p, live, budget, n),
-        Head::EmptyList(join, p) => empty_list(join, live, n, p),
-        Head::OpenList(join, p) => judge_list(t, s, m, v, f, p, join, live, budget, n),
-        Head::Negation(p) => inverted(judge_filter(t, s, m, v, f, p, live, budget, n)),
-        Head::NoHead => Judging::Misfit,
+        Head::Assertion(p) => judge_assertion(t, w, v, f, p, live, tests),
+        Head::EmptyList(join, p) => empty_list(join, live, tests.made, p),
+        Head::OpenList(join, p) => judge_list(t, w, v, f, p, join, live, tests),
+        Head::Negation(p) => inverted(judge_filter(t, w, v, f, p, live, tests)),
+        Head::NoHead => Judging::Over,
     }
 }
 
 // The filters of a list, from one of them on, after n tests.
 fn judge_list(
     t: &[u8],
-    s: &[usize],
-    m: &[u64],
+    w: &[u64; 256],
     v: &[u8],
     f: &[u8],
     at: usize,
     join: Join,
     live: bool,
-    budget: usize,
-    n: usize,
+    tests: Tests,
 ) -> Judging
-    requires ready { ⌜ work.Ready (tableLimits .chain) (now t) (now s) (now m) (now v) ⌝ }
+    requires ready { ⌜ work.Ready (now t) (now w) (now v) ⌝ }
     requires read { ⌜ isSome (filtersAt (now f) at) ≡ true ⌝ }
-    requires within { ⌜ n ≤ budget ⌝ }
+    requires within { ⌜ tests .made ≤ tests .budget ⌝ }
     ensures { λ w. ⌜ w
-        ≡ work.judgedFilters (outcome knownRules (rowType (now (t .entry)) (now (s .entry)) 0) (now (v .entry))) (reportJoin join) (work.begun live) budget n
-        (filtersAt (now (f .entry)) at) ⌝ }
+        ≡ work.judgedFilters (outcome knownRules (typeAt (now (t .entry)) 0) (now (v .entry))) (reportJoin join) (work.begun live)
+        (tests .budget) (tests .made) (filtersAt (now (f .entry)) at) ⌝ }
 {
     let mut i = at;
-    let mut k = n;
+    let mut k = tests.made;
     let mut p = begin(live);
     loop {
-        let w = judge_filter(t, s, m, v, f, i, goes_on(p), budget, k);
-        match next_turn(f, join, p, w) {
+        let first = judge_filter(
+            t,
+            w,
+            v,
+            f,
+            i,
+            goes_on(p),
+            Tests {
+                made: k,
+                budget: tests.budget,
+            },
+        );
+        match next_turn(f, join, p, first) {
             Turn::Goes(next, c, a) => {
                 p = next;
                 k = c;
@@ -499,15 +440,14 @@ fn judge_list(
 }
 
 // The filter of a whole text.
-pub fn judge(t: &[u8], s: &[usize], m: &[u64], v: &[u8], f: &[u8], budget: usize) -> Judged
-    requires ready { ⌜ work.Ready (tableLimits .chain) (now t) (now s) (now m) (now v) ⌝ }
+pub fn judge(t: &[u8], w: &[u64; 256], v: &[u8], f: &[u8], budget: usize) -> Judged
+    requires ready { ⌜ work.Ready (now t) (now w) (now v) ⌝ }
     requires read { ⌜ isSome (parsing.filterAt (now f) 0) ≡ true ⌝ }
     ensures { λ w. ⌜ w
-        ≡ work.judgedText (outcome knownRules (rowType (now (t .entry)) (now (s .entry)) 0) (now (v .entry))) budget (parsing.filterAt (now (f .entry)) 0) ⌝ }
+        ≡ work.judgedText (outcome knownRules (typeAt (now (t .entry)) 0) (now (v .entry))) budget (parsing.filterAt (now (f .entry)) 0) ⌝ }
 {
-    match judge_filter(t, s, m, v, f, 0, true, budget, 0) {
+    match judge_filter(t, w, v, f, 0, true, Tests { made: 0, budget }) {
         Judging::At(u, k, _) => Judged::Of(u, k),
         Judging::Over => Judged::Over,
-        Judging::Misfit => Judged::Misfit,
     }
 }

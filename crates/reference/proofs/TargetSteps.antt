@@ -23,9 +23,6 @@ module _ (t s : List ℕ) (row : ℕ) (r : List ℕ) (a b n : ℕ) where
   pub find-start : first (namedOf t s row (part r a (b - a))) n 0 ≡ first (namedOf t s row (part r a (b - a))) (n - 0) 0
   find-start = first-start f n
 
-  pub find-count : (p : ℕ) → p ≡ rowAt s row → n ≡ membersAt t p → n ≡ membersAt t (rowAt s row)
-  find-count p e h = h ∙ ap (membersAt t) e
-
   module _ (j : ℕ) (inv : first (namedOf t s row (part r a (b - a))) n 0 ≡ first (namedOf t s row (part r a (b - a))) (n - j) j) where
     opens : j < n → first f (n - j) j ≡ pick (f j) j (first f (n - (j + 1)) (j + 1))
     opens l = let q : n - j ≡ suc (n - (j + 1)) = omega arith in ap (λ (y : ℕ). first f y j) q ∙ first-step f (n - (j + 1)) j

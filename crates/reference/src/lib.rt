@@ -7,13 +7,11 @@ ghost use lib.ListN.{length};
 ghost use Rattle.octets.specs.Octets.{same};
 ghost use Rattle.octets.specs.inner.Answers.{between};
 ghost use Rattle.octets.specs.Text.{isName, decimal};
-ghost use Rattle.rows.specs.Row.{nameAt, kindAt, rowAt, isList};
+ghost use Rattle.rows.specs.Row.{nameAt};
 ghost use Rattle.types.specs.Types.{unfilled};
-ghost use Rattle.types.specs.inner.Work.{Sound};
 ghost use Rattle.reference.specs.Reference as reference;
 ghost use Rattle.reference.specs.Reference.{name};
 ghost use Rattle.reference.specs.inner.Work as work;
-ghost use Rattle.rows.specs.Paper.{tableLimits};
 
 // One component identifier: a name or an index, or none. A number beyond the largest is held as the largest.
 enum Piece {
@@ -32,13 +30,6 @@ pub enum Step {
     FromEnd(usize, usize),
     Count(usize),
     All(usize),
-    End,
-    Bad,
-}
-
-// The place where the identifiers after a step start, if it has one.
-enum After {
-    At(usize),
     End,
     Bad,
 }
@@ -219,154 +210,4 @@ pub fn is_named(t: &[u8], p: usize, r: &[u8], a: usize, b: usize) -> bool
         return false;
     }
     has_name(field, x)
-}
-
-// The first member of a row with the name that stands from a to b; the number of members where none has it.
-fn find_named(t: &[u8], s: &[usize], row: usize, r: &[u8], a: usize, b: usize) -> usize
-    ensures { λ j. ⌜ j ≡ work.firstNamed (now (t .entry)) (now (s .entry)) row (between (now (r .entry)) a b) ⌝ }
-{
-    let n = rows::members_at(t, rows::row_at(s, row));
-    let mut j = 0;
-    while j < n {
-        if is_named(t, clauses::member_place(s, row, j), r, a, b) {
-            return j;
-        }
-        j += 1;
-    }
-    j
-}
-
-// ---- what a reference leads to
-// The place after a step.
-fn place_after(step: Step) -> After
-    ensures { λ r. ⌜ r ≡ work.placeAfter step ⌝ }
-{
-    match step {
-        Step::Name(_, _, n) => After::At(n),
-        Step::Position(_, n) => After::At(n),
-        Step::FromEnd(_, n) => After::At(n),
-        Step::Count(n) => After::At(n),
-        Step::All(n) => After::At(n),
-        Step::End => After::End,
-        Step::Bad => After::Bad,
-    }
-}
-
-// The member of a row with the name that stands from a to b.
-fn under_name(t: &[u8], s: &[usize], m: &[u64], row: usize, r: &[u8], a: usize, b: usize) -> Target
-    requires sound { ⌜ Sound (tableLimits .chain) (now t) (now s) (now m) ⌝ }
-    requires here { ⌜ row < length (now s) ⌝ }
-    ensures leads { λ g. ⌜ work.LeadsByName (tableLimits .chain) (now (t .entry)) (now (s .entry)) row (between (now (r .entry)) a b) g ⌝ }
-    ensures within { λ g. ⌜ work.rowWithin (now (s .entry)) g ≡ true ⌝ }
-{
-    let n = rows::members_at(t, rows::row_at(s, row));
-    let j = find_named(t, s, row, r, a, b);
-    if n <= j {
-        return Target::No;
-    }
-    Target::Row(clauses::member_type(t, s, row, j))
-}
-
-// One identifier on a SEQUENCE or CHOICE.
-fn under_members(t: &[u8], s: &[usize], m: &[u64], row: usize, r: &[u8], step: Step) -> Target
-    requires sound { ⌜ Sound (tableLimits .chain) (now t) (now s) (now m) ⌝ }
-    requires here { ⌜ row < length (now s) ⌝ }
-    ensures leads { λ g. ⌜ work.LeadsInMembers (tableLimits .chain) (now (t .entry)) (now (s .entry)) row (work.stepId (now (r .entry)) step) g ⌝ }
-    ensures within { λ g. ⌜ work.rowWithin (now (s .entry)) g ≡ true ⌝ }
-{
-    match step {
-        Step::Name(a, b, _) => under_name(t, s, m, row, r, a, b),
-        Step::Position(_, _) => Target::No,
-        Step::FromEnd(_, _) => Target::No,
-        Step::Count(_) => Target::No,
-        Step::All(_) => Target::No,
-        Step::End => Target::No,
-        Step::Bad => Target::No,
-    }
-}
-
-// One identifier on a SEQUENCE OF or SET OF.
-fn under_list(t: &[u8], s: &[usize], m: &[u64], row: usize, r: &[u8], step: Step) -> Target
-    requires sound { ⌜ Sound (tableLimits .chain) (now t) (now s) (now m) ⌝ }
-    requires here { ⌜ row < length (now s) ⌝ }
-    requires list { ⌜ isList (kindAt (now t) (rowAt (now s) row)) ≡ true ⌝ }
-    ensures leads { λ g. ⌜ work.LeadsInList (tableLimits .chain) (now (t .entry)) (now (s .entry)) row (work.stepId (now (r .entry)) step) g ⌝ }
-    ensures within { λ g. ⌜ work.rowWithin (now (s .entry)) g ≡ true ⌝ }
-{
-    let element = rows::element_at(t, rows::row_at(s, row));
-    match step {
-        Step::Name(_, _, _) => Target::No,
-        Step::Position(_, _) => Target::Row(element),
-        Step::FromEnd(_, _) => Target::Row(element),
-        Step::Count(_) => Target::Count,
-        Step::All(_) => Target::Row(element),
-        Step::End => Target::No,
-        Step::Bad => Target::No,
-    }
-}
-
-// One identifier on the type of a row.
-fn under_row(t: &[u8], s: &[usize], m: &[u64], row: usize, r: &[u8], step: Step) -> Target
-    requires sound { ⌜ Sound (tableLimits .chain) (now t) (now s) (now m) ⌝ }
-    requires here { ⌜ row < length (now s) ⌝ }
-    ensures leads { λ g. ⌜ work.LeadsFrom (tableLimits .chain) (now (t .entry)) (now (s .entry)) (Target.Row row) (work.stepId (now (r .entry)) step) g ⌝ }
-    ensures within { λ g. ⌜ work.rowWithin (now (s .entry)) g ≡ true ⌝ }
-{
-    let kind = rows::kind_at(t, rows::row_at(s, row));
-    if rows::is_group(kind) {
-        return under_members(t, s, m, row, r, step);
-    }
-    if rows::is_list(kind) {
-        return under_list(t, s, m, row, r, step);
-    }
-    Target::No
-}
-
-// One identifier on what those before it lead to.
-fn under_target(t: &[u8], s: &[usize], m: &[u64], target: Target, r: &[u8], step: Step) -> Target
-    requires sound { ⌜ Sound (tableLimits .chain) (now t) (now s) (now m) ⌝ }
-    requires here { ⌜ work.rowWithin (now s) target ≡ true ⌝ }
-    ensures leads { λ g. ⌜ work.LeadsFrom (tableLimits .chain) (now (t .entry)) (now (s .entry)) target (work.stepId (now (r .entry)) step) g ⌝ }
-    ensures within { λ g. ⌜ work.rowWithin (now (s .entry)) g ≡ true ⌝ }
-{
-    match target {
-        Target::Row(row) => under_row(t, s, m, row, r, step),
-        Target::Count => Target::No,
-        Target::No => Target::No,
-    }
-}
-
-// What a reference leads to from the type of row 0.
-fn follow(t: &[u8], s: &[usize], m: &[u64], r: &[u8]) -> Target
-    requires sound { ⌜ Sound (tableLimits .chain) (now t) (now s) (now m) ⌝ }
-    requires rows { ⌜ 0 < length (now s) ⌝ }
-    ensures leads { λ g. ⌜ work.LeadsAlong (tableLimits .chain) (now (t .entry)) (now (s .entry)) (work.idsAt (now (r .entry)) 0) g ⌝ }
-    ensures within { λ g. ⌜ work.rowWithin (now (s .entry)) g ≡ true ⌝ }
-{
-    let mut target = Target::Row(0);
-    let mut k = 0;
-    loop {
-        let step = next_id(r, k);
-        match place_after(step) {
-            After::At(n) => {
-                target = under_target(t, s, m, target, r, step);
-                k = n;
-            }
-            After::End => return target,
-            After::Bad => return Target::No,
-        }
-    }
-}
-
-// What a reference, where one is given, leads to from the type of row 0: a type or the count; nothing where it is malformed or not allowed.
-pub fn target_of(t: &[u8], s: &[usize], m: &[u64], given: bool, r: &[u8]) -> Target
-    requires sound { ⌜ Sound (tableLimits .chain) (now t) (now s) (now m) ⌝ }
-    requires rows { ⌜ 0 < length (now s) ⌝ }
-    ensures leads { λ g. ⌜ work.Leads (tableLimits .chain) (now (t .entry)) (now (s .entry)) given (now (r .entry)) g ⌝ }
-    ensures within { λ g. ⌜ work.rowWithin (now (s .entry)) g ≡ true ⌝ }
-{
-    if !given {
-        return Target::Row(0);
-    }
-    follow(t, s, m, r)
 }

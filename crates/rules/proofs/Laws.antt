@@ -1,4 +1,4 @@
--- What the layers above use: the rule for a row is the rule for its type, and what a conforming text and legal contents give the code to read.
+-- What the steps and the layers above use: the rule for the type of a row by the row, and what a conforming text and legal contents give the code to read.
 use mathlib.Core.Path.{_≡_, refl, sym, ap, ap₂, subst, _∙_}
 use mathlib.Core.Bool.{Bool, true, false, false≢true}
 use mathlib.Core.Option.{Option, none, some}
@@ -16,11 +16,13 @@ use Rattle.der.specs.Kind.{isString}
 use Rattle.der.specs.Contents.{legal}
 use Rattle.der.proofs.Laws.{integer-octets, legal-integer}
 use Rattle.der.proofs.MeaningLaws.{string-kinds}
-use Rattle.rows.specs.Row.{kindAt, elementAt, typeRowAt, modeAt, numberAt, isList, rowAt, membersAt}
+use Rattle.rows.specs.Paper.{tableLimits}
+use Rattle.rows.specs.Row.{kindAt, elementAt, typeRowAt, modeAt, numberAt, isList, membersAt}
 use Rattle.rows.proofs.KindLaws.{list-kinds}
 use Rattle.types.specs.Types.{untagged, explicit, implicit, Ty, basic, sequence, choice, listOf, Members, taggingOf, membersFrom, typed, typeFrom}
-use Rattle.types.specs.inner.Work.{Sound}
 use Rattle.types.proofs.TypeCases.{tagging-cases, member-tagging, members-none, members-more}
+use Rattle.table.specs.inner.Rows.{tableRows, placeAt, typeAt, membersAfter, memberKindAt}
+use Rattle.table.specs.inner.Words.{Worded}
 use Rattle.reference.specs.Allowed.{Target, ofType, ofCount}
 use Rattle.rules.specs.Rule.{Syntax, booleans, integers, objectIdentifiers, octetStrings, bitStrings, strings, times, Rule, present, equal, less, Known, ruleOf}
 use Rattle.rules.specs.Suits.{suitsKind, isUntagged, isStringType, allStrings, suitsTarget, suits}
@@ -29,8 +31,8 @@ use Rattle.times.specs.Asserted.{assertedTime}
 use Rattle.der.specs.declared.Time.{Time}
 use Rattle.rules.specs.Asserted.{Asserted, integer, time, assertedIn, assertedOf}
 use Rattle.rules.specs.Accepts.{acceptsCount}
-use Rattle.rules.specs.RuleFor.{Comparison, comparison, ifFor, ruleFor}
-use Rattle.rules.specs.inner.Answers.{conformsTo, conforms, timeOr, saidIn, said, isRead, isReadBy, acceptsCountRead, stringRow, suitsRow, ruleSuitsRow}
+use Rattle.rules.specs.RuleFor.{comparison, ifFor, ruleFor}
+use Rattle.rules.specs.inner.Answers.{conformsTo, conforms, timeOr, saidIn, said, isRead, isReadBy, acceptsCountRead, stringRow}
 
 -- ---- tests in a row, from the first and from the last
 front : (ℕ → Bool) → ℕ → ℕ → Bool
@@ -131,44 +133,38 @@ untagged-mode mode n = ap isUntagged (tagging-cases mode n) ∙ go (eqb mode 0) 
     go false true = refl
     go false false = refl
 
--- ---- the rule for a row of an admitted table is the rule for its type
-module _ (chain : ℕ) (t s m : List ℕ) (ok : Sound chain t s m) where
+-- ---- the rule for the type of a row of an admitted table, by the row
+module _ (t w : List ℕ) (ok : Worded t w) where
   stringAt : ℕ → Bool
-  stringAt a = both (eqb (modeAt t (rowAt s a)) 0) (isString (kindAt t (rowAt s (typeRowAt t (rowAt s a)))))
+  stringAt a = both (eqb (modeAt t (placeAt t a)) 0) (isString (memberKindAt t a))
 
-  string-type : (r : ℕ) → r < length s → isStringType (typeFrom chain t s r) ≡ isString (kindAt t (rowAt s r))
-  string-type r h = ap isStringType (ok .step r h) ∙ typed-string (kindAt t (rowAt s r)) (typeFrom chain t s (elementAt t (rowAt s r))) (membersFrom (typeFrom chain t s) t s (r + 1) (membersAt t (rowAt s r)))
+  string-type : (r : ℕ) → r < length (tableRows t) → isStringType (typeAt t r) ≡ isString (kindAt t (placeAt t r))
+  string-type r h = ap isStringType (ok .ready .sound .step r h) ∙ typed-string (kindAt t (placeAt t r)) (typeAt t (elementAt t (placeAt t r))) (membersAfter t r)
 
-  string-rows : (n a : ℕ) → ((j : ℕ) → j < n → typeRowAt t (rowAt s (a + j)) < length s) → allStrings (membersFrom (typeFrom chain t s) t s a n) ≡ front stringAt a n
+  string-rows : (n a : ℕ) → ((j : ℕ) → j < n → typeRowAt t (placeAt t (a + j)) < length (tableRows t)) → allStrings (membersFrom (typeFrom (tableLimits .chain) t (tableRows t)) t (tableRows t) a n) ≡ front stringAt a n
   unfolding allStrings front stringAt
-  string-rows zero a h = ap allStrings (members-none (typeFrom chain t s) t s a)
+  string-rows zero a h = ap allStrings (members-none (typeFrom (tableLimits .chain) t (tableRows t)) t (tableRows t) a)
   string-rows (suc n) a h =
       let z : a + 0 ≡ a = omega arith in
-      let first : typeRowAt t (rowAt s a) < length s = subst (λ (x : ℕ). typeRowAt t (rowAt s x) < length s) z (h 0 (omega arith)) in
-      ap allStrings (members-more (typeFrom chain t s) t s a n)
+      let first : typeRowAt t (placeAt t a) < length (tableRows t) = subst (λ (x : ℕ). typeRowAt t (placeAt t x) < length (tableRows t)) z (h 0 (omega arith)) in
+      ap allStrings (members-more (typeFrom (tableLimits .chain) t (tableRows t)) t (tableRows t) a n)
       ∙ ap₂ both
-      (ap₂ both (ap isUntagged (member-tagging t a (rowAt s a)) ∙ untagged-mode (modeAt t (rowAt s a)) (numberAt t (rowAt s a))) (string-type (typeRowAt t (rowAt s a)) first))
-      (string-rows n (a + 1) (λ j d. let e : a + suc j ≡ a + 1 + j = omega arith in subst (λ (x : ℕ). typeRowAt t (rowAt s x) < length s) e (h (suc j) (omega arith))))
+      (ap₂ both (ap isUntagged (member-tagging t a (placeAt t a)) ∙ untagged-mode (modeAt t (placeAt t a)) (numberAt t (placeAt t a))) (string-type (typeRowAt t (placeAt t a)) first))
+      (string-rows n (a + 1) (λ j d. let e : a + suc j ≡ a + 1 + j = omega arith in subst (λ (x : ℕ). typeRowAt t (placeAt t x) < length (tableRows t)) e (h (suc j) (omega arith))))
 
-  module _ (i : ℕ) (here : i < length s) where
-    alternatives : all (stringRow t s i) (membersAt t (rowAt s i)) ≡ allStrings (membersFrom (typeFrom chain t s) t s (i + 1) (membersAt t (rowAt s i)))
+  module _ (i : ℕ) (here : i < length (tableRows t)) where
+    alternatives : all (stringRow t i) (membersAt t (placeAt t i)) ≡ allStrings (membersAfter t i)
     unfolding stringRow stringAt
     alternatives =
-        all-front stringAt (stringRow t s i) (i + 1) (membersAt t (rowAt s i)) (λ j. refl)
-        ∙ sym (string-rows (membersAt t (rowAt s i)) (i + 1) (λ j d. ok .later .of-member i here j d .1))
+        all-front stringAt (stringRow t i) (i + 1) (membersAt t (placeAt t i)) (λ j. refl)
+        ∙ sym (string-rows (membersAt t (placeAt t i)) (i + 1) (λ j d. ok .ready .sound .later .of-member i here j d .1))
 
-    pub suits-syntax : (x : Syntax) → suitsRow x t s i ≡ suitsTarget x (ofType (typeFrom chain t s i))
-    unfolding suitsRow
+    pub suits-syntax : (x : Syntax) → pick (eqb (kindAt t (placeAt t i)) 13) (both (suitsKind x 8) (all (stringRow t i) (membersAt t (placeAt t i)))) (suitsKind x (kindAt t (placeAt t i)))
+        ≡ suitsTarget x (ofType (typeAt t i))
     suits-syntax x =
-        ap (λ (y : Bool). pick (eqb (kindAt t (rowAt s i)) 13) (both (suitsKind x 8) y) (suitsKind x (kindAt t (rowAt s i)))) alternatives
-        ∙ sym (typed-suits x (kindAt t (rowAt s i)) (typeFrom chain t s (elementAt t (rowAt s i))) (membersFrom (typeFrom chain t s) t s (i + 1) (membersAt t (rowAt s i))))
-        ∙ ap (λ (y : Ty). suitsTarget x (ofType y)) (sym (ok .step i here))
-
-    pub suits-row : (r : Rule) → ruleSuitsRow r t s i ≡ suits r (ofType (typeFrom chain t s i))
-    unfolding ruleSuitsRow suits
-    suits-row present = refl
-    suits-row (equal x) = suits-syntax x
-    suits-row (less x) = suits-syntax x
+        ap (λ (y : Bool). pick (eqb (kindAt t (placeAt t i)) 13) (both (suitsKind x 8) y) (suitsKind x (kindAt t (placeAt t i)))) alternatives
+        ∙ sym (typed-suits x (kindAt t (placeAt t i)) (typeAt t (elementAt t (placeAt t i))) (membersAfter t i))
+        ∙ ap (λ (y : Ty). suitsTarget x (ofType y)) (sym (ok .ready .sound .step i here))
 
 -- ---- what the code reads to the end
 module _ (t c : List ℕ) where
@@ -264,19 +260,3 @@ module _ (ks : List Known) (g : Target) (rule value : List ℕ) where
   pub rule-for-is : (r : Rule) → ruleOf ks rule ≡ some r → ruleFor ks g rule value ≡ pick (both (suits r g) (conforms r value)) (some (comparison r (said r value))) none
   unfolding ruleFor
   rule-for-is r e = rw e (if-for r)
-
-  pub rule-for-view : (x : Comparison) → ruleFor ks g rule value ≡ some x → (suits (x .rule) g ≡ true) × (conforms (x .rule) value ≡ true) × (x ≡ comparison (x .rule) (said (x .rule) value))
-  rule-for-view x q = go (ruleOf ks rule) refl
-    where
-      fitting : (r : Rule) (b : Bool) → both (suits r g) (conforms r value) ≡ b → pick b (some (comparison r (said r value))) none ≡ some x
-          → (suits (x .rule) g ≡ true) × (conforms (x .rule) value ≡ true) × (x ≡ comparison (x .rule) (said (x .rule) value))
-      fitting r true e p =
-          let is : x ≡ comparison r (said r value) = cc in
-          let same : r ≡ x .rule = sym (ap (λ (y : Comparison). y .rule) is) in
-          let w = both-true (suits r g) (conforms r value) e in
-          (subst (λ (y : Rule). suits y g ≡ true) same (w .0), subst (λ (y : Rule). conforms y value ≡ true) same (w .1), is ∙ ap (λ (y : Rule). comparison y (said y value)) same)
-      fitting r false e p = absurd (let z : _≡_ {A = ℕ} 0 1 = cc in omega arith)
-
-      go : (o : Option Rule) → ruleOf ks rule ≡ o → (suits (x .rule) g ≡ true) × (conforms (x .rule) value ≡ true) × (x ≡ comparison (x .rule) (said (x .rule) value))
-      go none e = absurd (let n : none ≡ some x = sym (rule-for-none e) ∙ q in let z : _≡_ {A = ℕ} 0 1 = cc in omega arith)
-      go (some r) e = fitting r (both (suits r g) (conforms r value)) refl (sym (rule-for-is r e) ∙ q)

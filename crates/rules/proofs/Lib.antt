@@ -1,3 +1,4 @@
+pub mod MemberRows
 pub mod NameSteps
 pub mod Steps
 pub mod Laws

@@ -3,7 +3,7 @@ use mathlib.Core.Path.{_≡_, refl, sym, ap, _∙_}
 use mathlib.Core.Bool.{Bool, true, false, not}
 use mathlib.Core.Option.{Option, none, some}
 use mathlib.Core.List.{List, [], _∷_}
-use Prim.Native.Nat.{ℕ}
+use Prim.Native.Nat.{ℕ, _<_, _+_}
 use borrow.Author.Tests.{eq-eqb, ne-eqb, eqb-true, not-true, not-false}
 use lib.Dec.{leb, eqb}
 use lib.ListN.{length}
@@ -22,16 +22,17 @@ use Rattle.strings.specs.Prepared.{prepared}
 use Rattle.times.specs.Asserted.{assertedTime}
 use Rattle.times.specs.inner.Answers.{against}
 use Rattle.der.specs.declared.Time.{Time}
-use Rattle.rows.specs.Row.{kindAt, modeAt, rowAt, membersAt}
-use Rattle.clauses.specs.Clauses.{memberPlace}
-use Rattle.clauses.specs.inner.Work.{memberType}
-use Rattle.reference.specs.Allowed.{ofCount}
+use Rattle.rows.specs.Row.{kindAt, modeAt, membersAt}
+use Rattle.table.specs.inner.Rows.{tableRows, placeAt, typeAt, memberKindAt}
+use Rattle.table.specs.inner.Words.{Worded}
+use Rattle.reference.specs.Allowed.{ofType, ofCount}
 use Rattle.rules.specs.Suits.{suitsKind, suitsTarget, suits}
 use Rattle.rules.specs.Asserted.{isTruth}
 use Rattle.rules.specs.Accepts.{isEqual, isLess, acceptsContents, acceptsCount}
-use Rattle.rules.specs.inner.Answers.{syntaxOf, meant, conformsTo, conforms, timeOr, saidIn, said, isRead, isReadBy, acceptsContentsRead, acceptsCountRead, stringRow, suitsRow, ruleSuitsRow}
+use Rattle.rules.specs.inner.Answers.{syntaxOf, meant, conformsTo, conforms, timeOr, saidIn, said, isRead, isReadBy, acceptsContentsRead, acceptsCountRead, stringRow}
 use Rattle.rules.specs.declared.Syntax as syntax
 use Rattle.rules.specs.declared.Rule as rule
+use Rattle.rules.proofs.Laws.{suits-syntax}
 
 -- ---- conforming
 module _ (t : List ℕ) (u : Bool) where
@@ -226,47 +227,47 @@ module _ (x : syntax.Syntax) (k : ℕ) where
   pub kind-times : x ≡ syntax.Syntax.Times → eqb k 11 ≡ suitsKind (syntaxOf x) k
   kind-times e = rw e
 
-module _ (t s : List ℕ) (i j p m : ℕ) (place : p ≡ memberPlace s i j) (mode : m ≡ modeAt t p) where
-  tag : m ≡ modeAt t (memberPlace s i j)
+module _ (t : List ℕ) (i j p m : ℕ) (place : p ≡ placeAt t (i + 1 + j)) (mode : m ≡ modeAt t p) where
+  tag : m ≡ modeAt t (placeAt t (i + 1 + j))
   tag = mode ∙ ap (modeAt t) place
 
-  pub row-tagged : (m ≡ 0 → ⊥) → false ≡ stringRow t s i j
+  pub row-tagged : (m ≡ 0 → ⊥) → false ≡ stringRow t i j
   unfolding stringRow
-  row-tagged n = rw (ne-eqb (modeAt t (memberPlace s i j)) 0 (λ e. n (tag ∙ e)))
+  row-tagged n = rw (ne-eqb (modeAt t (placeAt t (i + 1 + j))) 0 (λ e. n (tag ∙ e)))
 
-  pub row-string : (a b k : ℕ) (r : Bool) → m ≡ 0 → a ≡ memberType t s i j → b ≡ rowAt s a → k ≡ kindAt t b → r ≡ isString k → r ≡ stringRow t s i j
+  pub row-string : (k : ℕ) (r : Bool) → m ≡ 0 → k ≡ memberKindAt t (i + 1 + j) → r ≡ isString k → r ≡ stringRow t i j
   unfolding stringRow
-  row-string a b k r z ea eb ek e = rw (eq-eqb (modeAt t (memberPlace s i j)) 0 (sym tag ∙ z)) (e ∙ ap isString (ek ∙ ap (kindAt t) (eb ∙ ap (rowAt s) ea)))
+  row-string k r z ek e = rw (eq-eqb (modeAt t (placeAt t (i + 1 + j))) 0 (sym tag ∙ z)) (e ∙ ap isString ek)
 
-module _ (x : syntax.Syntax) (t s : List ℕ) (i p k : ℕ) (place : p ≡ rowAt s i) (kind : k ≡ kindAt t p) where
-  here : k ≡ kindAt t (rowAt s i)
-  here = kind ∙ ap (kindAt t) place
+module _ (x : syntax.Syntax) (t w : List ℕ) (i k : ℕ) (ok : Worded t w) (in-rows : i < length (tableRows t)) (here : k ≡ kindAt t (placeAt t i)) where
+  abbrev By : Bool → Bool → Bool
+  By c b = pick c (both (suitsKind (syntaxOf x) 8) b) (suitsKind (syntaxOf x) (kindAt t (placeAt t i)))
 
-  pub suits-basic : (r : Bool) → (k ≡ 13 → ⊥) → r ≡ suitsKind (syntaxOf x) k → r ≡ suitsRow (syntaxOf x) t s i
-  unfolding suitsRow
-  suits-basic r n e = rw (ne-eqb (kindAt t (rowAt s i)) 13 (λ q. n (here ∙ q))) (e ∙ ap (suitsKind (syntaxOf x)) here)
+  by-row : (r : Bool) → r ≡ By (eqb (kindAt t (placeAt t i)) 13) (all (stringRow t i) (membersAt t (placeAt t i))) → r ≡ suitsTarget (syntaxOf x) (ofType (typeAt t i))
+  by-row r e = e ∙ suits-syntax t w ok i in-rows (syntaxOf x)
+
+  pub suits-basic : (r : Bool) → (k ≡ 13 → ⊥) → r ≡ suitsKind (syntaxOf x) k → r ≡ suitsTarget (syntaxOf x) (ofType (typeAt t i))
+  suits-basic r n e = by-row r (rw (ne-eqb (kindAt t (placeAt t i)) 13 (λ q. n (here ∙ q))) (e ∙ ap (suitsKind (syntaxOf x)) here))
 
   module _ (u : Bool) (c : k ≡ 13) (told : u ≡ suitsKind (syntaxOf x) 8) where
-    pub suits-other : not u ≡ true → false ≡ suitsRow (syntaxOf x) t s i
-    unfolding suitsRow
-    suits-other q = rw (eq-eqb (kindAt t (rowAt s i)) 13 (sym here ∙ c), sym told ∙ not-true u q)
+    pub suits-other : not u ≡ true → false ≡ suitsTarget (syntaxOf x) (ofType (typeAt t i))
+    suits-other q = by-row false (rw (eq-eqb (kindAt t (placeAt t i)) 13 (sym here ∙ c), sym told ∙ not-true u q))
 
-    pub suits-choice : (r : Bool) (n : ℕ) → not u ≡ false → n ≡ membersAt t p → r ≡ all (stringRow t s i) n → r ≡ suitsRow (syntaxOf x) t s i
-    unfolding suitsRow
-    suits-choice r n q m e = rw (eq-eqb (kindAt t (rowAt s i)) 13 (sym here ∙ c), sym told ∙ not-false u q) (e ∙ ap (all (stringRow t s i)) (m ∙ ap (membersAt t) place))
+    pub suits-choice : (r : Bool) (n : ℕ) → not u ≡ false → n ≡ membersAt t (placeAt t i) → r ≡ all (stringRow t i) n → r ≡ suitsTarget (syntaxOf x) (ofType (typeAt t i))
+    suits-choice r n q m e = by-row r (rw (eq-eqb (kindAt t (placeAt t i)) 13 (sym here ∙ c), sym told ∙ not-false u q) (e ∙ ap (all (stringRow t i)) m))
 
 module _ (x : rule.Rule) where
-  module _ (t s : List ℕ) (i : ℕ) where
-    pub rule-present : x ≡ rule.Rule.Present → true ≡ ruleSuitsRow (meant x) t s i
-    unfolding ruleSuitsRow
+  module _ (t : List ℕ) (i : ℕ) where
+    pub rule-present : x ≡ rule.Rule.Present → true ≡ suits (meant x) (ofType (typeAt t i))
+    unfolding suits
     rule-present e = rw e
 
-    pub rule-equal : (r : Bool) (y : syntax.Syntax) → x ≡ rule.Rule.Equal y → r ≡ suitsRow (syntaxOf y) t s i → r ≡ ruleSuitsRow (meant x) t s i
-    unfolding ruleSuitsRow
+    pub rule-equal : (r : Bool) (y : syntax.Syntax) → x ≡ rule.Rule.Equal y → r ≡ suitsTarget (syntaxOf y) (ofType (typeAt t i)) → r ≡ suits (meant x) (ofType (typeAt t i))
+    unfolding suits
     rule-equal r y e h = rw e h
 
-    pub rule-less : (r : Bool) (y : syntax.Syntax) → x ≡ rule.Rule.Less y → r ≡ suitsRow (syntaxOf y) t s i → r ≡ ruleSuitsRow (meant x) t s i
-    unfolding ruleSuitsRow
+    pub rule-less : (r : Bool) (y : syntax.Syntax) → x ≡ rule.Rule.Less y → r ≡ suitsTarget (syntaxOf y) (ofType (typeAt t i)) → r ≡ suits (meant x) (ofType (typeAt t i))
+    unfolding suits
     rule-less r y e h = rw e h
 
   pub counted-present : x ≡ rule.Rule.Present → true ≡ suits (meant x) ofCount

@@ -1,14 +1,18 @@
 // Matching rules: known rules, which rule is for which type, conforming value texts, acceptance.
 use der::Kind;
 ghost use mathlib.Core.Path.{_≡_};
+ghost use Prim.Native.Nat.{_<_};
 ghost use lib.Dec.{eqb};
-ghost use lib.ListN.{drop};
+ghost use lib.ListN.{length, drop};
 ghost use Rattle.octets.specs.Pick.{pick, all};
 ghost use Rattle.octets.specs.Octets.{same, bytes};
 ghost use Rattle.octets.specs.Text.{lower};
 ghost use Rattle.der.specs.Kind.{isString};
 ghost use Rattle.der.specs.Meaning.{booleanOf};
-ghost use Rattle.reference.specs.Allowed.{ofCount};
+ghost use Rattle.rows.specs.Row.{membersAt};
+ghost use Rattle.table.specs.inner.Rows.{tableRows, placeAt, typeAt};
+ghost use Rattle.table.specs.inner.Words.{Worded};
+ghost use Rattle.reference.specs.Allowed.{ofType, ofCount};
 ghost use Rattle.rules.specs.Rule.{sameName, knownRules, ruleOf};
 ghost use Rattle.rules.specs.Suits as suiting;
 ghost use Rattle.rules.specs.Asserted.{isTruth};
@@ -255,21 +259,29 @@ fn suits_kind(x: Syntax, k: u8) -> bool
 }
 
 // Whether alternative j of row i has no tag and is a string.
-fn is_string_row(t: &[u8], s: &[usize], i: usize, j: usize) -> bool
-    ensures { λ r. ⌜ r ≡ answers.stringRow (now (t .entry)) (now (s .entry)) i j ⌝ }
+fn is_string_row(t: &[u8], w: &[u64; 256], i: usize, j: usize) -> bool
+    requires worded { ⌜ Worded (now t) (now w) ⌝ }
+    requires here { ⌜ i < length (tableRows (now t)) ⌝ }
+    requires one { ⌜ j < membersAt (now t) (placeAt (now t) i) ⌝ }
+    ensures { λ r. ⌜ r ≡ answers.stringRow (now (t .entry)) i j ⌝ }
 {
-    if rows::mode_at(t, clauses::member_place(s, i, j)) != 0 {
+    let row = i + 1 + j;
+    if rows::mode_at(t, table::place(t, w, row)) != 0 {
         return false;
     }
-    is_string(rows::kind_at(t, rows::row_at(s, clauses::member_type(t, s, i, j))))
+    is_string(table::kind_of_type(t, w, row))
 }
 
-fn all_strings(t: &[u8], s: &[usize], i: usize, n: usize) -> bool
-    ensures { λ r. ⌜ r ≡ all (answers.stringRow (now (t .entry)) (now (s .entry)) i) n ⌝ }
+// Whether all n alternatives of row i are such.
+fn all_strings(t: &[u8], w: &[u64; 256], i: usize, n: usize) -> bool
+    requires worded { ⌜ Worded (now t) (now w) ⌝ }
+    requires here { ⌜ i < length (tableRows (now t)) ⌝ }
+    requires count { ⌜ n ≡ membersAt (now t) (placeAt (now t) i) ⌝ }
+    ensures { λ r. ⌜ r ≡ all (answers.stringRow (now (t .entry)) i) n ⌝ }
 {
     let mut j = 0;
     while j < n {
-        if !is_string_row(t, s, i, j) {
+        if !is_string_row(t, w, i, j) {
             return false;
         }
         j += 1;
@@ -277,28 +289,31 @@ fn all_strings(t: &[u8], s: &[usize], i: usize, n: usize) -> bool
     true
 }
 
-fn suits_row(x: Syntax, t: &[u8], s: &[usize], i: usize) -> bool
-    ensures { λ r. ⌜ r ≡ answers.suitsRow (answers.syntaxOf x) (now (t .entry)) (now (s .entry)) i ⌝ }
+fn suits_row(x: Syntax, t: &[u8], w: &[u64; 256], i: usize) -> bool
+    requires worded { ⌜ Worded (now t) (now w) ⌝ }
+    requires here { ⌜ i < length (tableRows (now t)) ⌝ }
+    ensures { λ r. ⌜ r ≡ suiting.suitsTarget (answers.syntaxOf x) (ofType (typeAt (now (t .entry)) i)) ⌝ }
 {
-    let p = rows::row_at(s, i);
-    let k = rows::kind_at(t, p);
+    let k = table::kind(t, w, i);
     if k != Kind::CHOICE {
         return suits_kind(x, k);
     }
     if !suits_kind(x, Kind::UTF8_STRING) {
         return false;
     }
-    all_strings(t, s, i, rows::members_at(t, p))
+    all_strings(t, w, i, table::members(t, w, i))
 }
 
-// Whether a rule is for the type that row i describes; s is the list of the rows' places.
-pub fn suits(rule: Rule, t: &[u8], s: &[usize], i: usize) -> bool
-    ensures { λ r. ⌜ r ≡ answers.ruleSuitsRow (answers.meant rule) (now (t .entry)) (now (s .entry)) i ⌝ }
+// Whether a rule is for the type of row i.
+pub fn suits(rule: Rule, t: &[u8], w: &[u64; 256], i: usize) -> bool
+    requires worded { ⌜ Worded (now t) (now w) ⌝ }
+    requires here { ⌜ i < length (tableRows (now t)) ⌝ }
+    ensures { λ r. ⌜ r ≡ suiting.suits (answers.meant rule) (ofType (typeAt (now (t .entry)) i)) ⌝ }
 {
     match rule {
         Rule::Present => true,
-        Rule::Equal(x) => suits_row(x, t, s, i),
-        Rule::Less(x) => suits_row(x, t, s, i),
+        Rule::Equal(x) => suits_row(x, t, w, i),
+        Rule::Less(x) => suits_row(x, t, w, i),
     }
 }
 

@@ -1,10 +1,3 @@
 pub mod Standing
 pub mod Agreeing
 pub mod Spreading
-pub mod OpenSteps
-pub mod ListSteps
-pub mod FindSteps
-pub mod ChosenSteps
-pub mod LocateSteps
-pub mod KeepSteps
-pub mod Locating

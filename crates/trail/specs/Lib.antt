@@ -1,4 +1,3 @@
 pub mod Opened
 pub mod Trail
 pub mod Spread
-pub mod inner

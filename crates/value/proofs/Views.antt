@@ -16,6 +16,7 @@ use Rattle.der.specs.Contents.{legal}
 use Rattle.der.specs.declared.Inside.{Inside}
 use Rattle.types.specs.Types.{Tagging, untagged, explicit, implicit, Member, Ty, basic, sequence, listOf, Members}
 use Rattle.types.specs.Begins.{isMandatory}
+use Rattle.value.specs.inner.Decodes.{isBare}
 use Rattle.value.specs.Value.{spotAt, spotOf, leaf, fields, chosen, elements, Fields, present, absent, Values, endValues, next}
 use Rattle.value.specs.Order.{rising}
 use Rattle.value.specs.Decode.{Decoded, decoded, tagOctet, inside, inWrapper, leafOf, fieldsOf, elementsOf, choiceOf, isDefault, unlessDefault}
@@ -39,13 +40,6 @@ pick-view false a b e = none-some b e
 pub opened-view : {A : Type 0} (i : Inside) (f : ℕ → ℕ → Option A) (a : A) → opened i f ≡ some a → (start : ℕ) × (n : ℕ) × (i ≡ Inside.Of start n) × (f start n ≡ some a)
 opened-view Inside.Misfit f a e = none-some a e
 opened-view (Inside.Of start n) f a e = (start, n, refl, e)
-
--- ---- tag modes
--- without a wrapper
-abbrev pub isBare : Tagging → Bool
-isBare untagged = true
-isBare (implicit n) = true
-isBare (explicit n) = false
 
 -- ---- values
 module _ (v : List ℕ) (at end : ℕ) (d : Decoded) where

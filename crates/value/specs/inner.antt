@@ -1,2 +1,3 @@
+pub mod Decodes
 pub mod Lies
 pub mod Work

@@ -107,7 +107,7 @@ fn begins_with(t: &[u8], w: &[u64; 256], row: usize, o: u8) -> bool
 }
 
 // Whether it can begin with the octet at i, which has to lie before stop.
-fn member_starts(t: &[u8], w: &[u64; 256], v: &[u8], row: usize, stop: usize, i: usize) -> bool
+pub fn member_starts(t: &[u8], w: &[u64; 256], v: &[u8], row: usize, stop: usize, i: usize) -> bool
     requires worded { ⌜ Worded (now t) (now w) ⌝ }
     requires here { ⌜ row < length (tableRows (now t)) ⌝ }
     requires member { ⌜ MemberRow (now t) row ⌝ }

@@ -8,6 +8,6 @@ is-bit-text-spec =
     tie.close (tie.spec
     (λ c κs. search needs)  -- in-quotes-requires
     (λ c. search bit-unquoted)  -- returns
-    (λ c κs. search needs)  -- digits-requires
+    (λ c κs. search needs)  -- operand-requires
     (λ c κs. search needs)  -- all-bits-requires
     (λ c. search bit-digits))  -- returns-2

@@ -8,6 +8,6 @@ is-hex-string-spec =
     tie.close (tie.spec
     (λ c κs. search needs)  -- in-quotes-requires
     (λ c. search hex-unquoted)  -- returns
-    (λ c κs. search needs)  -- digits-requires
+    (λ c κs. search needs)  -- operand-requires
     (λ c κs. search needs)  -- all-hex-requires
     (λ c. search hex-digits))  -- returns-2

@@ -7,5 +7,5 @@ pub is-octets-spec : {M : Type 1} → statement M
 is-octets-spec = tie.close (tie.spec
     (λ c κs. search needs)  -- is-hex-string-requires
     (λ c. search octets-bad)  -- returns
-    (λ c κs. search needs)  -- digits-requires
+    (λ c κs. search needs)  -- operand-requires
     (λ c. search octets-even))  -- returns-2

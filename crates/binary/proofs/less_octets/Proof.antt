@@ -6,7 +6,6 @@ use Rattle.binary.proofs.less_octets.Tie as tie
 pub less-octets-spec : {M : Type 1} → statement M
 less-octets-spec =
     tie.close (tie.spec
-    (λ c κs. search needs)  -- digits-requires
-    (λ c κs. search needs)  -- order-octets-requires
-    (λ c κs. search needs)  -- is-less-requires
+    (λ c κs. search needs)  -- operand-requires
+    (λ c κs. search needs)  -- less-hex-requires
     (λ c. search less-octets-is))  -- returns

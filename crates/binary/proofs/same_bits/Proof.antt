@@ -9,9 +9,9 @@ same-bits-spec =
     (tie.spec
     (λ c. search bits-too-long)  -- returns
     (λ c κs. search needs)  -- is-bit-text-requires
-    (λ c κs. search needs)  -- digits-requires
-    (λ c κs. search needs)  -- same-bit-list-requires
+    (λ c κs. search needs)  -- operand-requires
+    (λ c κs. search needs)  -- same-bits-bin-requires
     (λ c. search bits-of-text)  -- returns-2
-    (λ c κs. search needs)  -- digits-requires-2
-    (λ c κs. search needs)  -- same-bit-list-requires-2
+    (λ c κs. search needs)  -- operand-requires-2
+    (λ c κs. search needs)  -- same-bits-hex-requires
     (λ c. search bits-of-hex))  -- returns-3

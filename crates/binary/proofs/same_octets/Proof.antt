@@ -6,7 +6,6 @@ use Rattle.binary.proofs.same_octets.Tie as tie
 pub same-octets-spec : {M : Type 1} → statement M
 same-octets-spec =
     tie.close (tie.spec
-    (λ c κs. search needs)  -- digits-requires
-    (λ c κs. search needs)  -- order-octets-requires
-    (λ c κs. search needs)  -- is-same-requires
+    (λ c κs. search needs)  -- operand-requires
+    (λ c κs. search needs)  -- same-hex-requires
     (λ c. search same-octets-is))  -- returns

@@ -1,4 +1,4 @@
-use Rattle.engine.proofs.AskSteps.{judged-of, judged-over, judged-fault}
+use Rattle.engine.proofs.AskSteps.{judged-of, judged-over}
 use borrow.Author.Needs.{needs}
 use Rattle.engine.proofs.ask_judged.Statement.{statement}
 use Rattle.engine.proofs.ask_judged.Tie as tie
@@ -11,7 +11,5 @@ ask-judged-spec =
     (λ c. search needs)  -- enum-known-u
     (λ c κs. search needs)  -- settled-requires
     (λ c. search needs)  -- enum-told
-    (λ c. search needs)  -- enum-told-2
     (λ c. search judged-of)  -- returns
-    (λ c. search judged-over)  -- returns-2
-    (λ c. search judged-fault))  -- returns-3
+    (λ c. search judged-over))  -- returns-2

@@ -1,5 +1,4 @@
 use Rattle.engine.proofs.AskSteps.{typed-malformed, typed-bad, typed-ready, typed-read, typed-judged}
-use Rattle.value.proofs.EntrySteps.{stored-here}
 use borrow.Author.Needs.{needs}
 use Rattle.engine.proofs.ask_typed.Statement.{statement}
 use Rattle.engine.proofs.ask_typed.Tie as tie
@@ -13,6 +12,6 @@ ask-typed-spec =
     (λ c. search needs)  -- enum-told-2
     (λ c. search typed-malformed)  -- returns
     (λ c κs. search needs)  -- is-stored-requires
-    (λ c. search (typed-bad, stored-here))  -- returns-2
+    (λ c. search typed-bad)  -- returns-2
     (λ c κs. (search typed-ready, search typed-read))  -- ask-judged-requires
-    (λ c. search (typed-judged, stored-here)))  -- returns-3
+    (λ c. search typed-judged))  -- returns-3

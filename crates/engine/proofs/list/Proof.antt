@@ -1,4 +1,4 @@
-use Rattle.engine.proofs.ListSteps.{sizes-not, small-here, sizes-are}
+use Rattle.engine.proofs.ListSteps.{sizes-not, sizes-are}
 use borrow.Author.Needs.{needs}
 use Rattle.engine.proofs.list.Statement.{statement}
 use Rattle.engine.proofs.list.Tie as tie
@@ -9,6 +9,6 @@ list-spec =
     (tie.spec
     (λ c κs. search needs)  -- listing-fits-requires
     (λ c. search sizes-not)  -- returns
-    (λ c κs. search small-here)  -- list-admitted-requires
+    (λ c κs. search needs)  -- list-admitted-requires
     (λ c. search needs)  -- same-length
     (λ c. search sizes-are))  -- returns-2

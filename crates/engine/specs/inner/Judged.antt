@@ -14,4 +14,3 @@ settledAs Verdict.Undefined n = Answer.Undefined n
 abbrev pub judgedReport : Judged → Report
 judgedReport (Judged.Of u n) = report (settledAs u n)
 judgedReport Judged.Over = refused 5
-judgedReport Judged.Misfit = refused 7

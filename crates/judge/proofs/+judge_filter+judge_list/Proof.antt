@@ -4,7 +4,7 @@ use Prim.Native.Nat.{ℕ, _<_, _+_, _-_, _*_}
 use lib.ListN.{length}
 use borrow.Fn.Kinds.{In}
 use borrow.Fn.PlainCycle.{Measures, is, falls, and}
-use Rattle.types.specs.Types.{typeFrom}
+use Rattle.table.specs.inner.Rows.{typeAt}
 use Rattle.filter.specs.inner.Answers.{reportJoin}
 use Rattle.judge.specs.inner.Work.{begun}
 use Rattle.judge.proofs.judge_filter.Reads as judge-filter
@@ -22,26 +22,25 @@ use Rattle.judge.proofs.judge_assertion.Reads as judge-assertion-reads
 use Rattle.judge.proofs.next_turn.Reads as next-turn-reads
 use Rattle.judge.proofs.+judge_filter+judge_list.{statement}
 use Rattle.judge.proofs.+judge_filter+judge_list.Tie.{close}
-use Rattle.rows.specs.Paper.{tableLimits}
 
 -- the text that is left falls
-abbrev μ-judge-filter : Measures 5 judge-filter-kinds.ps ℕ
-μ-judge-filter κs a = 2 * (length (a .1 .1 .1 .1 .0 .now) - a .1 .1 .1 .1 .1 .0)
+abbrev μ-judge-filter : Measures 4 judge-filter-kinds.ps ℕ
+μ-judge-filter κs a = 2 * (length (a .1 .1 .1 .0 .now) - a .1 .1 .1 .1 .0)
 
-abbrev μ-judge-list : Measures 5 judge-list-kinds.ps ℕ
-μ-judge-list κs a = 2 * (length (a .1 .1 .1 .1 .0 .now) - a .1 .1 .1 .1 .1 .0) + 1
+abbrev μ-judge-list : Measures 4 judge-list-kinds.ps ℕ
+μ-judge-list κs a = 2 * (length (a .1 .1 .1 .0 .now) - a .1 .1 .1 .1 .0) + 1
 
-abbrev judge-filter-at : ℕ → In 5 judge-filter-kinds.ps
-judge-filter-at t = and 5 judge-filter-kinds.ps (is 5 judge-filter-kinds.ps μ-judge-filter t) judge-filter.Pre
+abbrev judge-filter-at : ℕ → In 4 judge-filter-kinds.ps
+judge-filter-at t = and 4 judge-filter-kinds.ps (is 4 judge-filter-kinds.ps μ-judge-filter t) judge-filter.Pre
 
-abbrev judge-filter-below : ℕ → In 5 judge-filter-kinds.ps
-judge-filter-below t = and 5 judge-filter-kinds.ps (falls 5 judge-filter-kinds.ps _<_ μ-judge-filter t) judge-filter.Pre
+abbrev judge-filter-below : ℕ → In 4 judge-filter-kinds.ps
+judge-filter-below t = and 4 judge-filter-kinds.ps (falls 4 judge-filter-kinds.ps _<_ μ-judge-filter t) judge-filter.Pre
 
-abbrev judge-list-at : ℕ → In 5 judge-list-kinds.ps
-judge-list-at t = and 5 judge-list-kinds.ps (is 5 judge-list-kinds.ps μ-judge-list t) judge-list.Pre
+abbrev judge-list-at : ℕ → In 4 judge-list-kinds.ps
+judge-list-at t = and 4 judge-list-kinds.ps (is 4 judge-list-kinds.ps μ-judge-list t) judge-list.Pre
 
-abbrev judge-list-below : ℕ → In 5 judge-list-kinds.ps
-judge-list-below t = and 5 judge-list-kinds.ps (falls 5 judge-list-kinds.ps _<_ μ-judge-list t) judge-list.Pre
+abbrev judge-list-below : ℕ → In 4 judge-list-kinds.ps
+judge-list-below t = and 4 judge-list-kinds.ps (falls 4 judge-list-kinds.ps _<_ μ-judge-list t) judge-list.Pre
 
 abbrev judge-filter-claims : ℕ → judge-filter-lts.Claims
 judge-filter-claims t =
@@ -51,10 +50,10 @@ abbrev judge-list-claims : ℕ → judge-list-lts.Claims
 judge-list-claims t = (begin-reads.Asked, begin-reads.Learnt, goes-on-reads.Asked, goes-on-reads.Learnt, judge-filter-below t, judge-filter.Post, next-turn-reads.Asked, next-turn-reads.Learnt)
 
 abbrev judge-list-Inv-loop : judge-list-lts.InvT-loop
-judge-list-Inv-loop t s m v f at join live budget n i₀ k₀ p₀ i k p = Listing (typeFrom (tableLimits .chain) t s 0) v f (reportJoin join) (begun live) budget n at p k i
+judge-list-Inv-loop t w v f at join live tests i₀ k₀ p₀ i k p = Listing (typeAt t 0) v f (reportJoin join) (begun live) (tests .budget) (tests .made) at p k i
 
 abbrev judge-list-μ-loop : judge-list-lts.MeasureT-loop
-judge-list-μ-loop t s m v f at join live budget n i₀ k₀ p₀ i k p = length f - i
+judge-list-μ-loop t w v f at join live tests i₀ k₀ p₀ i k p = length f - i
 
 pub +judge-filter+judge-list-spec : {M : Type 1} → statement M
 +judge-filter+judge-list-spec =

@@ -1,4 +1,4 @@
-use Rattle.judge.proofs.FilterSteps.{text-at, text-over, text-fault}
+use Rattle.judge.proofs.FilterSteps.{text-at, text-over}
 use borrow.Author.Needs.{needs}
 use Rattle.judge.proofs.judge.Statement.{statement}
 use Rattle.judge.proofs.judge.Tie as tie
@@ -10,7 +10,5 @@ judge-spec =
     (λ c κs. search needs)  -- judge-filter-requires
     (λ c. search needs)  -- enum-known-u
     (λ c. search needs)  -- enum-told
-    (λ c. search needs)  -- enum-told-2
     (λ c. search text-at)  -- returns
-    (λ c. search text-over)  -- returns-2
-    (λ c. search text-fault))  -- returns-3
+    (λ c. search text-over))  -- returns-2

@@ -1,4 +1,4 @@
-use Rattle.judge.proofs.FilterSteps.{turn-at, turn-over, turn-fault}
+use Rattle.judge.proofs.FilterSteps.{turn-at, turn-over}
 use borrow.Author.Needs.{needs}
 use Rattle.judge.proofs.next_turn.Statement.{statement}
 use Rattle.judge.proofs.next_turn.Tie as tie
@@ -11,7 +11,5 @@ next-turn-spec =
     (λ c κs. search needs)  -- joined-requires
     (λ c κs. search needs)  -- follow-requires
     (λ c. search needs)  -- enum-told
-    (λ c. search needs)  -- enum-told-2
     (λ c. search turn-at)  -- returns
-    (λ c. search turn-over)  -- returns-2
-    (λ c. search turn-fault))  -- returns-3
+    (λ c. search turn-over))  -- returns-2

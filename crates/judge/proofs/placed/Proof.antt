@@ -4,10 +4,10 @@ use Rattle.judge.proofs.placed.Statement.{statement}
 use Rattle.judge.proofs.placed.Tie as tie
 
 pub placed-spec : {M : Type 1} → statement M
-placed-spec = tie.close (tie.spec
+placed-spec =
+    tie.close
+    (tie.spec
     (λ c. search needs)  -- enum-known-w
     (λ c. search needs)  -- enum-told
-    (λ c. search needs)  -- enum-told-2
     (λ c. search placed-of)  -- returns
-    (λ c. search needs)  -- returns-2
-    (λ c. search needs))  -- returns-3
+    (λ c. search needs))  -- returns-2

@@ -1,4 +1,5 @@
-use Rattle.judge.proofs.ItemSteps.{suits-row-told, suits-count-told}
+use Rattle.reference.proofs.Laws.{row-here}
+use Rattle.judge.proofs.ItemSteps.{suits-row-told, suits-count-told, suits-nothing-told}
 use borrow.Author.Needs.{needs}
 use Rattle.judge.proofs.suits_target.Statement.{statement}
 use Rattle.judge.proofs.suits_target.Tie as tie
@@ -8,10 +9,10 @@ suits-target-spec =
     tie.close
     (tie.spec
     (λ c. search needs)  -- enum-known-target
-    (λ c κs. search needs)  -- suits-requires
+    (λ c κs. (search needs, search row-here))  -- suits-requires
     (λ c. search needs)  -- enum-told
     (λ c κs. search needs)  -- suits-count-requires
     (λ c. search needs)  -- enum-told-2
     (λ c. search suits-row-told)  -- returns
     (λ c. search suits-count-told)  -- returns-2
-    (λ c. search needs))  -- returns-3
+    (λ c. search suits-nothing-told))  -- returns-3

@@ -1,5 +1,5 @@
 -- What the code's answers say: a truth with the tests made, within a budget, for an assertion, a filter and the filters of a list.
-use Prim.Native.Nat.{ℕ, _+_, _≤_, _<_}
+use Prim.Native.Nat.{ℕ, _+_, _≤_}
 use mathlib.Core.Path.{_≡_}
 use mathlib.Core.Bool.{Bool, true, false}
 use mathlib.Core.Option.{Option, none, some}
@@ -7,22 +7,24 @@ use mathlib.Core.List.{List}
 use lib.ListN.{length}
 use lib.Dec.{leb}
 use Rattle.octets.specs.Pick.{pick, bind, isSome}
-use Rattle.octets.specs.Octets.{same}
-use Rattle.rows.specs.Row.{nameAt, rowAt, membersAt}
-use Rattle.clauses.specs.Clauses.{memberPlace}
-use Rattle.types.specs.Types.{unfilled, typeFrom}
-use Rattle.types.specs.inner.Work.{Sound}
+use Rattle.rows.specs.Paper.{tableLimits}
+use Rattle.types.specs.Types.{Ty}
+use Rattle.types.specs.Admitted.{admitted}
+use Rattle.table.specs.inner.Rows.{tableRows, typeAt}
+use Rattle.table.specs.inner.Words.{Worded}
 use Rattle.value.specs.Decode.{storedValue}
-use Rattle.reference.specs.Allowed.{Target}
-use Rattle.rules.specs.Rule.{Rule, Known}
+use Rattle.reference.specs.Reference.{Id, identifiers}
+use Rattle.reference.specs.Allowed.{Target, allowed}
+use Rattle.reference.specs.inner.Work.{reportTarget}
+use Rattle.reference.specs.declared.Target as target
+use Rattle.rules.specs.Rule.{Rule}
 use Rattle.rules.specs.Suits.{suits}
-use Rattle.rules.specs.RuleFor.{Comparison, ruleFor}
+use Rattle.plan.specs.inner.Plan.{Planned}
+use Rattle.plan.specs.inner.Resolve.{Lands}
+use Rattle.along.specs.declared.State.{State}
 use Rattle.assertion.specs.Assertion.{Read}
-use Rattle.assertion.specs.inner.Places.{componentOf}
-use Rattle.assertion.specs.declared.Component.{Component}
 use Rattle.filter.specs.Filter.{Item, Join, and, or, Filter, Filters}
 use Rattle.filter.specs.Parse.{Tail, another, closed, noTail, tailAt}
-use Rattle.walk.specs.declared.State.{State}
 use Rattle.judge.specs.Truth.{Truth, TRUE, FALSE, UNDEFINED, opposite}
 use Rattle.judge.specs.Reading.{Outcome, settled, misfitAfter, ofNone, withRest, reading, readingIn}
 use Rattle.judge.specs.declared.Verdict.{Verdict}
@@ -31,17 +33,12 @@ use Rattle.judge.specs.declared.Judging.{Judging}
 use Rattle.judge.specs.declared.Progress.{Progress}
 use Rattle.judge.specs.declared.Turn.{Turn}
 
--- "names in one type differ", without their fill
-pub record NamesDiffer (t s : List ℕ) : Type 0 where
-  pub differ : (i : ℕ) → i < length s → (a b : ℕ) → a < b → b < membersAt t (rowAt s i) → same (unfilled (nameAt t (memberPlace s i b))) (unfilled (nameAt t (memberPlace s i a))) ≡ false
-
--- what evaluation rests on: an admitted table's rows s and sets of tags m, and a stored value of the type of row 0
-pub record Ready (chain : ℕ) (t s m v : List ℕ) : Type 0 where
-  pub sound : Sound chain t s m
-  pub names : NamesDiffer t s
-  pub rows : 0 < length s
+-- what evaluation rests on: the words w of an admitted table t, and a stored value v of the type of row 0
+pub record Ready (t w v : List ℕ) : Type 0 where
+  pub worded : Worded t w
+  pub admits : admitted tableLimits t ≡ true
   pub short : length v ≤ 65536
-  pub stored : isSome (storedValue (typeFrom chain t s 0) v) ≡ true
+  pub stored : isSome (storedValue (typeAt t 0) v) ≡ true
 
 -- ---- truths
 abbrev pub verdictOf : Truth → Verdict
@@ -54,44 +51,40 @@ opposed Verdict.True = Verdict.False
 opposed Verdict.False = Verdict.True
 opposed Verdict.Undefined = Verdict.Undefined
 
--- ---- an assertion's rule, where the assertion isn't Undefined; g is what its reference leads to
+-- ---- an assertion
+-- what the code's target is, by the table t
+abbrev pub targetOf : List ℕ → target.Target → Option Target
+targetOf t g = reportTarget (tableLimits .chain) t (tableRows t) g
+
+-- what a reference leads to from a type, if it leads anywhere
+abbrev pub leadsBy : Option (List ℕ) → Ty → Option Target
+leadsBy component ty = bind (identifiers component) (λ is. allowed is ty)
+
+-- a rule is for it
 abbrev pub suitsAny : Rule → Option Target → Bool
 suitsAny r none = false
 suitsAny r (some g) = suits r g
 
-abbrev pub ruleAlone : Option Comparison → Option Rule
-ruleAlone none = none
-ruleAlone (some x) = some (x .rule)
+-- the identifiers of a reference that leads to g are planned, for a test with the value text x
+unfoldable pub PlannedFor : List ℕ → List ℕ → List ℕ → Bool → Option (List ℕ) → target.Target → Type 0
+PlannedFor t q x defaults component g = (is : List Id) → identifiers component ≡ some is → Lands g → Planned t q x defaults 1 (typeAt t 0) is
 
-unfoldable pub askedRule : List Known → Option Target → List ℕ → List ℕ → Option Rule
-askedRule ks g rule value = bind g (λ target. ruleAlone (ruleFor ks target rule value))
-
--- an assertion by its parts; its reference is r where one is given
-abbrev pub itemGiven : Bool → List ℕ → Bool → List ℕ → List ℕ → Item
-itemGiven given r defaults rule value = record { component = pick given (some r) none; defaults = defaults; rule = rule; value = value }
-
--- an assertion whose reference stands in the text s
-abbrev pub itemAt : List ℕ → Component → Bool → List ℕ → List ℕ → Item
-itemAt s c defaults rule value = record { component = componentOf s c; defaults = defaults; rule = rule; value = value }
+-- what the end of a walk says
+abbrev pub ended : State → Judged
+ended (State.Going k) = Judged.Of Verdict.False k
+ended (State.Accepted k) = Judged.Of Verdict.True k
+ended State.Over = Judged.Over
 
 -- ---- tests within a budget
--- how a walk ends that has made the tests of an outcome
-unfoldable pub tested : ℕ → Outcome → State
-tested budget (settled TRUE k) = pick (leb k budget) (State.Accepted k) State.Over
-tested budget (settled FALSE k) = pick (leb k budget) (State.Going k) State.Over
-tested budget (settled UNDEFINED k) = pick (leb k budget) (State.Going k) State.Over
-tested budget (misfitAfter k) = pick (leb k budget) State.Misfit State.Over
-
--- an outcome after n tests
+-- an outcome after n tests; a stored value has no header that doesn't fit, and nothing is asked there
 unfoldable pub charged : ℕ → ℕ → Outcome → Judged
 charged budget n (settled t k) = pick (leb (n + k) budget) (Judged.Of (verdictOf t) (n + k)) Judged.Over
-charged budget n (misfitAfter k) = pick (leb (n + k) budget) Judged.Misfit Judged.Over
+charged budget n (misfitAfter k) = Judged.Over
 
 -- the same with the place after the filter
 abbrev pub placed : ℕ → Judged → Judging
 placed after (Judged.Of u k) = Judging.At u k after
 placed after Judged.Over = Judging.Over
-placed after Judged.Misfit = Judging.Misfit
 
 -- a filter that is passed over makes no test
 abbrev pub judgedIf : Bool → ℕ → ℕ → Outcome → ℕ → Judging
@@ -102,11 +95,10 @@ judgedIf false budget n o after = Judging.At Verdict.Undefined n after
 abbrev pub inverse : Judging → Judging
 inverse (Judging.At u k after) = Judging.At (opposed u) k after
 inverse Judging.Over = Judging.Over
-inverse Judging.Misfit = Judging.Misfit
 
--- a filter that was read
+-- a filter that was read; of a text that was not nothing is asked
 unfoldable pub judgedFilter : (Item → Outcome) → Bool → ℕ → ℕ → Option (Read (Filter Item)) → Judging
-judgedFilter says live budget n none = Judging.Misfit
+judgedFilter says live budget n none = Judging.Over
 judgedFilter says live budget n (some r) = judgedIf live budget n (reading says (r .is)) (r .after)
 
 -- ---- the filters of a list, from one of them on
@@ -123,7 +115,7 @@ judgedRest j Progress.Stopped budget n o after = Judging.At (verdictOf (opposite
 judgedRest j Progress.Passed budget n o after = Judging.At Verdict.Undefined n after
 
 unfoldable pub judgedFilters : (Item → Outcome) → Join → Progress → ℕ → ℕ → Option (Read (Filters Item)) → Judging
-judgedFilters says j p budget n none = Judging.Misfit
+judgedFilters says j p budget n none = Judging.Over
 judgedFilters says j p budget n (some r) = judgedRest j p budget n (readingIn says j (r .is)) (r .after)
 
 -- the same in steps: how a list begins, whether it goes on, what one filter more makes of it, and its truth at the end
@@ -172,14 +164,13 @@ atEnd j Progress.Passed = Verdict.Undefined
 abbrev pub turnedBy : Join → Progress → ℕ → Tail → Turn
 turnedBy j p k (another a) = Turn.Goes p k a
 turnedBy j p k (closed a) = Turn.Ends (Judging.At (atEnd j p) k a)
-turnedBy j p k noTail = Turn.Ends Judging.Misfit
+turnedBy j p k noTail = Turn.Ends Judging.Over
 
 abbrev pub turned : List ℕ → Join → Progress → Judging → Turn
 turned s j p (Judging.At u k after) = turnedBy j (joinedBy j p u) k (tailAt s after)
 turned s j p Judging.Over = Turn.Ends Judging.Over
-turned s j p Judging.Misfit = Turn.Ends Judging.Misfit
 
 -- ---- the filter of a whole text
 unfoldable pub judgedText : (Item → Outcome) → ℕ → Option (Read (Filter Item)) → Judged
-judgedText says budget none = Judged.Misfit
+judgedText says budget none = Judged.Over
 judgedText says budget (some r) = charged budget 0 (reading says (r .is))

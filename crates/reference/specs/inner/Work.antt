@@ -9,15 +9,14 @@ use lib.Dec.{ltb, leb, eqb}
 use Rattle.octets.specs.Pick.{pick, both, bind, consed}
 use Rattle.octets.specs.Octets.{octet, part, same}
 use Rattle.octets.specs.Text.{isName, decimal}
-use Rattle.rows.specs.Row.{nameAt, elementAt, rowAt, membersAt}
+use Rattle.rows.specs.Row.{nameAt, rowAt, membersAt}
 use Rattle.clauses.specs.Clauses.{memberPlace}
-use Rattle.types.specs.Types.{Ty, Members, unfilled, membersFrom, typeFrom}
+use Rattle.types.specs.Types.{Ty, unfilled, typeFrom}
 use Rattle.value.specs.inner.Work.{first}
 use Rattle.reference.specs.Reference.{Index, position, fromEnd, count, all, Id, name, index, isPosition, readReference, givenIds}
 use Rattle.reference.specs.Allowed as allowed
 use Rattle.reference.specs.declared.Piece.{Piece}
 use Rattle.reference.specs.declared.Step.{Step}
-use Rattle.reference.specs.declared.After.{After}
 use Rattle.reference.specs.declared.Target.{Target}
 
 -- ---- positions as the code holds them: the least of n and the largest number
@@ -117,26 +116,6 @@ namedOf t s row x j = same (unfilled (nameAt t (memberPlace s row j))) x
 abbrev pub firstNamed : List ℕ → List ℕ → ℕ → List ℕ → ℕ
 firstNamed t s row x = first (namedOf t s row x) (membersAt t (rowAt s row)) 0
 
--- ---- one identifier of the text r, where the step has one
-abbrev pub stepId : List ℕ → Step → Option Id
-stepId r (Step.Name a b n) = some (name (part r a (b - a)))
-stepId r (Step.Position i n) = some (index (position i))
-stepId r (Step.FromEnd i n) = some (index (fromEnd i))
-stepId r (Step.Count n) = some (index count)
-stepId r (Step.All n) = some (index all)
-stepId r Step.End = none
-stepId r Step.Bad = none
-
--- the place after it
-abbrev pub placeAfter : Step → After
-placeAfter (Step.Name a b n) = After.At n
-placeAfter (Step.Position i n) = After.At n
-placeAfter (Step.FromEnd i n) = After.At n
-placeAfter (Step.Count n) = After.At n
-placeAfter (Step.All n) = After.At n
-placeAfter Step.End = After.End
-placeAfter Step.Bad = After.Bad
-
 -- ---- what a reference leads to
 abbrev pub reportTarget : ℕ → List ℕ → List ℕ → Target → Option allowed.Target
 reportTarget chain t s (Target.Row i) = some (allowed.ofType (typeFrom chain t s i))
@@ -149,13 +128,7 @@ rowWithin s (Target.Row i) = ltb i (length s)
 rowWithin s Target.Count = true
 rowWithin s Target.No = true
 
--- an identifier, if there is one, among members, in a list, and at a target
-abbrev pub amongMembers : Option Id → Members → Option allowed.Target
-amongMembers o ms = bind o (λ i. allowed.underMembers i ms)
-
-abbrev pub inList : Option Id → Ty → Option allowed.Target
-inList o ty = bind o (λ i. allowed.underList i ty)
-
+-- an identifier, if there is one, at a target
 abbrev pub atTarget : Option Id → allowed.Target → Option allowed.Target
 atTarget o g = bind o (λ i. allowed.under i g)
 
@@ -170,23 +143,7 @@ along o g = bind o (λ is. bind g (λ h. allowed.allowedFrom is h))
 abbrev pub leadsTo : Bool → List ℕ → Ty → Option allowed.Target
 leadsTo given r ty = bind (givenIds given r) (λ is. allowed.allowed is ty)
 
--- ---- what the code's target g says, by the rows s of the table t: what the name x leads to among the members of a row
-abbrev pub rowMembers : ℕ → List ℕ → List ℕ → ℕ → Members
-rowMembers chain t s row = membersFrom (typeFrom chain t s) t s (row + 1) (membersAt t (rowAt s row))
-
-abbrev pub LeadsByName : ℕ → List ℕ → List ℕ → ℕ → List ℕ → Target → Type 0
-LeadsByName chain t s row x g = reportTarget chain t s g ≡ allowed.underMembers (name x) (rowMembers chain t s row)
-
--- what an identifier leads to among them; in the list of a row; from another target
-abbrev pub LeadsInMembers : ℕ → List ℕ → List ℕ → ℕ → Option Id → Target → Type 0
-LeadsInMembers chain t s row o g = reportTarget chain t s g ≡ amongMembers o (rowMembers chain t s row)
-
-abbrev pub LeadsInList : ℕ → List ℕ → List ℕ → ℕ → Option Id → Target → Type 0
-LeadsInList chain t s row o g = reportTarget chain t s g ≡ inList o (typeFrom chain t s (elementAt t (rowAt s row)))
-
-abbrev pub LeadsFrom : ℕ → List ℕ → List ℕ → Target → Option Id → Target → Type 0
-LeadsFrom chain t s from o g = reportTarget chain t s g ≡ atTold o (reportTarget chain t s from)
-
+-- ---- what the code's target g says, by the rows s of the table t
 -- what identifiers lead to from row 0, and a reference, where one is given
 abbrev pub LeadsAlong : ℕ → List ℕ → List ℕ → Option (List Id) → Target → Type 0
 LeadsAlong chain t s is g = reportTarget chain t s g ≡ along is (reportTarget chain t s (Target.Row 0))

@@ -10,10 +10,10 @@ use Rattle.rules.proofs.all_strings.Statement.{statement}
 use Rattle.rules.proofs.all_strings.Tie as tie
 
 abbrev Inv-loop : tie.InvT-loop
-Inv-loop t s i n j₀ j = (j ≤ n) × (all (stringRow t s i) j ≡ true)
+Inv-loop t w i n j₀ j = (j ≤ n) × (all (stringRow t i) j ≡ true)
 
 abbrev μ-loop : tie.MeasureT-loop
-μ-loop t s i n j₀ j = n - j
+μ-loop t w i n j₀ j = n - j
 
 pub all-strings-spec : {M : Type 1} → statement M
 all-strings-spec =
@@ -21,7 +21,7 @@ all-strings-spec =
     (tie.spec
     Inv-loop
     μ-loop
-    (λ c. (search needs, all-none (stringRow _ _ _)))  -- loop-holds
+    (λ c. (search needs, all-none (stringRow _ _)))  -- loop-holds
     (λ c κs. search needs)  -- is-string-row-requires
     (λ c. search all-bad)  -- returns
     (λ c. search needs)  -- add-j

@@ -7,12 +7,11 @@ pub suits-row-spec : {M : Type 1} → statement M
 suits-row-spec =
     tie.close
     (tie.spec
-    (λ c κs. search needs)  -- row-at-requires
-    (λ c κs. search needs)  -- kind-at-requires
+    (λ c κs. search needs)  -- kind-requires
     (λ c κs. search needs)  -- suits-kind-requires
     (λ c. search suits-basic)  -- returns
     (λ c κs. search needs)  -- suits-kind-requires-2
     (λ c. search suits-other)  -- returns-2
-    (λ c κs. search needs)  -- members-at-requires
+    (λ c κs. search needs)  -- members-requires
     (λ c κs. search needs)  -- all-strings-requires
     (λ c. search suits-choice))  -- returns-3

@@ -1,13 +1,12 @@
 -- What the code's rules and answers say.
-use Prim.Native.Nat.{ℕ}
+use Prim.Native.Nat.{ℕ, _+_}
 use mathlib.Core.Bool.{Bool, true}
 use mathlib.Core.Option.{Option, none, some}
 use mathlib.Core.List.{List}
 use lib.Dec.{leb, eqb}
 use lib.ListN.{length}
-use Rattle.octets.specs.Pick.{pick, both, either, all, isSome}
+use Rattle.octets.specs.Pick.{both, either, isSome}
 use Rattle.octets.specs.Octets.{same, bytes}
-use Rattle.der.specs.Kind as kind
 use Rattle.der.specs.Kind.{isString}
 use Rattle.der.specs.Dotted.{isDotted, dottedArcs}
 use Rattle.der.specs.declared.Time.{Time}
@@ -15,12 +14,10 @@ use Rattle.integers.specs.Asserted.{isInteger, assertedInteger}
 use Rattle.binary.specs.Asserted.{isOctets, assertedOctets, isBits, assertedBits}
 use Rattle.strings.specs.Asserted.{isText, assertedText}
 use Rattle.times.specs.Asserted.{assertedTime}
-use Rattle.rows.specs.Row.{kindAt, modeAt, rowAt, membersAt}
-use Rattle.clauses.specs.Clauses.{memberPlace}
-use Rattle.clauses.specs.inner.Work.{memberType}
+use Rattle.rows.specs.Row.{modeAt}
+use Rattle.table.specs.inner.Rows.{placeAt, memberKindAt}
 use Rattle.rules.specs.Rule.{Syntax, booleans, integers, objectIdentifiers, octetStrings, bitStrings, strings, times, Rule, present, equal, less}
 use Rattle.rules.specs.Rule.{sameName}
-use Rattle.rules.specs.Suits.{suitsKind}
 use Rattle.rules.specs.Asserted.{Asserted, anyValue, truth, integer, arcs, octets, bits, text, time, isTruth}
 use Rattle.rules.specs.Accepts.{isEqual, isLess, acceptsContents, acceptsCount}
 use Rattle.rules.specs.declared.Syntax as syntax
@@ -113,18 +110,7 @@ acceptsContentsRead r t c = both (isReadBy r t c) (acceptsContents r (said r t) 
 unfoldable pub acceptsCountRead : Rule → List ℕ → ℕ → Bool
 acceptsCountRead r t n = acceptsCount r (integer (assertedInteger t)) n
 
--- ---- the target as a row i of the rows s of a table t
+-- ---- the target as row i of a table t
 -- alternative j of row i has no tag and is a string
-unfoldable pub stringRow : List ℕ → List ℕ → ℕ → ℕ → Bool
-stringRow t s i j = both (eqb (modeAt t (memberPlace s i j)) 0) (isString (kindAt t (rowAt s (memberType t s i j))))
-
-unfoldable pub suitsRow : Syntax → List ℕ → List ℕ → ℕ → Bool
-suitsRow x t s i =
-    pick (eqb (kindAt t (rowAt s i)) kind.choice)
-    (both (suitsKind x kind.utf8String) (all (stringRow t s i) (membersAt t (rowAt s i))))
-    (suitsKind x (kindAt t (rowAt s i)))
-
-unfoldable pub ruleSuitsRow : Rule → List ℕ → List ℕ → ℕ → Bool
-ruleSuitsRow present t s i = true
-ruleSuitsRow (equal x) t s i = suitsRow x t s i
-ruleSuitsRow (less x) t s i = suitsRow x t s i
+unfoldable pub stringRow : List ℕ → ℕ → ℕ → Bool
+stringRow t i j = both (eqb (modeAt t (placeAt t (i + 1 + j))) 0) (isString (memberKindAt t (i + 1 + j)))

@@ -1,0 +1,10 @@
+pub mod RawLaws
+pub mod Standing
+pub mod Leaves
+pub mod Members
+pub mod PlanViews
+pub mod Naming
+pub mod VisitSteps
+pub mod WalkSteps
+pub mod Callers
+pub mod ListLaws

@@ -1,0 +1,14 @@
+use Rattle.plan.proofs.PlanSteps.{list-told, list-none, list-some}
+use borrow.Author.Needs.{needs}
+use Rattle.plan.proofs.plan_list.Statement.{statement}
+use Rattle.plan.proofs.plan_list.Tie as tie
+
+pub plan-list-spec : {M : Type 1} → statement M
+plan-list-spec =
+    tie.close
+    (tie.spec
+    (λ c κs. search needs)  -- kind-requires
+    (λ c κs. search needs)  -- is-list-requires
+    (λ c. search list-none)  -- returns
+    (λ c κs. (search needs, (search needs, search list-told)))  -- element-requires
+    (λ c. search list-some))  -- returns-2

@@ -1,0 +1,4 @@
+pub mod Sort
+pub mod Task
+pub mod Plan
+pub mod Resolve

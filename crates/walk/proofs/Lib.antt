@@ -1,4 +1,0 @@
-pub mod VisitSteps
-pub mod RunLaws
-pub mod ListLaws
-pub mod WalkSteps
