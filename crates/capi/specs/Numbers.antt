@@ -12,7 +12,7 @@ use Rattle.value.specs.Check.{ValueReport}
 use Rattle.value.specs.Part.{PartReport}
 use Rattle.quote.specs.declared.Quoted.{Quoted}
 use Rattle.quote.specs.Quote.{Quoting}
-use Rattle.judge.specs.Truth.{Truth, TRUE, FALSE, UNDEFINED}
+use Rattle.evaluation.specs.Truth.{Truth, TRUE, FALSE, UNDEFINED}
 use Rattle.engine.specs.Answer.{Report}
 use Rattle.engine.specs.Listing.{ListReport, Listing}
 use Rattle.capi.specs.declared.CAnswer.{CAnswer}

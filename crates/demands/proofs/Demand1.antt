@@ -25,10 +25,10 @@ use Rattle.reference.specs.Named.{named}
 use Rattle.reference.specs.Numbers.{Component}
 use Rattle.filter.specs.Filter.{Item, Filter}
 use Rattle.filter.specs.Parse.{parse}
-use Rattle.trail.specs.Trail.{Trail, trail, hasMisfit, reached}
-use Rattle.trail.proofs.Agreeing.{trail-named, laid-reached}
+use Rattle.misfit.specs.Trail.{Trail, trail, hasMisfit, reached}
+use Rattle.misfit.proofs.Agreeing.{trail-named, laid-reached}
 use Rattle.rules.specs.Rule.{knownRules}
-use Rattle.judge.specs.Reading.{Outcome, settled, misfitAfter}
+use Rattle.evaluation.specs.Reading.{Outcome, settled, misfitAfter}
 use Rattle.engine.specs.Paper.{limits}
 use Rattle.engine.specs.Answer.{Report, refused, answers, budgeted, questionFits, evaluated, withFilter, questionOf, askReport}
 use Rattle.engine.specs.Listing.{Listing, refusedList, lists, written, listed, walked, listingFits, withIds, listingOf, listReport}

@@ -19,13 +19,13 @@ use Rattle.rules.specs.Rule.{knownRules}
 use Rattle.rules.specs.Accepts.{accepts}
 use Rattle.filter.specs.Filter.{Item, Join, and, or, Filter, Filters, item, list, items}
 use Rattle.filter.specs.Parse.{parse}
-use Rattle.trail.proofs.Agreeing.{laid, trail-named}
-use Rattle.judge.specs.Truth.{Truth, TRUE, FALSE, UNDEFINED, everyTruth, anyTruth, conjunction, disjunction, truth, truths, isTrue, isFalse}
-use Rattle.judge.specs.Reading.{Outcome, settled, misfitAfter, reading}
-use Rattle.judge.specs.Assertion.{Asked, asked, testing, outcomeOf, outcome}
-use Rattle.judge.proofs.Laws.{truthOf, Settles, reading-truth}
-use Rattle.judge.proofs.Few.{testsOf, tests-few}
-use Rattle.judge.proofs.Same.{reading-alike, truth-alike, each-so, each-of-all}
+use Rattle.misfit.proofs.Agreeing.{laid, trail-named}
+use Rattle.evaluation.specs.Truth.{Truth, TRUE, FALSE, UNDEFINED, everyTruth, anyTruth, conjunction, disjunction, truth, truths, isTrue, isFalse}
+use Rattle.evaluation.specs.Reading.{Outcome, settled, misfitAfter, reading}
+use Rattle.evaluation.specs.Assertion.{Asked, asked, testing, outcomeOf, outcome}
+use Rattle.evaluation.proofs.Laws.{truthOf, Settles, reading-truth}
+use Rattle.evaluation.proofs.Few.{testsOf, tests-few}
+use Rattle.evaluation.proofs.Same.{reading-alike, truth-alike, each-so, each-of-all}
 use Rattle.engine.specs.Paper.{limits}
 use Rattle.engine.specs.Answer.{Report, refused, answers, budgeted, questionFits, evaluated, withFilter, questionOf, askReport}
 use Rattle.demands.specs.Named.{acceptsOne, needed, truthBy, itemTruth, itemTests, truthFor, testsFor}

@@ -21,11 +21,11 @@ use Rattle.rules.specs.Rule.{knownRules}
 use Rattle.rules.specs.RuleFor.{Comparison}
 use Rattle.rules.specs.Accepts.{accepts}
 use Rattle.filter.specs.Filter.{Item}
-use Rattle.trail.specs.Trail.{trail}
-use Rattle.trail.proofs.Agreeing.{laid, trail-named, laid-sound, laid-reached}
-use Rattle.trail.proofs.Spreading.{named-spread}
-use Rattle.judge.specs.Reading.{reading}
-use Rattle.judge.specs.Assertion.{asked, outcomeOf, outcome}
+use Rattle.misfit.specs.Trail.{trail}
+use Rattle.misfit.proofs.Agreeing.{laid, trail-named, laid-sound, laid-reached}
+use Rattle.misfit.proofs.Spreading.{named-spread}
+use Rattle.evaluation.specs.Reading.{reading}
+use Rattle.evaluation.specs.Assertion.{asked, outcomeOf, outcome}
 use Rattle.engine.specs.Paper.{limits}
 use Rattle.engine.specs.Answer.{Report, budgeted, questionFits, evaluated, withFilter, questionOf, askReport}
 use Rattle.engine.specs.Listing.{Listing, written, listed, walked, referenceFits, listingFits, listReport, withIds, listingOf}

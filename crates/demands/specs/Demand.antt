@@ -20,8 +20,8 @@ use Rattle.rules.specs.RuleFor.{Comparison}
 use Rattle.rules.specs.Accepts.{accepts}
 use Rattle.filter.specs.Filter.{Item, item}
 use Rattle.filter.specs.Parse.{filterFits, parse}
-use Rattle.trail.specs.Spread.{Spread}
-use Rattle.judge.specs.Truth.{UNDEFINED}
+use Rattle.misfit.specs.Spread.{Spread}
+use Rattle.evaluation.specs.Truth.{UNDEFINED}
 use Rattle.engine.specs.Paper.{limits}
 use Rattle.engine.specs.Answer as answer
 use Rattle.engine.specs.Listing.{Listing, listingFits, refusedList, lists}

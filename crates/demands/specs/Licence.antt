@@ -10,7 +10,7 @@ use Rattle.types.specs.Paper.{licence}
 use Rattle.value.specs.Paper.{licenceRecord}
 use Rattle.rules.specs.Rule.{knownRules}
 use Rattle.engine.specs.Paper.{limits}
-use Rattle.judge.specs.Truth.{Truth, TRUE, FALSE, UNDEFINED}
+use Rattle.evaluation.specs.Truth.{Truth, TRUE, FALSE, UNDEFINED}
 use Rattle.engine.specs.Answer as answer
 use Rattle.engine.specs.Listing as listing
 use Rattle.engine.specs.Computing.{engineComputes}

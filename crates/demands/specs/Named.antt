@@ -13,8 +13,8 @@ use Rattle.reference.specs.Numbers.{Component, component}
 use Rattle.rules.specs.Rule.{Known}
 use Rattle.rules.specs.Accepts.{accepts}
 use Rattle.filter.specs.Filter.{Item}
-use Rattle.judge.specs.Truth.{Truth, TRUE, FALSE, UNDEFINED}
-use Rattle.judge.specs.Assertion.{Asked, asked}
+use Rattle.evaluation.specs.Truth.{Truth, TRUE, FALSE, UNDEFINED}
+use Rattle.evaluation.specs.Assertion.{Asked, asked}
 
 -- "the component values that the reference names", with "either choice about defaults"
 abbrev pub components : Bool → List Id → Value → List Component

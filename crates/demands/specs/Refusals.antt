@@ -19,9 +19,9 @@ use Rattle.reference.specs.Allowed.{allowed}
 use Rattle.reference.specs.Numbers.{Component}
 use Rattle.filter.specs.Filter.{Item, Filter}
 use Rattle.filter.specs.Parse.{parse}
-use Rattle.trail.specs.Trail.{trail, hasMisfit}
+use Rattle.misfit.specs.Trail.{trail, hasMisfit}
 use Rattle.rules.specs.Rule.{knownRules}
-use Rattle.judge.specs.Reading.{Outcome, settled, misfitAfter}
+use Rattle.evaluation.specs.Reading.{Outcome, settled, misfitAfter}
 use Rattle.engine.specs.Paper.{limits}
 use Rattle.engine.specs.Answer.{Report, questionFits, evaluated}
 use Rattle.engine.specs.Listing.{Listing, listingFits}

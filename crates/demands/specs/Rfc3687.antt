@@ -8,7 +8,7 @@ use Rattle.octets.specs.Octets.{bytes, hex}
 use Rattle.types.specs.Paper.{memberRow}
 use Rattle.rules.specs.Rule.{knownRules}
 use Rattle.engine.specs.Paper.{limits}
-use Rattle.judge.specs.Truth.{TRUE, FALSE, UNDEFINED}
+use Rattle.evaluation.specs.Truth.{TRUE, FALSE, UNDEFINED}
 use Rattle.engine.specs.Answer.{Report, answers, askReport}
 use Rattle.engine.specs.Computing.{engineComputes}
 use Rattle.demands.specs.Shown.{shownTable, shownValue, shownList}

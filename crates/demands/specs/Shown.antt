@@ -16,7 +16,7 @@ use Rattle.value.specs.Check as value
 use Rattle.value.specs.Part as part
 use Rattle.rules.specs.Rule.{knownRules}
 use Rattle.engine.specs.Paper.{limits}
-use Rattle.judge.specs.Truth.{Truth, TRUE, FALSE, UNDEFINED}
+use Rattle.evaluation.specs.Truth.{Truth, TRUE, FALSE, UNDEFINED}
 use Rattle.engine.specs.Answer as answer
 use Rattle.engine.specs.Listing as listing
 

@@ -11,10 +11,10 @@ use Rattle.value.specs.Decode.{storedValue}
 use Rattle.rules.specs.Rule.{knownRules}
 use Rattle.filter.specs.Filter.{Item, Filter, item, items, Each}
 use Rattle.filter.specs.Parse.{parse}
-use Rattle.judge.specs.Truth as logic
-use Rattle.judge.specs.Truth.{Truth}
-use Rattle.judge.specs.Reading as left-to-right
-use Rattle.judge.specs.Reading.{settled}
+use Rattle.evaluation.specs.Truth as logic
+use Rattle.evaluation.specs.Truth.{Truth}
+use Rattle.evaluation.specs.Reading as left-to-right
+use Rattle.evaluation.specs.Reading.{settled}
 use Rattle.engine.specs.Paper.{limits}
 use Rattle.engine.specs.Answer.{Report, answers, askReport}
 use Rattle.demands.specs.Named.{itemTruth, itemTests}

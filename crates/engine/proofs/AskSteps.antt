@@ -30,14 +30,14 @@ use Rattle.filter.specs.inner.Answers as filter
 use Rattle.filter.specs.declared.Filter as declared
 use Rattle.filter.specs.declared.Reading.{Reading}
 use Rattle.filter.proofs.Laws.{parse-read, counted-some, counted-none}
-use Rattle.judge.specs.Truth.{TRUE, FALSE, UNDEFINED}
-use Rattle.judge.specs.Reading.{Outcome, settled, misfitAfter, reading}
-use Rattle.judge.specs.Assertion.{outcome}
-use Rattle.judge.specs.inner.Work.{Ready, charged, judgedText}
-use Rattle.judge.proofs.ItemSteps.{some-there}
-use Rattle.judge.proofs.Settled.{Settled, filter-settled}
-use Rattle.judge.specs.declared.Verdict.{Verdict}
-use Rattle.judge.specs.declared.Judged.{Judged}
+use Rattle.evaluation.specs.Truth.{TRUE, FALSE, UNDEFINED}
+use Rattle.evaluation.specs.Reading.{Outcome, settled, misfitAfter, reading}
+use Rattle.evaluation.specs.Assertion.{outcome}
+use Rattle.evaluation.specs.inner.Work.{Ready, charged, judgedText}
+use Rattle.evaluation.proofs.ItemSteps.{some-there}
+use Rattle.evaluation.proofs.Settled.{Settled, filter-settled}
+use Rattle.evaluation.specs.declared.Verdict.{Verdict}
+use Rattle.evaluation.specs.declared.Judged.{Judged}
 use Rattle.engine.specs.Answer.{Report, refused, budgeted, questionFits, evaluated, withFilter, questionOf, askReport, report}
 use Rattle.engine.specs.inner.Judged.{settledAs, judgedReport}
 use Rattle.engine.specs.Paper.{limits}

@@ -26,17 +26,17 @@ use Rattle.reference.specs.Named.{named}
 use Rattle.reference.specs.Numbers.{component}
 use Rattle.reference.specs.inner.Work.{reportTarget, leadsTo}
 use Rattle.reference.specs.declared.Target.{Target}
-use Rattle.trail.proofs.Agreeing.{trail-named, laid-sound, laid-reached}
+use Rattle.misfit.proofs.Agreeing.{trail-named, laid-sound, laid-reached}
 use Rattle.plan.specs.inner.Task as task
 use Rattle.plan.specs.inner.Task.{Task, counting, taskOf}
 use Rattle.plan.specs.inner.Plan.{Relisted}
 use Rattle.plan.specs.inner.Resolve.{Lands, Resolves}
-use Rattle.along.specs.inner.Run.{seen, run}
-use Rattle.along.specs.inner.Walk.{Asks, Answers, Tallies}
-use Rattle.along.specs.declared.State.{State}
-use Rattle.along.proofs.Callers.{asks-of, asks-listed}
-use Rattle.along.proofs.ListLaws.{counted-all, list-run}
-use Rattle.judge.proofs.ItemSteps.{some-there}
+use Rattle.walk.specs.inner.Run.{seen, run}
+use Rattle.walk.specs.inner.Walk.{Asks, Answers, Tallies}
+use Rattle.walk.specs.declared.State.{State}
+use Rattle.walk.proofs.Callers.{asks-of, asks-listed}
+use Rattle.walk.proofs.ListLaws.{counted-all, list-run}
+use Rattle.evaluation.proofs.ItemSteps.{some-there}
 use Rattle.engine.specs.Listing.{Listing, refusedList, lists, report, written, listed, walked, referenceFits, listingFits, withIds, listingOf, listReport, listing}
 use Rattle.engine.specs.Paper.{limits}
 use Rattle.engine.specs.inner.Listed.{landed, Asked, Lists, LeadsFrom, PlannedTo, Leads, LeadsOn, Led, ListsLed, ListsTo}

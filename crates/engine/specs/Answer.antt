@@ -15,9 +15,9 @@ use Rattle.rules.specs.Rule.{Known}
 use Rattle.filter.specs.Filter.{Item, Filter}
 use Rattle.filter.specs.Parse.{filterFits, parse}
 use Rattle.engine.specs.Limits.{Limits}
-use Rattle.judge.specs.Truth.{Truth, TRUE, FALSE, UNDEFINED}
-use Rattle.judge.specs.Reading.{Outcome, settled, misfitAfter, reading}
-use Rattle.judge.specs.Assertion.{outcome}
+use Rattle.evaluation.specs.Truth.{Truth, TRUE, FALSE, UNDEFINED}
+use Rattle.evaluation.specs.Reading.{Outcome, settled, misfitAfter, reading}
+use Rattle.evaluation.specs.Assertion.{outcome}
 use Rattle.engine.specs.declared.Answer.{Answer}
 
 -- a refusal number, 0 for none; the truth and the number of tests. A refusal "returns its number, no truth and count 0"

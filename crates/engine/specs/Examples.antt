@@ -12,9 +12,9 @@ use Rattle.types.specs.Paper.{licence}
 use Rattle.value.specs.Paper.{licenceRecord}
 use Rattle.reference.specs.Reference.{position, all, Id, name, index}
 use Rattle.reference.specs.Numbers.{threes}
-use Rattle.judge.specs.Truth.{TRUE, FALSE, UNDEFINED}
-use Rattle.judge.specs.Reading.{settled, misfitAfter}
-use Rattle.trail.specs.Trail.{Trail, trail, hasMisfit, reached}
+use Rattle.evaluation.specs.Truth.{TRUE, FALSE, UNDEFINED}
+use Rattle.evaluation.specs.Reading.{settled, misfitAfter}
+use Rattle.misfit.specs.Trail.{Trail, trail, hasMisfit, reached}
 use Rattle.rules.specs.Rule.{knownRules}
 use Rattle.engine.specs.Answer as answer
 use Rattle.engine.specs.Answer.{budgeted, askReport}

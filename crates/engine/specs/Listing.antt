@@ -15,7 +15,7 @@ use Rattle.reference.specs.Reference.{Id, givenIds}
 use Rattle.reference.specs.Allowed.{allowed}
 use Rattle.reference.specs.Numbers.{Component, threes}
 use Rattle.engine.specs.Limits.{Limits}
-use Rattle.trail.specs.Trail.{Trail, trail, hasMisfit, reached}
+use Rattle.misfit.specs.Trail.{Trail, trail, hasMisfit, reached}
 use Rattle.engine.specs.declared.Listed.{Listed}
 
 -- whether it is done and not refused; the refusal's number, 0 for none; "the count in its answer is the number of named values", and 0 with a refusal

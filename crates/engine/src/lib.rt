@@ -1,8 +1,8 @@
 // The answers of the engine: the listing, and the answer to a filter.
 use filter::Filter;
 use filter::Reading;
-use judge::Judged;
-use judge::Verdict;
+use evaluation::Judged;
+use evaluation::Verdict;
 use reference::Target;
 use rows::Table;
 use value::Value;
@@ -20,8 +20,8 @@ ghost use Rattle.rules.specs.Rule.{knownRules};
 ghost use Rattle.plan.specs.inner.Task.{counting, taskOf};
 ghost use Rattle.filter.specs.Parse.{filterAt, parse};
 ghost use Rattle.filter.specs.Paper.{filterLimits};
-ghost use Rattle.judge.specs.Assertion.{outcome};
-ghost use Rattle.judge.specs.inner.Work.{Ready, judgedText};
+ghost use Rattle.evaluation.specs.Assertion.{outcome};
+ghost use Rattle.evaluation.specs.inner.Work.{Ready, judgedText};
 ghost use Rattle.engine.specs.Answer as answer;
 ghost use Rattle.engine.specs.Listing.{report, lists, referenceFits, listingFits, withIds, listingOf, listReport, listing};
 ghost use Rattle.engine.specs.Paper.{limits};
@@ -123,12 +123,12 @@ fn list_planned(
     requires least { ⌜ limit ≡ length (now room) / 3 + 1 ⌝ }
     ensures { λ a. ⌜ inner.Lists (now (t .entry)) (now (q .entry)) (now (v .entry)) (now (room .entry)) (listing a (now (room .exit))) ⌝ }
 {
-    let n = along::tally(t, w, q, v, 0);
+    let n = walk::tally(t, w, q, v, 0);
     if limit <= n {
         return Listed::Refused(6);
     }
     plan::plan_listing(q);
-    along::list(t, w, q, v, 0, room);
+    walk::list(t, w, q, v, 0, room);
     Listed::of(n)
 }
 
@@ -281,7 +281,7 @@ fn ask_judged(t: &[u8], w: &[u64; 256], v: &[u8], filter: &[u8], budget: usize) 
     ensures { λ a. ⌜ answer.report a
         ≡ judgedReport (judgedText (outcome knownRules (typeAt (now (t .entry)) 0) (now (v .entry))) budget (filterAt (now (filter .entry)) 0)) ⌝ }
 {
-    match judge::judge(t, w, v, filter, budget) {
+    match evaluation::judge(t, w, v, filter, budget) {
         Judged::Of(u, n) => Answer::of(u, n),
         Judged::Over => Answer::Refused(5),
     }

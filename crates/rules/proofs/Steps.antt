@@ -16,7 +16,7 @@ use Rattle.der.specs.Meaning.{plus, sameWhole, lessWhole, integerOf, booleanOf,
 use Rattle.der.specs.Dotted.{isDotted, dottedArcs}
 use Rattle.der.proofs.MeaningLaws.{string-kinds}
 use Rattle.integers.specs.Asserted.{isInteger, assertedInteger}
-use Rattle.binary.specs.Asserted.{isOctets, isBits, assertedOctets, assertedBits}
+use Rattle.digits.specs.Asserted.{isOctets, isBits, assertedOctets, assertedBits}
 use Rattle.strings.specs.Asserted.{isText, assertedText}
 use Rattle.strings.specs.Prepared.{prepared}
 use Rattle.times.specs.Asserted.{assertedTime}

@@ -4,7 +4,7 @@ use Rattle.reference.specs.Computing.{referenceComputes}
 use Rattle.rules.specs.Rule.{knownRules, sameName, ruleOf}
 use Rattle.rules.specs.Suits.{allStrings, suitsTarget, suits}
 use Rattle.integers.specs.Asserted.{isInteger, assertedInteger}
-use Rattle.binary.specs.Asserted.{inQuotes, isHexString, isBitText, isOctets, assertedOctets, isBits, hexBits, textBits, assertedBits}
+use Rattle.digits.specs.Asserted.{inQuotes, isHexString, isBitText, isOctets, assertedOctets, isBits, hexBits, textBits, assertedBits}
 use Rattle.strings.specs.Prepared.{charactersIn, folded, image, images, joined, prepared}
 use Rattle.strings.specs.Asserted.{isText, assertedText}
 use Rattle.times.specs.Asserted.{isTime, assertedTime}

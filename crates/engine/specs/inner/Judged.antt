@@ -1,7 +1,7 @@
 -- What the evaluation of a filter comes to, as the code has it.
 use Prim.Native.Nat.{ℕ}
-use Rattle.judge.specs.declared.Verdict.{Verdict}
-use Rattle.judge.specs.declared.Judged.{Judged}
+use Rattle.evaluation.specs.declared.Verdict.{Verdict}
+use Rattle.evaluation.specs.declared.Judged.{Judged}
 use Rattle.engine.specs.Answer.{Report, refused, report}
 use Rattle.engine.specs.declared.Answer.{Answer}
 

@@ -11,7 +11,7 @@ use Rattle.reference.specs.Numbers.{component}
 use Rattle.reference.specs.inner.Work.{reportTarget, leadsTo}
 use Rattle.reference.specs.declared.Target.{Target}
 use Rattle.plan.specs.inner.Resolve.{Lands, Resolves}
-use Rattle.along.specs.inner.Walk.{Asks}
+use Rattle.walk.specs.inner.Walk.{Asks}
 use Rattle.engine.specs.Listing.{Listing, listed, withIds}
 
 -- a reference leads somewhere

@@ -11,7 +11,7 @@ use Rattle.der.specs.Kind.{isString}
 use Rattle.der.specs.Dotted.{isDotted, dottedArcs}
 use Rattle.der.specs.declared.Time.{Time}
 use Rattle.integers.specs.Asserted.{isInteger, assertedInteger}
-use Rattle.binary.specs.Asserted.{isOctets, assertedOctets, isBits, assertedBits}
+use Rattle.digits.specs.Asserted.{isOctets, assertedOctets, isBits, assertedBits}
 use Rattle.strings.specs.Asserted.{isText, assertedText}
 use Rattle.times.specs.Asserted.{assertedTime}
 use Rattle.rows.specs.Row.{modeAt}

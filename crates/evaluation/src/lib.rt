@@ -1,0 +1,453 @@
+// The truth of a filter over a value, and the tests made.
+use walk::State;
+use assertion::Assertion;
+use assertion::Component;
+use assertion::Parts;
+use filter::Head;
+use filter::Join;
+use filter::Tail;
+use reference::Target;
+use rules::Named;
+use rules::Rule;
+ghost use Prim.Native.Nat.{_≤_};
+ghost use mathlib.Core.Path.{_≡_};
+ghost use mathlib.Core.Bool.{true};
+ghost use mathlib.Core.Option.{some};
+ghost use lib.ListN.{length};
+ghost use Rattle.octets.specs.Pick.{isSome};
+ghost use Rattle.rows.specs.Paper.{tableLimits};
+ghost use Rattle.types.specs.Admitted.{admitted};
+ghost use Rattle.table.specs.inner.Rows.{tableRows, typeAt};
+ghost use Rattle.table.specs.inner.Words.{Worded};
+ghost use Rattle.reference.specs.inner.Work as reference;
+ghost use Rattle.rules.specs.Rule.{ruleOf, knownRules};
+ghost use Rattle.rules.specs.inner.Answers.{meant, conforms};
+ghost use Rattle.plan.specs.inner.Task.{taskOf};
+ghost use Rattle.assertion.specs.Assertion.{assertionAt};
+ghost use Rattle.assertion.specs.inner.Places.{componentOf, itemOf};
+ghost use Rattle.filter.specs.Filter.{item};
+ghost use Rattle.filter.specs.Parse as parsing;
+ghost use Rattle.filter.specs.inner.Answers.{filtersAt, reportJoin};
+ghost use Rattle.evaluation.specs.Assertion.{outcome};
+ghost use Rattle.evaluation.specs.inner.Work as work;
+
+pub enum Verdict {
+    True,
+    False,
+    Undefined,
+}
+
+// A truth after so many tests; or more tests than the budget.
+pub enum Judged {
+    Of(Verdict, usize),
+    Over,
+}
+
+// The same with the place after the filter. Of a text that is not a filter nothing is asked: Over.
+pub enum Judging {
+    At(Verdict, usize, usize),
+    Over,
+}
+
+// The tests made, and the most that may be made.
+pub struct Tests {
+    pub made: usize,
+    pub budget: usize,
+}
+
+// One filter of a list: the next one's place, with the list so far and the tests made; or the list's end.
+pub enum Turn {
+    Goes(Progress, usize, usize),
+    Ends(Judging),
+}
+
+// The filters of a list so far: none stopped it nor was Undefined; none stopped it and one was Undefined; one stopped it; or the list is passed over.
+pub enum Progress {
+    Plain,
+    Unsure,
+    Stopped,
+    Passed,
+}
+
+// ---- one assertion
+// Whether a rule is for what a reference leads to.
+fn suits_target(rule: Rule, t: &[u8], w: &[u64; 256], target: Target) -> bool
+    requires worded { ⌜ Worded (now t) (now w) ⌝ }
+    requires here { ⌜ reference.rowWithin (tableRows (now t)) target ≡ true ⌝ }
+    ensures { λ r. ⌜ r ≡ work.suitsAny (meant rule) (work.targetOf (now (t .entry)) target) ⌝ }
+{
+    match target {
+        Target::Row(i) => rules::suits(rule, t, w, i),
+        Target::Count => rules::suits_count(rule),
+        Target::No => false,
+    }
+}
+
+// Writes the steps of an assertion's reference, for the plan's test with the value text; what it leads to.
+fn resolve_component(
+    t: &[u8],
+    w: &[u64; 256],
+    q: &mut [usize; 72],
+    f: &[u8],
+    component: Component,
+    text: &[u8],
+    defaults: bool,
+) -> Target
+    requires worded { ⌜ Worded (now t) (now w) ⌝ }
+    requires admitted { ⌜ admitted tableLimits (now t) ≡ true ⌝ }
+    requires room { ⌜ length (now q) ≡ 72 ⌝ }
+    ensures leads { λ g. ⌜ work.targetOf (now (t .entry)) g ≡ work.leadsBy (componentOf (now (f .entry)) component) (typeAt (now (t .entry)) 0) ⌝ }
+    ensures within { λ g. ⌜ reference.rowWithin (tableRows (now (t .entry))) g ≡ true ⌝ }
+    ensures planned { λ g. ⌜ work.PlannedFor (now (t .entry)) (now (q .exit)) (now (text .entry)) defaults (componentOf (now (f .entry)) component) g ⌝ }
+    ensures task { λ g. ⌜ taskOf (now (q .exit)) ≡ taskOf (now (q .entry)) ⌝ }
+{
+    match component {
+        Component::Missing => plan::resolve(t, w, q, false, f, text, defaults),
+        Component::Quoted(a, b) => {
+            let r = assertion::within_quotes(f, a, b);
+            plan::resolve(t, w, q, true, r, text, defaults)
+        }
+    }
+}
+
+// What the end of a walk says of an assertion.
+fn ended(state: State) -> Judged
+    ensures { λ j. ⌜ j ≡ work.ended state ⌝ }
+{
+    match state {
+        State::Going(k) => Judged::Of(Verdict::False, k),
+        State::Accepted(k) => Judged::Of(Verdict::True, k),
+        State::Over => Judged::Over,
+    }
+}
+
+// An assertion with a rule and a value text that conforms.
+fn judge_conforming(
+    t: &[u8],
+    w: &[u64; 256],
+    v: &[u8],
+    f: &[u8],
+    p: Parts,
+    rule: Rule,
+    text: &[u8],
+    tests: Tests,
+) -> Judged
+    requires ready { ⌜ work.Ready (now t) (now w) (now v) ⌝ }
+    requires known { ⌜ ruleOf knownRules (itemOf (now f) p .rule) ≡ some (meant rule) ⌝ }
+    requires value { ⌜ now text ≡ itemOf (now f) p .value ⌝ }
+    requires conforming { ⌜ conforms (meant rule) (now text) ≡ true ⌝ }
+    requires within { ⌜ tests .made ≤ tests .budget ⌝ }
+    ensures { λ j. ⌜ j
+        ≡ work.charged (tests .budget) (tests .made) (outcome knownRules (typeAt (now (t .entry)) 0) (now (v .entry)) (itemOf (now (f .entry)) p)) ⌝ }
+{
+    let mut q = [0usize; 72];
+    plan::plan_test(&mut q, rule, tests.budget);
+    let component = p.component;
+    let target = resolve_component(t, w, &mut q, f, component, text, p.defaults);
+    if !suits_target(rule, t, w, target) {
+        return Judged::Of(Verdict::Undefined, tests.made);
+    }
+    ended(walk::test(t, w, &q, v, text, tests.made))
+}
+
+// An assertion with a rule.
+fn judge_ruled(
+    t: &[u8],
+    w: &[u64; 256],
+    v: &[u8],
+    f: &[u8],
+    p: Parts,
+    rule: Rule,
+    tests: Tests,
+) -> Judged
+    requires ready { ⌜ work.Ready (now t) (now w) (now v) ⌝ }
+    requires known { ⌜ ruleOf knownRules (itemOf (now f) p .rule) ≡ some (meant rule) ⌝ }
+    requires within { ⌜ tests .made ≤ tests .budget ⌝ }
+    ensures { λ j. ⌜ j
+        ≡ work.charged (tests .budget) (tests .made) (outcome knownRules (typeAt (now (t .entry)) 0) (now (v .entry)) (itemOf (now (f .entry)) p)) ⌝ }
+{
+    let text = octets::between(f, p.value, p.value_end);
+    if !rules::conforms(rule, text) {
+        return Judged::Of(Verdict::Undefined, tests.made);
+    }
+    judge_conforming(t, w, v, f, p, rule, text, tests)
+}
+
+// An assertion of the filter text f by the places of its parts.
+fn judge_parts(t: &[u8], w: &[u64; 256], v: &[u8], f: &[u8], p: Parts, tests: Tests) -> Judged
+    requires ready { ⌜ work.Ready (now t) (now w) (now v) ⌝ }
+    requires within { ⌜ tests .made ≤ tests .budget ⌝ }
+    ensures { λ j. ⌜ j
+        ≡ work.charged (tests .budget) (tests .made) (outcome knownRules (typeAt (now (t .entry)) 0) (now (v .entry)) (itemOf (now (f .entry)) p)) ⌝ }
+{
+    let Named::Known(rule) = rules::rule_of(octets::between(f, p.rule, p.rule_end)) else {
+        return Judged::Of(Verdict::Undefined, tests.made);
+    };
+    judge_ruled(t, w, v, f, p, rule, tests)
+}
+
+// ---- truths
+fn placed(w: Judged, after: usize) -> Judging
+    ensures { λ r. ⌜ r ≡ work.placed after w ⌝ }
+{
+    match w {
+        Judged::Of(u, k) => Judging::At(u, k, after),
+        Judged::Over => Judging::Over,
+    }
+}
+
+fn opposite(u: Verdict) -> Verdict
+    ensures { λ r. ⌜ r ≡ work.opposed u ⌝ }
+{
+    match u {
+        Verdict::True => Verdict::False,
+        Verdict::False => Verdict::True,
+        Verdict::Undefined => Verdict::Undefined,
+    }
+}
+
+fn inverted(w: Judging) -> Judging
+    ensures { λ r. ⌜ r ≡ work.inverse w ⌝ }
+{
+    match w {
+        Judging::At(u, k, after) => Judging::At(opposite(u), k, after),
+        Judging::Over => Judging::Over,
+    }
+}
+
+// ---- the filters of a list
+// How a list goes on that is judged, or passed over.
+fn begin(live: bool) -> Progress
+    ensures { λ r. ⌜ r ≡ work.begun live ⌝ }
+{
+    if live {
+        return Progress::Plain;
+    }
+    Progress::Passed
+}
+
+// Whether the filters from here on are judged.
+fn goes_on(p: Progress) -> bool
+    ensures { λ r. ⌜ r ≡ work.goesOn p ⌝ }
+{
+    match p {
+        Progress::Plain => true,
+        Progress::Unsure => true,
+        Progress::Stopped => false,
+        Progress::Passed => false,
+    }
+}
+
+// A list behind a filter that did not stop it.
+fn behind(p: Progress, undefined: bool) -> Progress
+    ensures { λ r. ⌜ r ≡ work.behind p undefined ⌝ }
+{
+    if undefined {
+        return Progress::Unsure;
+    }
+    p
+}
+
+fn is_false(u: Verdict) -> bool
+    ensures { λ r. ⌜ r ≡ work.isFalsity u ⌝ }
+{
+    match u {
+        Verdict::True => false,
+        Verdict::False => true,
+        Verdict::Undefined => false,
+    }
+}
+
+// Whether a list stops at a filter of this truth.
+fn stops(join: Join, u: Verdict) -> bool
+    ensures { λ r. ⌜ r ≡ work.stopsAt (reportJoin join) u ⌝ }
+{
+    match join {
+        Join::And => is_false(u),
+        Join::Or => is_false(opposite(u)),
+    }
+}
+
+fn is_undefined(u: Verdict) -> bool
+    ensures { λ r. ⌜ r ≡ work.isUndefined u ⌝ }
+{
+    match u {
+        Verdict::True => false,
+        Verdict::False => false,
+        Verdict::Undefined => true,
+    }
+}
+
+// A list with one filter more.
+fn joined(join: Join, p: Progress, u: Verdict) -> Progress
+    ensures { λ r. ⌜ r ≡ work.joinedBy (reportJoin join) p u ⌝ }
+{
+    if !goes_on(p) {
+        return p;
+    }
+    if stops(join, u) {
+        return Progress::Stopped;
+    }
+    behind(p, is_undefined(u))
+}
+
+// The truth of an empty list.
+fn of_none(join: Join) -> Verdict
+    ensures { λ r. ⌜ r ≡ work.noneOf (reportJoin join) ⌝ }
+{
+    match join {
+        Join::And => Verdict::True,
+        Join::Or => Verdict::False,
+    }
+}
+
+// The truth of a list at its end.
+fn at_end(join: Join, p: Progress) -> Verdict
+    ensures { λ r. ⌜ r ≡ work.atEnd (reportJoin join) p ⌝ }
+{
+    match p {
+        Progress::Plain => of_none(join),
+        Progress::Unsure => Verdict::Undefined,
+        Progress::Stopped => opposite(of_none(join)),
+        Progress::Passed => Verdict::Undefined,
+    }
+}
+
+// ---- filters and lists
+// The assertion of an item.
+fn judge_assertion(
+    t: &[u8],
+    w: &[u64; 256],
+    v: &[u8],
+    f: &[u8],
+    at: usize,
+    live: bool,
+    tests: Tests,
+) -> Judging
+    requires ready { ⌜ work.Ready (now t) (now w) (now v) ⌝ }
+    requires within { ⌜ tests .made ≤ tests .budget ⌝ }
+    ensures { λ w. ⌜ w
+        ≡ work.judgedFilter (outcome knownRules (typeAt (now (t .entry)) 0) (now (v .entry))) live (tests .budget) (tests .made)
+        (parsing.made item (assertionAt (now (f .entry)) at)) ⌝ }
+{
+    let Assertion::Good(parts) = assertion::read_assertion(f, at) else {
+        return Judging::Over;
+    };
+    let after = parts.after;
+    if !live {
+        return Judging::At(Verdict::Undefined, tests.made, after);
+    }
+    placed(judge_parts(t, w, v, f, parts, tests), after)
+}
+
+// An empty list.
+fn empty_list(join: Join, live: bool, n: usize, after: usize) -> Judging
+    ensures { λ w. ⌜ w ≡ Judging.At (work.atEnd (reportJoin join) (work.begun live)) n after ⌝ }
+{
+    Judging::At(at_end(join, begin(live)), n, after)
+}
+
+// What follows a filter of a list that ends before q, after k tests; p is the list so far.
+fn follow(f: &[u8], join: Join, p: Progress, k: usize, q: usize) -> Turn
+    ensures { λ r. ⌜ r ≡ work.turnedBy (reportJoin join) p k (parsing.tailAt (now (f .entry)) q) ⌝ }
+{
+    match filter::read_tail(f, q) {
+        Tail::Another(a) => Turn::Goes(p, k, a),
+        Tail::Closed(a) => Turn::Ends(Judging::At(at_end(join, p), k, a)),
+        Tail::NoTail => Turn::Ends(Judging::Over),
+    }
+}
+
+// What follows a filter of a list that was judged; p is the list before it.
+fn next_turn(f: &[u8], join: Join, p: Progress, w: Judging) -> Turn
+    ensures { λ r. ⌜ r ≡ work.turned (now (f .entry)) (reportJoin join) p w ⌝ }
+{
+    match w {
+        Judging::At(u, k, q) => follow(f, join, joined(join, p, u), k, q),
+        Judging::Over => Turn::Ends(Judging::Over),
+    }
+}
+
+// The filter at a place, judged or passed over, after n tests.
+fn judge_filter(
+    t: &[u8],
+    w: &[u64; 256],
+    v: &[u8],
+    f: &[u8],
+    at: usize,
+    live: bool,
+    tests: Tests,
+) -> Judging
+    requires ready { ⌜ work.Ready (now t) (now w) (now v) ⌝ }
+    requires read { ⌜ isSome (parsing.filterAt (now f) at) ≡ true ⌝ }
+    requires within { ⌜ tests .made ≤ tests .budget ⌝ }
+    ensures { λ w. ⌜ w
+        ≡ work.judgedFilter (outcome knownRules (typeAt (now (t .entry)) 0) (now (v .entry))) live (tests .budget) (tests .made)
+        (parsing.filterAt (now (f .entry)) at) ⌝ }
+{
+    match filter::read_head(f, at) {
+        Head::Assertion(p) => judge_assertion(t, w, v, f, p, live, tests),
+        Head::EmptyList(join, p) => empty_list(join, live, tests.made, p),
+        Head::OpenList(join, p) => judge_list(t, w, v, f, p, join, live, tests),
+        Head::Negation(p) => inverted(judge_filter(t, w, v, f, p, live, tests)),
+        Head::NoHead => Judging::Over,
+    }
+}
+
+// The filters of a list, from one of them on, after n tests.
+fn judge_list(
+    t: &[u8],
+    w: &[u64; 256],
+    v: &[u8],
+    f: &[u8],
+    at: usize,
+    join: Join,
+    live: bool,
+    tests: Tests,
+) -> Judging
+    requires ready { ⌜ work.Ready (now t) (now w) (now v) ⌝ }
+    requires read { ⌜ isSome (filtersAt (now f) at) ≡ true ⌝ }
+    requires within { ⌜ tests .made ≤ tests .budget ⌝ }
+    ensures { λ w. ⌜ w
+        ≡ work.judgedFilters (outcome knownRules (typeAt (now (t .entry)) 0) (now (v .entry))) (reportJoin join) (work.begun live)
+        (tests .budget) (tests .made) (filtersAt (now (f .entry)) at) ⌝ }
+{
+    let mut i = at;
+    let mut k = tests.made;
+    let mut p = begin(live);
+    loop {
+        let first = judge_filter(
+            t,
+            w,
+            v,
+            f,
+            i,
+            goes_on(p),
+            Tests {
+                made: k,
+                budget: tests.budget,
+            },
+        );
+        match next_turn(f, join, p, first) {
+            Turn::Goes(next, c, a) => {
+                p = next;
+                k = c;
+                i = a;
+            }
+            Turn::Ends(end) => return end,
+        }
+    }
+}
+
+// The filter of a whole text.
+pub fn judge(t: &[u8], w: &[u64; 256], v: &[u8], f: &[u8], budget: usize) -> Judged
+    requires ready { ⌜ work.Ready (now t) (now w) (now v) ⌝ }
+    requires read { ⌜ isSome (parsing.filterAt (now f) 0) ≡ true ⌝ }
+    ensures { λ w. ⌜ w
+        ≡ work.judgedText (outcome knownRules (typeAt (now (t .entry)) 0) (now (v .entry))) budget (parsing.filterAt (now (f .entry)) 0) ⌝ }
+{
+    match judge_filter(t, w, v, f, 0, true, Tests { made: 0, budget }) {
+        Judging::At(u, k, _) => Judged::Of(u, k),
+        Judging::Over => Judged::Over,
+    }
+}
