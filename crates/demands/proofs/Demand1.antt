@@ -21,19 +21,17 @@ use Rattle.value.specs.Check.{valueFits, isStored}
 use Rattle.value.specs.Part.{PartReport, refusedPart, partReport}
 use Rattle.reference.specs.Reference.{Id, givenIds}
 use Rattle.reference.specs.Allowed.{allowed}
-use Rattle.reference.specs.Named.{named}
 use Rattle.reference.specs.Numbers.{Component}
 use Rattle.filter.specs.Filter.{Item, Filter}
 use Rattle.filter.specs.Parse.{parse}
-use Rattle.misfit.specs.Trail.{Trail, trail, hasMisfit, reached}
-use Rattle.misfit.proofs.Agreeing.{trail-named, laid-reached}
+use Rattle.misfit.specs.Trail.{trail, hasMisfit}
 use Rattle.rules.specs.Rule.{knownRules}
-use Rattle.evaluation.specs.Reading.{Outcome, settled, misfitAfter}
+use Rattle.evaluation.specs.Reading.{Outcome, settled}
 use Rattle.engine.specs.Paper.{limits}
-use Rattle.engine.specs.Answer.{Report, refused, answers, budgeted, questionFits, evaluated, withFilter, questionOf, askReport}
-use Rattle.engine.specs.Listing.{Listing, refusedList, lists, written, listed, walked, listingFits, withIds, listingOf, listReport}
+use Rattle.engine.specs.Answer.{Report, refused, answers, budgeted, questionFits, evaluated, withValue, withFilter, questionOf, askReport}
+use Rattle.engine.specs.Listing.{Listing, refusedList, lists, written, listed, listingFits, withStored, withIds, listingOf, listReport}
 use Rattle.demands.specs.Named.{components}
-use Rattle.demands.specs.Refusals.{TableRefusals, RefusesTable, ValueRefusals, RefusesValue, partRefusal, PartRefused, ListRefusals, ofSome, RefusesListing, AskRefusals, enough, isMisfit, over, misfits, RefusesFilter}
+use Rattle.demands.specs.Refusals.{TableRefusals, RefusesTable, ValueRefusals, RefusesValue, partRefusal, PartRefused, ListRefusals, ofSome, RefusesListing, AskRefusals, enough, misfits, RefusesFilter}
 
 -- ---- the table check
 pub refuses-table : (t : List ℕ) (r : table.TableReport) → r ≡ table.tableReport (limits .table) t → RefusesTable t r
@@ -96,38 +94,31 @@ module _ (v : List ℕ) (place size : ℕ) where
 
 -- ---- the listing
 module _ (room : List ℕ) where
-  -- a walk, by what it reaches
-  walk-by : (a : Trail) → ListRefusals room false false false false (hasMisfit a) (ltb (length room) (length (reached a) * 3)) (walked a room)
-  unfolding walked listed
-  walk-by a = go (hasMisfit a) (ltb (length room) (length (reached a) * 3))
+  -- components that are listed, unless the walk reaches a header that doesn't fit
+  walk-by : (misfit : Bool) (cs : List Component) → ListRefusals room false false false false misfit (ltb (length room) (length cs * 3)) (pick misfit (refusedList 7 room) (listed cs room))
+  unfolding listed
+  walk-by misfit cs = go misfit (ltb (length room) (length cs * 3))
     where
-      go : (x y : Bool) → ListRefusals room false false false false x y (pick x (refusedList 7 room) (pick y (refusedList 6 room) (record { report = lists (length (reached a)); memory = written (reached a) room })))
+      go : (x y : Bool) → ListRefusals room false false false false x y (pick x (refusedList 7 room) (pick y (refusedList 6 room) (record { report = lists (length cs); memory = written cs room })))
       go true y = record { number = refl; done = refl; count = λ z. refl; unwritten = λ z. refl }
       go false true = record { number = refl; done = refl; count = λ z. refl; unwritten = λ z. refl }
       go false false = record { number = refl; done = refl; count = λ z. absurd (true≢false z); unwritten = λ z. absurd (true≢false z) }
 
   module _ (ty : Ty) (v : List ℕ) (d : Bool) where
-    -- with the components that are named in the decoded value
-    walk-named : (is : List Id) (x : Value) → storedValue ty v ≡ some x
-        → ListRefusals room false false false false (hasMisfit (trail d is ty v)) (ltb (length room) (length (components d is x) * 3)) (walked (trail d is ty v) room)
-    walk-named is x e =
-        subst (λ (cs : List Component). ListRefusals room false false false false (hasMisfit (trail d is ty v)) (ltb (length room) (length cs * 3)) (walked (trail d is ty v) room))
-        (ap reached (trail-named d is ty v x e) ∙ laid-reached (named d is x)) (walk-by (trail d is ty v))
-
     abbrev By : Bool → Bool → Bool → Option Value → Option (List Id) → Listing → Type 0
     By fits ok leading stored ids l =
         ListRefusals room (no fits) (no ok) (no leading) (no (isSome stored)) (ofSome (λ is. hasMisfit (trail d is ty v)) ids)
         (ofSome (λ cs. ltb (length room) (length cs * 3)) (bind ids (λ is. bind stored (λ x. some (components d is x))))) l
 
     ids-by : (o : Option (List Id)) → By true true (isSome (bind o (λ is. allowed is ty))) (storedValue ty v) o (withIds ty v d room o)
-    unfolding withIds
+    unfolding withIds withStored
     ids-by none = record { number = refl; done = refl; count = λ z. refl; unwritten = λ z. refl }
-    ids-by (some is) = go (isSome (allowed is ty)) (storedValue ty v) refl
+    ids-by (some is) = go (isSome (allowed is ty)) (storedValue ty v)
       where
-        go : (b : Bool) (s : Option Value) → storedValue ty v ≡ s → By true true b s (some is) (pick b (pick (isSome s) (walked (trail d is ty v) room) (refusedList 4 room)) (refusedList 3 room))
-        go false s q = record { number = refl; done = refl; count = λ z. refl; unwritten = λ z. refl }
-        go true none q = record { number = refl; done = refl; count = λ z. refl; unwritten = λ z. refl }
-        go true (some x) q = walk-named is x q
+        go : (b : Bool) (s : Option Value) → By true true b s (some is) (pick b (withStored ty v d room is s) (refusedList 3 room))
+        go false s = record { number = refl; done = refl; count = λ z. refl; unwritten = λ z. refl }
+        go true none = record { number = refl; done = refl; count = λ z. refl; unwritten = λ z. refl }
+        go true (some x) = walk-by (hasMisfit (trail d is ty v)) (components d is x)
 
     list-by : (fits ok : Bool) (o : Option (List Id))
         → By fits ok (isSome (bind o (λ is. allowed is ty))) (storedValue ty v) o (pick fits (pick ok (withIds ty v d room o) (refusedList 2 room)) (refusedList 1 room))
@@ -143,33 +134,33 @@ refuses-listing t v given r defaults room l e =
 
 -- ---- a filter
 module _ (t v : List ℕ) (budget : ℕ) where
-  abbrev ByFilter : Bool → Bool → Bool → Option (Filter Item) → Report → Type 0
-  ByFilter fits ok stored p r = AskRefusals (no fits) (no ok) (no (isSome p)) (no stored) (ofSome (over t v budget) p) (ofSome (misfits t v) p) r
+  abbrev ty : Ty
+  ty = typeAt (limits .table) t 0
 
-  outcome-by : (o : Outcome) → AskRefusals false false false false (no (enough budget o)) (isMisfit o) (budgeted budget o)
+  -- the octets decode to a value, or to none
+  abbrev ByFilter : Bool → Bool → Option Value → Option (Filter Item) → Report → Type 0
+  ByFilter fits ok stored p r =
+      AskRefusals (no fits) (no ok) (no (isSome p)) (no (isSome stored)) (ofSome (misfits t v budget) p) (ofSome (λ f. ofSome (λ x. no (enough budget (evaluated knownRules ty x f))) stored) p) r
+
+  outcome-by : (misfit : Bool) (o : Outcome) → AskRefusals false false false false misfit (no (enough budget o)) (pick misfit (refused 7) (budgeted budget o))
   unfolding budgeted
-  outcome-by (settled u n) = go (leb n budget)
+  outcome-by misfit (settled u n) = go misfit (leb n budget)
     where
-      go : (b : Bool) → AskRefusals false false false false (no b) false (pick b (answers u n) (refused 5))
-      go true = record { number = refl; truth = refl; count = λ z. absurd (true≢false z) }
-      go false = record { number = refl; truth = refl; count = λ z. refl }
-  outcome-by (misfitAfter n) = go (leb n budget)
-    where
-      go : (b : Bool) → AskRefusals false false false false (no b) true (pick b (refused 7) (refused 5))
-      go true = record { number = refl; truth = refl; count = λ z. refl }
-      go false = record { number = refl; truth = refl; count = λ z. refl }
+      go : (x b : Bool) → AskRefusals false false false false x (no b) (pick x (refused 7) (pick b (answers u n) (refused 5)))
+      go true b = record { number = refl; truth = refl; count = λ z. refl }
+      go false true = record { number = refl; truth = refl; count = λ z. absurd (true≢false z) }
+      go false false = record { number = refl; truth = refl; count = λ z. refl }
 
-  filter-by : (p : Option (Filter Item)) → ByFilter true true (isSome (storedValue (typeAt (limits .table) t 0) v)) p (withFilter knownRules (typeAt (limits .table) t 0) v budget p)
-  unfolding withFilter
+  filter-by : (p : Option (Filter Item)) → ByFilter true true (storedValue ty v) p (withFilter knownRules ty v budget p)
+  unfolding withFilter withValue
   filter-by none = record { number = refl; truth = refl; count = λ z. refl }
-  filter-by (some f) = go (isSome (storedValue (typeAt (limits .table) t 0) v))
+  filter-by (some f) = go (storedValue ty v)
     where
-      go : (b : Bool) → ByFilter true true b (some f) (pick b (budgeted budget (evaluated knownRules (typeAt (limits .table) t 0) v f)) (refused 4))
-      go true = outcome-by (evaluated knownRules (typeAt (limits .table) t 0) v f)
-      go false = record { number = refl; truth = refl; count = λ z. refl }
+      go : (o : Option Value) → ByFilter true true o (some f) (withValue knownRules ty v budget f o)
+      go none = record { number = refl; truth = refl; count = λ z. refl }
+      go (some x) = outcome-by (misfits t v budget f) (evaluated knownRules ty x f)
 
-  ask-by : (fits ok : Bool) (p : Option (Filter Item))
-      → ByFilter fits ok (isSome (storedValue (typeAt (limits .table) t 0) v)) p (pick fits (pick ok (withFilter knownRules (typeAt (limits .table) t 0) v budget p) (refused 2)) (refused 1))
+  ask-by : (fits ok : Bool) (p : Option (Filter Item)) → ByFilter fits ok (storedValue ty v) p (pick fits (pick ok (withFilter knownRules ty v budget p) (refused 2)) (refused 1))
   ask-by false ok p = record { number = refl; truth = refl; count = λ z. refl }
   ask-by true false p = record { number = refl; truth = refl; count = λ z. refl }
   ask-by true true p = filter-by p

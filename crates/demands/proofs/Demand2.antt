@@ -3,60 +3,60 @@ use Prim.Native.Nat.{ℕ, _≤_, _*_, _/_}
 use mathlib.Core.Path.{_≡_, refl, sym, ap, ap₂, _∙_, subst}
 use mathlib.Core.Bool.{Bool, true, false}
 use mathlib.Core.Option.{Option, none, some}
-use mathlib.Core.List.{List, [], _∷_, map}
+use mathlib.Core.List.{List, [], _∷_}
 use native.Mathlib.Omega.{arith}
 use lib.ListN.{length}
 use lib.Dec.{leb}
 use Prim.Native.Nat.{suc, _+_}
-use Rattle.octets.specs.Pick.{pick, both, either, isSome}
+use Rattle.octets.specs.Pick.{pick, both, either}
 use Rattle.types.specs.Types.{Ty, typeAt}
 use Rattle.types.specs.Admitted.{admitted}
 use Rattle.value.specs.Value.{Value}
 use Rattle.value.specs.Decode.{storedValue}
+use Rattle.value.proofs.Views.{some-same}
 use Rattle.reference.specs.Named.{Held, named}
-use Rattle.reference.specs.Numbers.{Component, component}
 use Rattle.rules.specs.Rule.{knownRules}
 use Rattle.rules.specs.Accepts.{accepts}
 use Rattle.filter.specs.Filter.{Item, Join, and, or, Filter, Filters, item, list, items}
 use Rattle.filter.specs.Parse.{parse}
-use Rattle.misfit.proofs.Agreeing.{laid, trail-named}
 use Rattle.evaluation.specs.Truth.{Truth, TRUE, FALSE, UNDEFINED, everyTruth, anyTruth, conjunction, disjunction, truth, truths, isTrue, isFalse}
-use Rattle.evaluation.specs.Reading.{Outcome, settled, misfitAfter, reading}
+use Rattle.evaluation.specs.Reading.{Outcome, settled, reading}
 use Rattle.evaluation.specs.Assertion.{Asked, asked, testing, outcomeOf, outcome}
-use Rattle.evaluation.proofs.Laws.{truthOf, Settles, reading-truth}
-use Rattle.evaluation.proofs.Few.{testsOf, tests-few}
+use Rattle.evaluation.proofs.Laws.{truthOf, reading-truth}
 use Rattle.evaluation.proofs.Same.{reading-alike, truth-alike, each-so, each-of-all}
 use Rattle.engine.specs.Paper.{limits}
-use Rattle.engine.specs.Answer.{Report, refused, answers, budgeted, questionFits, evaluated, withFilter, questionOf, askReport}
+use Rattle.engine.specs.Misfit.{meetsMisfit}
+use Rattle.engine.specs.Answer.{Report, refused, answers, budgeted, questionFits, evaluated, withValue, withFilter, questionOf, askReport}
 use Rattle.demands.specs.Named.{acceptsOne, needed, truthBy, itemTruth, itemTests, truthFor, testsFor}
 use Rattle.demands.specs.Truths.{Alone, Answers, Answered, AnswersTruly}
 use Rattle.demands.specs.Order.{Reordered, none, keeps, swaps, then}
+use Rattle.demands.proofs.Few.{testsOf, tests-few}
 
 -- ---- an assertion, by what its reference names
-testing-laid : (f : Component → Bool) (n : ℕ) (hs : List Held) → testing f n (laid hs) ≡ settled (truthBy f (map component hs)) (n + needed f (map component hs))
-unfolding testing laid acceptsOne needed
-testing-laid f n [] = let e : n ≡ n + 0 = omega arith in ap (settled FALSE) e
-testing-laid f n (h ∷ hs) = go (f (component h)) (testing-laid f (n + 1) hs)
+testing-named : (f : Held → Bool) (n : ℕ) (hs : List Held) → testing f n hs ≡ settled (truthBy f hs) (n + needed f hs)
+unfolding testing acceptsOne needed
+testing-named f n [] = let e : n ≡ n + 0 = omega arith in ap (settled FALSE) e
+testing-named f n (h ∷ hs) = go (f h) (testing-named f (n + 1) hs)
   where
-    go : (b : Bool) → testing f (n + 1) (laid hs) ≡ settled (truthBy f (map component hs)) (n + 1 + needed f (map component hs))
-        → pick b (settled TRUE (n + 1)) (testing f (n + 1) (laid hs)) ≡ settled (pick (either b (acceptsOne f (map component hs))) TRUE FALSE) (n + pick b 1 (suc (needed f (map component hs))))
+    go : (b : Bool) → testing f (n + 1) hs ≡ settled (truthBy f hs) (n + 1 + needed f hs)
+        → pick b (settled TRUE (n + 1)) (testing f (n + 1) hs) ≡ settled (pick (either b (acceptsOne f hs)) TRUE FALSE) (n + pick b 1 (suc (needed f hs)))
     go true e = refl
-    go false e = let q : n + 1 + needed f (map component hs) ≡ n + suc (needed f (map component hs)) = omega arith in e ∙ ap (settled (truthBy f (map component hs))) q
+    go false e = let q : n + 1 + needed f hs ≡ n + suc (needed f hs) = omega arith in e ∙ ap (settled (truthBy f hs)) q
 
-pub tested-named : (f : Component → Bool) (hs : List Held) → testing f 0 (laid hs) ≡ settled (truthBy f (map component hs)) (needed f (map component hs))
-tested-named f hs = let e : 0 + needed f (map component hs) ≡ needed f (map component hs) = omega arith in testing-laid f 0 hs ∙ ap (settled (truthBy f (map component hs))) e
+pub tested-named : (f : Held → Bool) (hs : List Held) → testing f 0 hs ≡ settled (truthBy f hs) (needed f hs)
+tested-named f hs = let e : 0 + needed f hs ≡ needed f hs = omega arith in testing-named f 0 hs ∙ ap (settled (truthBy f hs)) e
 
-module _ (ty : Ty) (v : List ℕ) (x : Value) (decodes : storedValue ty v ≡ some x) where
+module _ (ty : Ty) (x : Value) where
   abbrev says : Item → Outcome
   says i = settled (itemTruth knownRules ty x i) (itemTests knownRules ty x i)
 
-  outcome-named : (i : Item) → outcome knownRules ty v i ≡ says i
+  outcome-named : (i : Item) → outcome knownRules ty x i ≡ says i
   unfolding outcome
   outcome-named i = go (asked knownRules ty i)
     where
-      go : (o : Option Asked) → outcomeOf ty v i o ≡ settled (truthFor x i o) (testsFor x i o)
+      go : (o : Option Asked) → outcomeOf x i o ≡ settled (truthFor x i o) (testsFor x i o)
       go none = refl
-      go (some a) = ap (testing (accepts (a .rule) (a .asserted)) 0) (trail-named (i .defaults) (a .ids) ty v x decodes) ∙ tested-named (accepts (a .rule) (a .asserted)) (named (i .defaults) (a .ids) x)
+      go (some a) = tested-named (accepts (a .rule) (a .asserted)) (named (i .defaults) (a .ids) x)
 
 -- ---- a report with a truth: what was read, and what it comes to
 settles : (budget : ℕ) (o : Outcome) (u : Truth) (n : ℕ) → budgeted budget o ≡ answers u n → o ≡ settled u n
@@ -66,24 +66,23 @@ settles budget (settled w k) u n e = go (leb k budget) e
     go : (b : Bool) → pick b (answers w k) (refused 5) ≡ answers u n → settled w k ≡ settled u n
     go true q = let m : _≡_ {A = Option Truth} (some w) (some u) = ap (λ (r : Report). r .truth) q in let a : w ≡ u = cc in ap₂ settled a (ap (λ (r : Report). r .tests) q)
     go false q = absurd (let z : _≡_ {A = ℕ} 5 0 = ap (λ (r : Report). r .refusal) q in omega arith)
-settles budget (misfitAfter k) u n e = absurd (go (leb k budget) e)
-  where
-    go : (b : Bool) → pick b (refused 7) (refused 5) ≡ answers u n → ⊥
-    go true q = let z : _≡_ {A = ℕ} 7 0 = ap (λ (r : Report). r .refusal) q in omega arith
-    go false q = let z : _≡_ {A = ℕ} 5 0 = ap (λ (r : Report). r .refusal) q in omega arith
 
 module _ (ty : Ty) (v : List ℕ) (budget : ℕ) (u : Truth) (n : ℕ) where
   abbrev Read : Option (Filter Item) → Type 0
-  Read p = (f : Filter Item) × (p ≡ some f) × (x : Value) × (storedValue ty v ≡ some x) × (reading (outcome knownRules ty v) f ≡ settled u n)
+  Read p = (f : Filter Item) × (p ≡ some f) × (x : Value) × (storedValue ty v ≡ some x) × (reading (outcome knownRules ty x) f ≡ settled u n)
+
+  value-view : (misfit : Bool) (o : Outcome) → pick misfit (refused 7) (budgeted budget o) ≡ answers u n → o ≡ settled u n
+  value-view true o e = absurd (let z : _≡_ {A = ℕ} 7 0 = ap (λ (r : Report). r .refusal) e in omega arith)
+  value-view false o e = settles budget o u n e
 
   filter-view : (p : Option (Filter Item)) → withFilter knownRules ty v budget p ≡ answers u n → Read p
-  unfolding withFilter evaluated
+  unfolding withFilter withValue evaluated
   filter-view none e = absurd (let z : _≡_ {A = ℕ} 3 0 = ap (λ (r : Report). r .refusal) e in omega arith)
   filter-view (some f) e = go (storedValue ty v) refl e
     where
-      go : (o : Option Value) → storedValue ty v ≡ o → pick (isSome o) (budgeted budget (reading (outcome knownRules ty v) f)) (refused 4) ≡ answers u n → Read (some f)
+      go : (o : Option Value) → storedValue ty v ≡ o → withValue knownRules ty v budget f o ≡ answers u n → Read (some f)
       go none q w = absurd (let z : _≡_ {A = ℕ} 4 0 = ap (λ (r : Report). r .refusal) w in omega arith)
-      go (some x) q w = (f, refl, x, q, settles budget (reading (outcome knownRules ty v) f) u n w)
+      go (some x) q w = (f, refl, x, q, value-view (meetsMisfit knownRules ty v budget f) (reading (outcome knownRules ty x) f) w)
 
   view : (fits ok : Bool) (p : Option (Filter Item)) → pick fits (pick ok (withFilter knownRules ty v budget p) (refused 2)) (refused 1) ≡ answers u n → Read p
   view true true p e = filter-view p e
@@ -104,21 +103,17 @@ module _ (t v : List ℕ) where
     unfolding reading
     alone-is u i a =
         let w = answer-view (a .text) (a .budget) u (a .tests) (a .answered) in
-        let same : _≡_ {A = Option (Filter Item)} (some (item i)) (some (w .0)) = sym (a .parses) ∙ w .1 in
-        let is : item i ≡ w .0 = cc in
-        let read : outcome knownRules ty v i ≡ settled u (a .tests) = ap (reading (outcome knownRules ty v)) is ∙ w .4 in
-        ap truthOf (sym read ∙ outcome-named ty v x decodes i)
+        let is : item i ≡ w .0 = some-same (item i) (w .0) (sym (a .parses) ∙ w .1) in
+        let value-is : x ≡ w .2 = some-same x (w .2) (sym decodes ∙ w .3) in
+        let read : outcome knownRules ty x i ≡ settled u (a .tests) = ap₂ (λ (y : Value) (f : Filter Item). reading (outcome knownRules ty y) f) value-is is ∙ w .4 in
+        ap truthOf (sym read ∙ outcome-named ty x i)
 
-    module _ (s : List ℕ) (f : Filter Item) (u : Truth) (n : ℕ) (read : reading (outcome knownRules ty v) f ≡ settled u n) where
-      read-named : reading (says ty v x decodes) f ≡ settled u n
-      read-named = sym (reading-alike (outcome knownRules ty v) (says ty v x decodes) f (each-of-all (outcome-named ty v x decodes) f)) ∙ read
+    module _ (s : List ℕ) (f : Filter Item) (u : Truth) (n : ℕ) (read : reading (outcome knownRules ty x) f ≡ settled u n) where
+      read-named : reading (says ty x) f ≡ settled u n
+      read-named = sym (reading-alike (outcome knownRules ty x) (says ty x) f (each-of-all (outcome-named ty x) f)) ∙ read
 
       is-truth : u ≡ truth (itemTruth knownRules ty x) f
-      is-truth = go (reading (says ty v x decodes) f) read-named (reading-truth f (says ty v x decodes))
-        where
-          go : (o : Outcome) → o ≡ settled u n → Settles o (truth (itemTruth knownRules ty x) f) → u ≡ truth (itemTruth knownRules ty x) f
-          go (settled w k) e h = let a : w ≡ u = cc in sym a ∙ h
-          go (misfitAfter k) e h = absurd (let z : _≡_ {A = ℕ} 0 1 = cc in omega arith)
+      is-truth = ap truthOf (sym read-named) ∙ reading-truth f (says ty x)
 
       pub answers-truly : Answers t v s f x u n
       answers-truly = record {

@@ -7,28 +7,26 @@ use mathlib.Core.List.{List}
 use native.Mathlib.Omega.{arith}
 use borrow.Author.Tests.{lt-ltb, le-ltb, le-leb}
 use lib.ListN.{length}
-use Rattle.octets.specs.Pick.{pick, both, isSome, bind}
+use Rattle.octets.specs.Pick.{pick, both, bind}
 use Rattle.octets.proofs.Laws.{both-true}
 use Rattle.rows.specs.Limits.{tableFits}
 use Rattle.types.specs.Types.{Ty, typeAt}
 use Rattle.value.specs.Value.{Value}
 use Rattle.value.specs.Check.{valueFits}
-use Rattle.value.specs.Decode.{storedValue}
 use Rattle.reference.specs.Reference.{Id, identifiers, givenIds}
 use Rattle.reference.specs.Allowed as reference
 use Rattle.reference.specs.Named.{named}
 use Rattle.rules.specs.Rule.{knownRules}
 use Rattle.rules.specs.RuleFor.{Comparison}
 use Rattle.rules.specs.Accepts.{accepts}
-use Rattle.filter.specs.Filter.{Item}
-use Rattle.misfit.specs.Trail.{trail}
-use Rattle.misfit.proofs.Agreeing.{laid, trail-named, laid-sound, laid-reached}
+use Rattle.filter.specs.Filter.{Item, item}
 use Rattle.misfit.proofs.Spreading.{named-spread}
 use Rattle.evaluation.specs.Reading.{reading}
 use Rattle.evaluation.specs.Assertion.{asked, outcomeOf, outcome}
 use Rattle.engine.specs.Paper.{limits}
-use Rattle.engine.specs.Answer.{Report, budgeted, questionFits, evaluated, withFilter, questionOf, askReport}
-use Rattle.engine.specs.Listing.{Listing, written, listed, walked, referenceFits, listingFits, listReport, withIds, listingOf}
+use Rattle.engine.specs.Answer.{Report, budgeted, questionFits, evaluated, withValue, withFilter, questionOf, askReport}
+use Rattle.engine.specs.Listing.{Listing, written, listed, referenceFits, listingFits, withStored, listReport, withIds, listingOf}
+use Rattle.engine.proofs.MisfitLaws.{no-misfit, trail-fits}
 use Rattle.demands.specs.Named.{components, needed}
 use Rattle.demands.specs.Demand.{Taken, Listed, Put, ruleFor, Asserted, Demanded}
 use Rattle.demands.proofs.Determined.{named-determined}
@@ -39,23 +37,16 @@ module _ (t v : List ℕ) (given : Bool) (r : List ℕ) (x : Value) (is : List I
   abbrev ty : Ty
   ty = typeAt (limits .table) t 0
 
-  stored : isSome (storedValue ty v) ≡ true
-  stored = ap isSome (w .decodes)
-
-  the-trail : trail defaults is ty v ≡ laid (named defaults is x)
-  the-trail = trail-named defaults is ty v x (w .decodes)
-
   lists-by : (room : List ℕ) → listReport limits t v given r defaults room ≡ listed (components defaults is x) room
-  unfolding listReport listingOf withIds walked
-  lists-by room = rw (w .sizes, w .admitted, w .reads, w .allowed, stored, the-trail, laid-sound (named defaults is x), laid-reached (named defaults is x))
+  unfolding listReport listingOf withIds withStored
+  lists-by room = rw (w .sizes, w .admitted, w .reads, w .allowed, w .decodes, trail-fits ty v x (w .decodes) defaults is)
 
-  lists-demanded : (room : List ℕ) (l : Listing) → l ≡ listReport limits t v given r defaults room → Listed t v room (components defaults is x) l
+  lists-demanded : (room : List ℕ) (l : Listing) → l ≡ listReport limits t v given r defaults room → Listed v room (components defaults is x) l
   unfolding listed written
   lists-demanded room l e = record {
     enough = λ h. e ∙ lists-by room ∙ rw (le-ltb (length room) (length (components defaults is x) * 3) h);
     short = λ h. e ∙ lists-by room ∙ rw (lt-ltb (length room) (length (components defaults is x) * 3) h);
     rising = named-spread defaults is ty v x (w .decodes);
-    determined = named-determined (limits .table) t v x (w .decodes) defaults is;
   }
 
   -- ---- an assertion alone
@@ -84,21 +75,22 @@ module _ (t v : List ℕ) (given : Bool) (r : List ℕ) (x : Value) (is : List I
     asks-some : (u : Comparison) → ruleFor target i ≡ some u → asked knownRules ty i ≡ some (record { ids = is; rule = u .rule; asserted = u .asserted })
     asks-some u e = asks-by ∙ rw e
 
-    report-by : askReport limits knownRules t v s budget ≡ budgeted budget (outcomeOf ty v i (asked knownRules ty i))
-    unfolding askReport questionOf withFilter evaluated reading outcome
-    report-by = rw (fits, w .admitted, p .parses, stored)
+    report-by : askReport limits knownRules t v s budget ≡ budgeted budget (outcomeOf x i (asked knownRules ty i))
+    unfolding askReport questionOf withFilter withValue evaluated reading outcome
+    report-by = rw (fits, w .admitted, p .parses, w .decodes, no-misfit knownRules ty v x (w .decodes) budget (item i))
 
-    asserts-demanded : (b : Report) → b ≡ askReport limits knownRules t v s budget → Asserted i budget target (components defaults is x) b
+    asserts-demanded : (b : Report) → b ≡ askReport limits knownRules t v s budget → Asserted i budget target (named defaults is x) b
     unfolding budgeted
     asserts-demanded b q = record {
       undefined = λ e. q ∙ report-by ∙ rw (asks-none e, le-leb 0 budget (omega arith));
-      defined = λ u e h. q ∙ report-by ∙ rw (asks-some u e, p .same-choice, the-trail, tested-named (accepts (u .rule) (u .asserted)) (named defaults is x), le-leb (needed (accepts (u .rule) (u .asserted)) (components defaults is x)) budget h);
+      defined = λ u e h. q ∙ report-by ∙ rw (asks-some u e, p .same-choice, tested-named (accepts (u .rule) (u .asserted)) (named defaults is x), le-leb (needed (accepts (u .rule) (u .asserted)) (named defaults is x)) budget h);
     }
 
 pub demanded : (t v : List ℕ) (given : Bool) (r : List ℕ) (defaults : Bool) (room s : List ℕ) (budget : ℕ) (l : Listing) (b : Report)
     → l ≡ listReport limits t v given r defaults room → b ≡ askReport limits knownRules t v s budget → Demanded t v given r defaults room s budget l b
 demanded t v given r defaults room s budget l b lists asks = record {
   listed = λ x is target w. lists-demanded t v given r x is target w defaults room l lists;
+  determined = λ x is target w. named-determined (limits .table) t v x (w .decodes) defaults is;
   asserted = λ x is target w i p. asserts-demanded t v given r x is target w defaults s i budget p b asks;
   answered = answered-truly t v s budget b asks;
 }

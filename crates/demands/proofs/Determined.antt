@@ -21,7 +21,10 @@ use Rattle.reference.specs.Reference.{Index, position, fromEnd, count, all, Id,
 use Rattle.reference.specs.Named as names
 use Rattle.reference.specs.Named.{Held, value, defaultValue, countValue, absentNames, memberNamed, size, each, indexedBy, step, replaced, held, named}
 use Rattle.reference.specs.Numbers.{Component, stored, byDefault, component, numbersOf, threes}
-use Rattle.rules.specs.Accepts.{accepts}
+use Rattle.rules.specs.Rule.{Rule}
+use Rattle.rules.specs.Asserted.{Asserted}
+use Rattle.rules.specs.Accepts.{accepts, acceptsComponent}
+use Rattle.engine.proofs.MisfitLaws.{accepts-component}
 use Rattle.demands.specs.Named.{components, acceptsOne}
 use Rattle.demands.specs.Numbers.{componentBy, componentsBy, readBack, Each, Determined}
 
@@ -227,13 +230,14 @@ unfolding Each componentsBy threes
 each-listed l t v [] w = refl
 each-listed l t v (c ∷ cs) w = ap₂ (λ (x : Component) (xs : List Component). x ∷ xs) (w .0) (each-listed l t v cs (w .1))
 
-each-accepted : (f : Component → Bool) (g : Component → Component) (cs : List Component) → Each (λ c. g c ≡ c) cs → acceptsOne f cs ≡ acceptsOne (λ c. f (g c)) cs
+each-accepted : (u : Rule) (a : Asserted) (g : Component → Component) (hs : List Held) → Each (λ c. g c ≡ c) (map component hs)
+    → acceptsOne (accepts u a) hs ≡ acceptsOne (λ c. acceptsComponent u a (g c)) (map component hs)
 unfolding Each acceptsOne
-each-accepted f g [] w = refl
-each-accepted f g (c ∷ cs) w = ap₂ either (ap f (sym (w .0))) (each-accepted f g cs (w .1))
+each-accepted u a g [] w = refl
+each-accepted u a g (h ∷ hs) w = ap₂ either (sym (accepts-component u a h) ∙ ap (acceptsComponent u a) (sym (w .0))) (each-accepted u a g hs (w .1))
 
 -- what any identifiers name in a stored value, with either choice about defaults
-pub named-determined : (l : Limits) (t v : List ℕ) (x : Value) → storedValue (typeAt l t 0) v ≡ some x → (defaults : Bool) (is : List Id) → Determined l t v (components defaults is x)
+pub named-determined : (l : Limits) (t v : List ℕ) (x : Value) → storedValue (typeAt l t 0) v ≡ some x → (defaults : Bool) (is : List Id) → Determined l t v (named defaults is x)
 unfolding typeAt named
 named-determined l t v x e defaults is =
     let s = rows (l .rows) t in
@@ -245,5 +249,5 @@ named-determined l t v x e defaults is =
       each = back;
       all = each-map (readBack l t v) (components defaults is x) back;
       listed = each-listed l t v (components defaults is x) back;
-      acceptance = λ u a. each-accepted (accepts u a) (readBack l t v) (components defaults is x) back;
+      acceptance = λ u a. each-accepted u a (readBack l t v) (named defaults is x) back;
     }

@@ -1,4 +1,5 @@
 pub mod Demand1
+pub mod Few
 pub mod Demand2
 pub mod Determined
 pub mod Demand3

@@ -13,6 +13,7 @@ use Rattle.value.specs.Value.{Value}
 use Rattle.value.specs.Decode.{storedValue}
 use Rattle.reference.specs.Reference.{Id, givenIds}
 use Rattle.reference.specs.Allowed as reference
+use Rattle.reference.specs.Named.{Held, named}
 use Rattle.reference.specs.Numbers.{Component, threes}
 use Rattle.rules.specs.Rule.{knownRules}
 use Rattle.rules.specs.RuleFor as rules
@@ -40,7 +41,7 @@ pub record Taken (t v : List ℕ) (given : Bool) (r : List ℕ) (x : Value) (is 
   pub allowed : reference.allowed is (typeAt (limits .table) t 0) ≡ some target
 
 -- ---- the listing, of the components cs that the reference names
-pub record Listed (t v room : List ℕ) (cs : List Component) (l : Listing) : Type 0 where
+pub record Listed (v room : List ℕ) (cs : List Component) (l : Listing) : Type 0 where
   -- "With enough room, the listing is, in document 01's three numbers, exactly the component values that the reference names: every one of them, ..
   -- and no other"; the rest of the room is as it was
   pub enough : length cs * 3 ≤ length room → l ≡ record { report = lists (length cs); memory = threes cs ++ drop (length cs * 3) room }
@@ -48,8 +49,6 @@ pub record Listed (t v room : List ℕ) (cs : List Component) (l : Listing) : Ty
   pub short : length room < length cs * 3 → l ≡ refusedList 6 room
   -- "each once, by rising place in the record"
   pub rising : Spread 0 (length v) cs
-  -- the listed numbers determine the components, and so what a rule accepts
-  pub determined : Determined (limits .table) t v cs
 
 -- ---- an assertion
 -- "Now put any assertion to the same table and value, with the same reference and choice, .. With filter and budget within their limits": the
@@ -65,17 +64,20 @@ pub record Put (given : Bool) (r : List ℕ) (defaults : Bool) (s : List ℕ) (i
 abbrev pub ruleFor : reference.Target → Item → Option Comparison
 ruleFor target i = rules.ruleFor knownRules target (i .rule) (i .value)
 
-pub record Asserted (i : Item) (budget : ℕ) (target : reference.Target) (cs : List Component) (b : answer.Report) : Type 0 where
+-- the values hs are those that the reference names
+pub record Asserted (i : Item) (budget : ℕ) (target : reference.Target) (hs : List Held) (b : answer.Report) : Type 0 where
   -- where document 01 makes it Undefined
   pub undefined : ruleFor target i ≡ none → b ≡ answer.answers UNDEFINED 0
   -- "with .. budget enough, if document 01 .. doesn't make it Undefined, it is TRUE if its rule accepts at least one value on that list, else FALSE"
-  pub defined : (u : Comparison) → ruleFor target i ≡ some u → needed (accepts (u .rule) (u .asserted)) cs ≤ budget
-      → b ≡ answer.answers (truthBy (accepts (u .rule) (u .asserted)) cs) (needed (accepts (u .rule) (u .asserted)) cs)
+  pub defined : (u : Comparison) → ruleFor target i ≡ some u → needed (accepts (u .rule) (u .asserted)) hs ≤ budget
+      → b ≡ answer.answers (truthBy (accepts (u .rule) (u .asserted)) hs) (needed (accepts (u .rule) (u .asserted)) hs)
 
 -- ---- in one piece: a listing l with its memory and a filter's report b
 pub record Demanded (t v : List ℕ) (given : Bool) (r : List ℕ) (defaults : Bool) (room s : List ℕ) (budget : ℕ) (l : Listing) (b : answer.Report) : Type 0 where
-  pub listed : (x : Value) (is : List Id) (target : reference.Target) → Taken t v given r x is target → Listed t v room (components defaults is x) l
+  pub listed : (x : Value) (is : List Id) (target : reference.Target) → Taken t v given r x is target → Listed v room (components defaults is x) l
+  -- the listed numbers determine the named values' components, and so what a rule accepts
+  pub determined : (x : Value) (is : List Id) (target : reference.Target) → Taken t v given r x is target → Determined (limits .table) t v (named defaults is x)
   pub asserted : (x : Value) (is : List Id) (target : reference.Target) → Taken t v given r x is target → (i : Item) → Put given r defaults s i budget
-      → Asserted i budget target (components defaults is x) b
+      → Asserted i budget target (named defaults is x) b
   -- any other filter, among which are the larger ones
   pub answered : AnswersTruly t v s b

@@ -9,10 +9,11 @@ use Rattle.rows.specs.Limits.{Limits}
 use Rattle.rows.specs.Row.{rows, rowAt}
 use Rattle.types.specs.Types.{memberOf}
 use Rattle.reader.specs.There.{contentsThere}
-use Rattle.reference.specs.Numbers.{Component, stored, byDefault, byCount, Numbers, numbersOf, threes}
+use Rattle.reference.specs.Named.{Held}
+use Rattle.reference.specs.Numbers.{Component, stored, byDefault, byCount, component, Numbers, numbersOf, threes}
 use Rattle.rules.specs.Rule.{Rule}
 use Rattle.rules.specs.Asserted.{Asserted}
-use Rattle.rules.specs.Accepts.{accepts}
+use Rattle.rules.specs.Accepts.{accepts, acceptsComponent}
 use Rattle.demands.specs.Named.{acceptsOne}
 
 -- "Stored: 0, start of its own tag octet .., its whole length": with the contents behind the header there
@@ -46,10 +47,10 @@ unfoldable pub Each : (Component → Type 0) → List Component → Type 0
 Each P [] = Unit {0}
 Each P (c ∷ cs) = P c × Each P cs
 
--- table t, stored value v and the listed numbers give each of the components cs back; so whether a rule accepts "at least one value on that list"
--- can be read off the list
-pub record Determined (l : Limits) (t v : List ℕ) (cs : List Component) : Type 0 where
-  pub each : Each (λ c. readBack l t v c ≡ c) cs
-  pub all : map (readBack l t v) cs ≡ cs
-  pub listed : componentsBy l t v (threes cs) ≡ cs
-  pub acceptance : (u : Rule) (a : Asserted) → acceptsOne (accepts u a) cs ≡ acceptsOne (λ c. accepts u a (readBack l t v c)) cs
+-- table t, stored value v and the listed numbers give the component of each of the named values hs back; so whether a rule accepts "at least one
+-- value on that list" can be read off the list
+pub record Determined (l : Limits) (t v : List ℕ) (hs : List Held) : Type 0 where
+  pub each : Each (λ c. readBack l t v c ≡ c) (map component hs)
+  pub all : map (readBack l t v) (map component hs) ≡ map component hs
+  pub listed : componentsBy l t v (threes (map component hs)) ≡ map component hs
+  pub acceptance : (u : Rule) (a : Asserted) → acceptsOne (accepts u a) hs ≡ acceptsOne (λ c. acceptsComponent u a (readBack l t v c)) (map component hs)

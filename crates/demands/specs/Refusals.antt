@@ -21,8 +21,9 @@ use Rattle.filter.specs.Filter.{Item, Filter}
 use Rattle.filter.specs.Parse.{parse}
 use Rattle.misfit.specs.Trail.{trail, hasMisfit}
 use Rattle.rules.specs.Rule.{knownRules}
-use Rattle.evaluation.specs.Reading.{Outcome, settled, misfitAfter}
+use Rattle.evaluation.specs.Reading.{Outcome, settled}
 use Rattle.engine.specs.Paper.{limits}
+use Rattle.engine.specs.Misfit.{meetsMisfit}
 use Rattle.engine.specs.Answer.{Report, questionFits, evaluated}
 use Rattle.engine.specs.Listing.{Listing, listingFits}
 use Rattle.demands.specs.Named.{components}
@@ -88,31 +89,26 @@ module _ (t v : List ℕ) (given : Bool) (r : List ℕ) (defaults : Bool) (room 
   RefusesListing l =
       ListRefusals room (no (listingFits limits t v given r)) (no (admitted (limits .table) t)) (no leads) (no (isStored (limits .table) t v)) walkMisfits roomShort l
 
--- ---- a filter; "Of 5 and 7 the first met is given"
-pub record AskRefusals (one two three four five seven : Bool) (r : Report) : Type 0 where
-  pub number : r .refusal ≡ pick one 1 (pick two 2 (pick three 3 (pick four 4 (pick five 5 (pick seven 7 0)))))
+-- ---- a filter; "Of 5 and 7 the first met is given": 7 where a header that doesn't fit is met after at most the budget's tests
+pub record AskRefusals (one two three four seven five : Bool) (r : Report) : Type 0 where
+  pub number : r .refusal ≡ pick one 1 (pick two 2 (pick three 3 (pick four 4 (pick seven 7 (pick five 5 0)))))
   pub truth : isSome (r .truth) ≡ eqb (r .refusal) 0
   pub count : eqb (r .refusal) 0 ≡ false → r .tests ≡ 0
 
 -- the tests of an outcome are within the budget
 abbrev pub enough : ℕ → Outcome → Bool
 enough budget (settled u n) = leb n budget
-enough budget (misfitAfter n) = leb n budget
 
--- it is a header that doesn't fit
-abbrev pub isMisfit : Outcome → Bool
-isMisfit (settled u n) = Bool.false
-isMisfit (misfitAfter n) = Bool.true
+module _ (t v : List ℕ) (budget : ℕ) where
+  -- 7: such a header is met, on the octets
+  abbrev pub misfits : Filter Item → Bool
+  misfits f = meetsMisfit knownRules (typeAt (limits .table) t 0) v budget f
 
--- 5: "tests needed exceed the budget", counted up to a header that doesn't fit where one is reached
-abbrev pub over : List ℕ → List ℕ → ℕ → Filter Item → Bool
-over t v budget f = no (enough budget (evaluated knownRules (typeAt (limits .table) t 0) v f))
-
--- 7: such a header is reached
-abbrev pub misfits : List ℕ → List ℕ → Filter Item → Bool
-misfits t v f = isMisfit (evaluated knownRules (typeAt (limits .table) t 0) v f)
+  -- 5: "tests needed exceed the budget", for the decoded value
+  abbrev pub over : Filter Item → Bool
+  over f = ofSome (λ x. no (enough budget (evaluated knownRules (typeAt (limits .table) t 0) x f))) (storedValue (typeAt (limits .table) t 0) v)
 
 abbrev pub RefusesFilter : List ℕ → List ℕ → List ℕ → ℕ → Report → Type 0
 RefusesFilter t v s budget r =
     AskRefusals (no (questionFits limits t v s budget)) (no (admitted (limits .table) t)) (no (isSome (parse (limits .filter) s))) (no (isStored (limits .table) t v))
-    (ofSome (over t v budget) (parse (limits .filter) s)) (ofSome (misfits t v) (parse (limits .filter) s)) r
+    (ofSome (misfits t v budget) (parse (limits .filter) s)) (ofSome (over t v budget) (parse (limits .filter) s)) r

@@ -1,6 +1,6 @@
 -- The answer to a filter: one lemma for each return; its premises are the facts as the code has them.
 use mathlib.Core.Path.{_≡_, refl, sym, ap, _∙_}
-use mathlib.Core.Bool.{Bool, true, false, not}
+use mathlib.Core.Bool.{Bool, true, false, not, true≢false}
 use mathlib.Core.Option.{Option, none, some}
 use mathlib.Core.List.{List}
 use Prim.Native.Nat.{ℕ, _≤_, _+_}
@@ -18,6 +18,7 @@ use Rattle.types.specs.inner.Work.{rowCount}
 use Rattle.table.specs.inner.Rows as words
 use Rattle.table.specs.inner.Words.{Worded}
 use Rattle.value.specs.Paper.{valueLimits}
+use Rattle.value.specs.Value.{Value}
 use Rattle.value.specs.Decode.{storedValue}
 use Rattle.value.specs.Check.{valueFits}
 use Rattle.value.proofs.EntrySteps.{not-admitted, is-admitted}
@@ -31,17 +32,16 @@ use Rattle.filter.specs.declared.Filter as declared
 use Rattle.filter.specs.declared.Reading.{Reading}
 use Rattle.filter.proofs.Laws.{parse-read, counted-some, counted-none}
 use Rattle.evaluation.specs.Truth.{TRUE, FALSE, UNDEFINED}
-use Rattle.evaluation.specs.Reading.{Outcome, settled, misfitAfter, reading}
-use Rattle.evaluation.specs.Assertion.{outcome}
-use Rattle.evaluation.specs.inner.Work.{Ready, charged, judgedText}
+use Rattle.evaluation.specs.Reading.{Outcome, settled, reading}
+use Rattle.evaluation.specs.inner.Work.{Ready, outcomeFor, storedOutcome, charged, judgedText}
 use Rattle.evaluation.proofs.ItemSteps.{some-there}
-use Rattle.evaluation.proofs.Settled.{Settled, filter-settled}
 use Rattle.evaluation.specs.declared.Verdict.{Verdict}
 use Rattle.evaluation.specs.declared.Judged.{Judged}
-use Rattle.engine.specs.Answer.{Report, refused, budgeted, questionFits, evaluated, withFilter, questionOf, askReport, report}
+use Rattle.engine.specs.Answer.{Report, refused, budgeted, questionFits, evaluated, withValue, withFilter, questionOf, askReport, report}
 use Rattle.engine.specs.inner.Judged.{settledAs, judgedReport}
 use Rattle.engine.specs.Paper.{limits}
 use Rattle.engine.specs.declared.Answer.{Answer}
+use Rattle.engine.proofs.MisfitLaws.{no-misfit}
 
 -- ---- sizes and the budget
 module _ (t v s : List ℕ) (budget : ℕ) (x : Bool) (fits : x ≡ tableFits tableLimits t) where
@@ -85,13 +85,12 @@ judged-pick : (b : Bool) (j : Judged) → judgedReport (pick b j Judged.Over) �
 judged-pick true j = refl
 judged-pick false j = refl
 
--- without tests before it; over a stored value no header is met that doesn't fit
-budget-told : (budget : ℕ) (o : Outcome) → Settled o → judgedReport (charged budget 0 o) ≡ budgeted budget o
+-- without tests before it
+budget-told : (budget : ℕ) (o : Outcome) → judgedReport (charged budget 0 o) ≡ budgeted budget o
 unfolding charged budgeted
-budget-told budget (settled TRUE k) s = let e : 0 + k ≡ k = omega arith in judged-pick (leb (0 + k) budget) (Judged.Of Verdict.True (0 + k)) ∙ rw e
-budget-told budget (settled FALSE k) s = let e : 0 + k ≡ k = omega arith in judged-pick (leb (0 + k) budget) (Judged.Of Verdict.False (0 + k)) ∙ rw e
-budget-told budget (settled UNDEFINED k) s = let e : 0 + k ≡ k = omega arith in judged-pick (leb (0 + k) budget) (Judged.Of Verdict.Undefined (0 + k)) ∙ rw e
-budget-told budget (misfitAfter k) s = absurd s
+budget-told budget (settled TRUE k) = let e : 0 + k ≡ k = omega arith in judged-pick (leb (0 + k) budget) (Judged.Of Verdict.True (0 + k)) ∙ rw e
+budget-told budget (settled FALSE k) = let e : 0 + k ≡ k = omega arith in judged-pick (leb (0 + k) budget) (Judged.Of Verdict.False (0 + k)) ∙ rw e
+budget-told budget (settled UNDEFINED k) = let e : 0 + k ≡ k = omega arith in judged-pick (leb (0 + k) budget) (Judged.Of Verdict.Undefined (0 + k)) ∙ rw e
 
 -- ---- 3, then 4
 module _ (s : List ℕ) (r : Reading) (told : filter.report r ≡ filter.itemsOf (parse filterLimits s)) where
@@ -108,6 +107,25 @@ module _ (s : List ℕ) (r : Reading) (told : filter.report r ≡ filter.itemsOf
     pub typed-read : isSome (filterAt s 0) ≡ true
     typed-read = ap isSome read-at
 
+-- what the octets decode to, if anything
+module _ (ty : Ty) (v : List ℕ) (budget : ℕ) (f : Filter Item) where
+  not-stored : isSome (storedValue ty v) ≡ false → refused 4 ≡ withValue knownRules ty v budget f (storedValue ty v)
+  unfolding withValue
+  not-stored e = go (storedValue ty v) e
+    where
+      go : (o : Option Value) → isSome o ≡ false → refused 4 ≡ withValue knownRules ty v budget f o
+      go none q = refl
+      go (some x) q = absurd (true≢false q)
+
+  -- no header is met that doesn't fit
+  stored-told : (x : Value) → storedValue ty v ≡ some x → judgedReport (charged budget 0 (reading (storedOutcome ty v) f)) ≡ withValue knownRules ty v budget f (storedValue ty v)
+  unfolding storedOutcome withValue evaluated
+  stored-told x e =
+      budget-told budget (reading (storedOutcome ty v) f)
+      ∙ ap (λ (o : Option Value). budgeted budget (reading (λ i. outcomeFor ty o i) f)) e
+      ∙ sym (ap (λ (b : Bool). pick b (refused 7) (budgeted budget (evaluated knownRules ty x f))) (no-misfit knownRules ty v x e budget f))
+      ∙ ap (withValue knownRules ty v budget f) (sym e)
+
 module _ (ty : Ty) (v s : List ℕ) (budget : ℕ) (r : Reading) (told : filter.report r ≡ filter.itemsOf (parse filterLimits s)) where
   pub typed-malformed : r ≡ Reading.Bad → refused 3 ≡ withFilter knownRules ty v budget (parse filterLimits s)
   unfolding withFilter
@@ -116,17 +134,17 @@ module _ (ty : Ty) (v s : List ℕ) (budget : ℕ) (r : Reading) (told : filter.
   module _ (f : declared.Filter) (good : r ≡ Reading.Good f) (x : Bool) (stored : x ≡ isSome (storedValue ty v)) where
     pub typed-bad : not x ≡ true → refused 4 ≡ withFilter knownRules ty v budget (parse filterLimits s)
     unfolding withFilter
-    typed-bad e = rw (the-filter s r told f good .1, sym stored ∙ not-true x e)
+    typed-bad e = not-stored ty v budget (the-filter s r told f good .0) (sym stored ∙ not-true x e) ∙ sym (rw (the-filter s r told f good .1) refl)
 
-    pub typed-judged : (a : Report) → not x ≡ false → a ≡ judgedReport (judgedText (outcome knownRules ty v) budget (filterAt s 0)) → a ≡ withFilter knownRules ty v budget (parse filterLimits s)
-    unfolding withFilter judgedText evaluated
+    pub typed-judged : (a : Report) → not x ≡ false → a ≡ judgedReport (judgedText (storedOutcome ty v) budget (filterAt s 0)) → a ≡ withFilter knownRules ty v budget (parse filterLimits s)
+    unfolding withFilter judgedText
     typed-judged a e q =
         let is = the-filter s r told f good in
         let y = some-there (storedValue ty v) (sym stored ∙ not-false x e) in
         q
-        ∙ ap (λ (o : Option (Read (Filter Item))). judgedReport (judgedText (outcome knownRules ty v) budget o)) (read-at s r told f good)
-        ∙ budget-told budget (reading (outcome knownRules ty v) (is .0)) (filter-settled knownRules ty v (y .0) (y .1) (is .0))
-        ∙ sym (rw (is .1, sym stored ∙ not-false x e) refl)
+        ∙ ap (λ (o : Option (Read (Filter Item))). judgedReport (judgedText (storedOutcome ty v) budget o)) (read-at s r told f good)
+        ∙ stored-told ty v budget (is .0) (y .0) (y .1)
+        ∙ sym (rw (is .1) refl)
 
 pub typed-ready : (t w v : List ℕ) (x : Bool) → Worded t w → admitted tableLimits t ≡ true → length v ≤ 65536 → x ≡ isSome (storedValue (words.typeAt t 0) v) → not x ≡ false
     → Ready t w v

@@ -1,2 +1,3 @@
+pub mod MisfitLaws
 pub mod ListSteps
 pub mod AskSteps

@@ -26,7 +26,6 @@ use Rattle.reference.specs.Named.{named}
 use Rattle.reference.specs.Numbers.{component}
 use Rattle.reference.specs.inner.Work.{reportTarget, leadsTo}
 use Rattle.reference.specs.declared.Target.{Target}
-use Rattle.misfit.proofs.Agreeing.{trail-named, laid-sound, laid-reached}
 use Rattle.plan.specs.inner.Task as task
 use Rattle.plan.specs.inner.Task.{Task, counting, taskOf}
 use Rattle.plan.specs.inner.Plan.{Relisted}
@@ -37,10 +36,11 @@ use Rattle.walk.specs.declared.State.{State}
 use Rattle.walk.proofs.Callers.{asks-of, asks-listed}
 use Rattle.walk.proofs.ListLaws.{counted-all, list-run}
 use Rattle.evaluation.proofs.ItemSteps.{some-there}
-use Rattle.engine.specs.Listing.{Listing, refusedList, lists, report, written, listed, walked, referenceFits, listingFits, withIds, listingOf, listReport, listing}
+use Rattle.engine.specs.Listing.{Listing, refusedList, lists, report, written, listed, referenceFits, listingFits, withStored, withIds, listingOf, listReport, listing}
 use Rattle.engine.specs.Paper.{limits}
 use Rattle.engine.specs.inner.Listed.{landed, Asked, Lists, LeadsFrom, PlannedTo, Leads, LeadsOn, Led, ListsLed, ListsTo}
 use Rattle.engine.specs.declared.Listed.{Listed}
+use Rattle.engine.proofs.MisfitLaws.{trail-fits}
 
 -- ---- sizes
 module _ (given : Bool) (r : List ℕ) where
@@ -109,14 +109,18 @@ module _ (ty : Ty) (v m : List ℕ) (d : Bool) where
   not-allowed (some is) e = rw e
 
   not-stored : (o : Option (List Id)) → isSome (bind o (λ is. allowed is ty)) ≡ true → isSome (storedValue ty v) ≡ false → refusedList 4 m ≡ withIds ty v d m o
-  unfolding withIds
+  unfolding withIds withStored
   not-stored none e f = absurd (true≢false (sym e))
-  not-stored (some is) e f = rw (e, f)
+  not-stored (some is) e f = rw e (go (storedValue ty v) f)
+    where
+      go : (o : Option Value) → isSome o ≡ false → refusedList 4 m ≡ withStored ty v d m is o
+      go none q = refl
+      go (some x) q = absurd (true≢false q)
 
-  -- the walk over a stored value reaches what is named, and no header that doesn't fit
+  -- no header is met that doesn't fit
   is-listed : (is : List Id) (x : Value) → isSome (allowed is ty) ≡ true → storedValue ty v ≡ some x → listed (map component (named d is x)) m ≡ withIds ty v d m (some is)
-  unfolding withIds walked
-  is-listed is x e f = rw (e, f, trail-named d is ty v x f, laid-sound (named d is x), laid-reached (named d is x))
+  unfolding withIds withStored
+  is-listed is x e f = rw (e, f, trail-fits ty v x f d is)
 
 landed-there : (t : List ℕ) (g : Target) → landed g ≡ isSome (reportTarget (tableLimits .chain) t (tableRows t) g)
 landed-there t (Target.Row i) = refl

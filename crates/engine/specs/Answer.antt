@@ -5,10 +5,11 @@ use mathlib.Core.Bool.{Bool}
 use mathlib.Core.Option.{Option, none, some}
 use mathlib.Core.List.{List}
 use lib.Dec.{leb}
-use Rattle.octets.specs.Pick.{pick, both, isSome}
+use Rattle.octets.specs.Pick.{pick, both}
 use Rattle.rows.specs.Limits.{tableFits}
 use Rattle.types.specs.Types.{Ty, typeAt}
 use Rattle.types.specs.Admitted.{admitted}
+use Rattle.value.specs.Value.{Value}
 use Rattle.value.specs.Decode.{storedValue}
 use Rattle.value.specs.Check.{valueFits}
 use Rattle.rules.specs.Rule.{Known}
@@ -16,8 +17,9 @@ use Rattle.filter.specs.Filter.{Item, Filter}
 use Rattle.filter.specs.Parse.{filterFits, parse}
 use Rattle.engine.specs.Limits.{Limits}
 use Rattle.evaluation.specs.Truth.{Truth, TRUE, FALSE, UNDEFINED}
-use Rattle.evaluation.specs.Reading.{Outcome, settled, misfitAfter, reading}
+use Rattle.evaluation.specs.Reading.{Outcome, settled, reading}
 use Rattle.evaluation.specs.Assertion.{outcome}
+use Rattle.engine.specs.Misfit.{meetsMisfit}
 use Rattle.engine.specs.declared.Answer.{Answer}
 
 -- a refusal number, 0 for none; the truth and the number of tests. A refusal "returns its number, no truth and count 0"
@@ -32,23 +34,27 @@ refused n = record { refusal = n; truth = none; tests = 0 }
 abbrev pub answers : Truth → ℕ → Report
 answers t n = record { refusal = 0; truth = some t; tests = n }
 
--- 5: "tests needed exceed the budget"; "A budget is enough if it is at least the tests needed." 7 where a header that doesn't fit is met within it
+-- 5: "tests needed exceed the budget"; "A budget is enough if it is at least the tests needed."
 unfoldable pub budgeted : ℕ → Outcome → Report
 budgeted budget (settled t n) = pick (leb n budget) (answers t n) (refused 5)
-budgeted budget (misfitAfter n) = pick (leb n budget) (refused 7) (refused 5)
 
 -- 1: sizes and the budget
 unfoldable pub questionFits : Limits → List ℕ → List ℕ → List ℕ → ℕ → Bool
 questionFits l t v s budget = both (tableFits (l .table) t) (both (valueFits (l .value) v) (both (filterFits (l .filter) s) (leb budget (l .budget))))
 
--- a filter that has been read, put to a value of a type; ks are the known rules
-unfoldable pub evaluated : List Known → Ty → List ℕ → Filter Item → Outcome
-evaluated ks ty v f = reading (outcome ks ty v) f
+-- a filter that has been read, put to a decoded value of a type; ks are the known rules
+unfoldable pub evaluated : List Known → Ty → Value → Filter Item → Outcome
+evaluated ks ty x f = reading (outcome ks ty x) f
 
--- 3: "filter not of the form above, or over depth or items"; then 4: "value not as above", by the type of row 0
+-- 4: "value not as above"; 7 where a header that doesn't fit is met within the budget, else 5 where the tests needed exceed it
+unfoldable pub withValue : List Known → Ty → List ℕ → ℕ → Filter Item → Option Value → Report
+withValue ks ty v budget f none = refused 4
+withValue ks ty v budget f (some x) = pick (meetsMisfit ks ty v budget f) (refused 7) (budgeted budget (evaluated ks ty x f))
+
+-- 3: "filter not of the form above, or over depth or items"; then the others, by the value of the type of row 0 that the octets decode to
 unfoldable pub withFilter : List Known → Ty → List ℕ → ℕ → Option (Filter Item) → Report
 withFilter ks ty v budget none = refused 3
-withFilter ks ty v budget (some f) = pick (isSome (storedValue ty v)) (budgeted budget (evaluated ks ty v f)) (refused 4)
+withFilter ks ty v budget (some f) = withValue ks ty v budget f (storedValue ty v)
 
 -- 2, then 3 and the others
 unfoldable pub questionOf : Limits → List Known → List ℕ → List ℕ → List ℕ → ℕ → Report

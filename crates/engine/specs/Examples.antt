@@ -1,6 +1,7 @@
 -- Computed examples.
 use mathlib.Core.Path.{_≡_, refl}
 use mathlib.Core.Bool.{Bool, true, false}
+use mathlib.Core.Option.{some}
 use mathlib.Core.List.{List, [], _∷_, map}
 use Prim.Native.Nat.{ℕ}
 use Prim.Native.String.{String}
@@ -10,20 +11,21 @@ use Rattle.types.specs.Types.{typeAt}
 use Rattle.rows.specs.Paper.{tableLimits}
 use Rattle.types.specs.Paper.{licence}
 use Rattle.value.specs.Paper.{licenceRecord}
-use Rattle.reference.specs.Reference.{position, all, Id, name, index}
-use Rattle.reference.specs.Numbers.{threes}
+use Rattle.reference.specs.Reference.{all, Id, name, index}
 use Rattle.evaluation.specs.Truth.{TRUE, FALSE, UNDEFINED}
-use Rattle.evaluation.specs.Reading.{settled, misfitAfter}
-use Rattle.misfit.specs.Trail.{Trail, trail, hasMisfit, reached}
+use Rattle.evaluation.specs.Reading.{settled}
+use Rattle.misfit.specs.Trail.{Trail, trail, hasMisfit}
 use Rattle.rules.specs.Rule.{knownRules}
+use Rattle.filter.specs.Filter.{Item, Join, and, or, item, list, inverse, endFilters, next}
+use Rattle.engine.specs.Misfit.{Met, ends, misfitAfter, alongTrail, readingMet, misfitWithin}
 use Rattle.engine.specs.Answer as answer
 use Rattle.engine.specs.Answer.{budgeted, askReport}
 use Rattle.engine.specs.Listing.{Listing, listReport, refusedList, lists}
 use Rattle.engine.specs.Paper.{limits}
 use Rattle.engine.specs.Computing.{engineComputes}
 
--- of 5 and 7 the first met: a fault after two tests
-budgets : budgeted 2 (settled TRUE 2) ∷ budgeted 1 (settled TRUE 2) ∷ budgeted 2 (misfitAfter 2) ∷ budgeted 1 (misfitAfter 2) ∷ [] ≡ answer.answers TRUE 2 ∷ answer.refused 5 ∷ answer.refused 7 ∷ answer.refused 5 ∷ []
+-- 5 where the tests needed exceed the budget
+budgets : budgeted 2 (settled TRUE 2) ∷ budgeted 1 (settled TRUE 2) ∷ [] ≡ answer.answers TRUE 2 ∷ answer.refused 5 ∷ []
 unfolding engineComputes
 budgets = refl
 
@@ -86,7 +88,32 @@ faults : map (λ v. hasMisfit (walk copies v)) (licenceRecord ∷ set licenceRec
 unfolding engineComputes walk
 faults = refl
 
--- what is reached before the fault; and a walk that does not come there has none
-before : threes (reached (walk copies (set licenceRecord 15 8))) ∷ threes (reached (walk (name (bytes "parts") ∷ index (position 1) ∷ []) (set licenceRecord 15 8))) ∷ [] ≡ (1 ∷ 8 ∷ 9 ∷ []) ∷ (0 ∷ 8 ∷ 6 ∷ []) ∷ []
-unfolding engineComputes walk
+-- an assertion's tests up to the fault; one that accepts a value before it, and a walk that doesn't come there, meet none
+abbrev asserting : String → String → Item
+asserting reference n = record { component = some (bytes reference); defaults = true; rule = bytes "integerMatch"; value = bytes n }
+
+met : List ℕ → Item → Met
+met v i = alongTrail knownRules (typeAt tableLimits licence 0) v i
+
+before : map (met (set licenceRecord 15 8)) (asserting "parts.*.copies" "5" ∷ asserting "parts.*.copies" "1" ∷ asserting "parts.1.copies" "5" ∷ [])
+    ≡ misfitAfter 1 ∷ ends (settled TRUE 1) ∷ ends (settled FALSE 1) ∷ []
+unfolding engineComputes met
 before = refl
+
+none-met : met licenceRecord (asserting "parts.*.copies" "5") ≡ ends (settled FALSE 2)
+unfolding engineComputes met
+none-met = refl
+
+-- a filter: an item here is what is met in it; what comes after a stop is not reached
+abbrev two : Join → Met → Met → Met
+two j a b = readingMet (λ m. m) (list j (next (item a) (next (item b) endFilters)))
+
+reached : two and (ends (settled FALSE 1)) (misfitAfter 2) ∷ two or (ends (settled FALSE 1)) (misfitAfter 2) ∷ two and (ends (settled UNDEFINED 0)) (misfitAfter 2)
+    ∷ two and (misfitAfter 2) (ends (settled FALSE 1)) ∷ readingMet (λ m. m) (inverse (item (misfitAfter 2))) ∷ []
+    ≡ ends (settled FALSE 1) ∷ misfitAfter 3 ∷ misfitAfter 2 ∷ misfitAfter 2 ∷ misfitAfter 2 ∷ []
+unfolding engineComputes
+reached = refl
+
+-- of 5 and 7 the first met: a header after three tests
+within : misfitWithin 2 (misfitAfter 3) ∷ misfitWithin 3 (misfitAfter 3) ∷ misfitWithin 3 (ends (settled TRUE 1)) ∷ [] ≡ false ∷ true ∷ false ∷ []
+within = refl

@@ -1,4 +1,5 @@
 pub mod Limits
+pub mod Misfit
 pub mod Answer
 pub mod inner
 pub mod Listing

@@ -2,20 +2,22 @@
 use Prim.Native.Nat.{ℕ, _*_}
 use mathlib.Core.Bool.{Bool, true, false}
 use mathlib.Core.Option.{Option, none, some}
-use mathlib.Core.List.{List, [], _++_}
+use mathlib.Core.List.{List, _++_, map}
 use lib.ListN.{length, drop}
 use lib.Dec.{ltb, leb}
 use Rattle.octets.specs.Pick.{pick, both, either, no, isSome}
 use Rattle.rows.specs.Limits.{tableFits}
 use Rattle.types.specs.Types.{Ty, typeAt}
 use Rattle.types.specs.Admitted.{admitted}
+use Rattle.value.specs.Value.{Value}
 use Rattle.value.specs.Decode.{storedValue}
 use Rattle.value.specs.Check.{valueFits}
 use Rattle.reference.specs.Reference.{Id, givenIds}
 use Rattle.reference.specs.Allowed.{allowed}
-use Rattle.reference.specs.Numbers.{Component, threes}
+use Rattle.reference.specs.Named.{named}
+use Rattle.reference.specs.Numbers.{Component, component, threes}
 use Rattle.engine.specs.Limits.{Limits}
-use Rattle.misfit.specs.Trail.{Trail, trail, hasMisfit, reached}
+use Rattle.misfit.specs.Trail.{trail, hasMisfit}
 use Rattle.engine.specs.declared.Listed.{Listed}
 
 -- whether it is done and not refused; the refusal's number, 0 for none; "the count in its answer is the number of named values", and 0 with a refusal
@@ -47,10 +49,6 @@ written cs room = threes cs ++ drop (length cs * 3) room
 unfoldable pub listed : List Component → List ℕ → Listing
 listed cs room = pick (ltb (length room) (length cs * 3)) (refusedList 6 room) (record { report = lists (length cs); memory = written cs room })
 
--- 7 goes before 6
-unfoldable pub walked : Trail → List ℕ → Listing
-walked a room = pick (hasMisfit a) (refusedList 7 room) (listed (reached a) room)
-
 -- 1: "a listing's reference above 2,048"; where none is given its octets are not looked at
 abbrev pub referenceFits : Limits → Bool → List ℕ → Bool
 referenceFits l given r = either (no given) (leb (length r) (l .reference))
@@ -59,13 +57,19 @@ referenceFits l given r = either (no given) (leb (length r) (l .reference))
 unfoldable pub listingFits : Limits → List ℕ → List ℕ → Bool → List ℕ → Bool
 listingFits l t v given r = both (tableFits (l .table) t) (both (valueFits (l .value) v) (referenceFits l given r))
 
+-- 4: "value not as above"; 7 goes before 6; what is listed is what the reference names in the decoded value
+unfoldable pub withStored : Ty → List ℕ → Bool → List ℕ → List Id → Option Value → Listing
+withStored ty v defaults room is none = refusedList 4 room
+withStored ty v defaults room is (some x) =
+    pick (hasMisfit (trail defaults is ty v)) (refusedList 7 room) (listed (map component (named defaults is x)) room)
+
 -- "The listing may be given no reference; an empty one is refused 3."
--- 3: "reference malformed or not allowed"; then 4: "value not as above", by the type of row 0
+-- 3: "reference malformed or not allowed"; then the others, by the value of the type of row 0 that the octets decode to
 unfoldable pub withIds : Ty → List ℕ → Bool → List ℕ → Option (List Id) → Listing
 withIds ty v defaults room none = refusedList 3 room
 withIds ty v defaults room (some is) =
     pick (isSome (allowed is ty))
-    (pick (isSome (storedValue ty v)) (walked (trail defaults is ty v) room) (refusedList 4 room))
+    (withStored ty v defaults room is (storedValue ty v))
     (refusedList 3 room)
 
 -- 2, then 3 and the others

@@ -1,8 +1,8 @@
 // The answers of the engine: the listing, and the answer to a filter.
-use filter::Filter;
-use filter::Reading;
 use evaluation::Judged;
 use evaluation::Verdict;
+use filter::Filter;
+use filter::Reading;
 use reference::Target;
 use rows::Table;
 use value::Value;
@@ -20,8 +20,7 @@ ghost use Rattle.rules.specs.Rule.{knownRules};
 ghost use Rattle.plan.specs.inner.Task.{counting, taskOf};
 ghost use Rattle.filter.specs.Parse.{filterAt, parse};
 ghost use Rattle.filter.specs.Paper.{filterLimits};
-ghost use Rattle.evaluation.specs.Assertion.{outcome};
-ghost use Rattle.evaluation.specs.inner.Work.{Ready, judgedText};
+ghost use Rattle.evaluation.specs.inner.Work.{Ready, storedOutcome, judgedText};
 ghost use Rattle.engine.specs.Answer as answer;
 ghost use Rattle.engine.specs.Listing.{report, lists, referenceFits, listingFits, withIds, listingOf, listReport, listing};
 ghost use Rattle.engine.specs.Paper.{limits};
@@ -279,7 +278,7 @@ fn ask_judged(t: &[u8], w: &[u64; 256], v: &[u8], filter: &[u8], budget: usize) 
     requires ready { ⌜ Ready (now t) (now w) (now v) ⌝ }
     requires read { ⌜ isSome (filterAt (now filter) 0) ≡ true ⌝ }
     ensures { λ a. ⌜ answer.report a
-        ≡ judgedReport (judgedText (outcome knownRules (typeAt (now (t .entry)) 0) (now (v .entry))) budget (filterAt (now (filter .entry)) 0)) ⌝ }
+        ≡ judgedReport (judgedText (storedOutcome (typeAt (now (t .entry)) 0) (now (v .entry))) budget (filterAt (now (filter .entry)) 0)) ⌝ }
 {
     match evaluation::judge(t, w, v, filter, budget) {
         Judged::Of(u, n) => Answer::of(u, n),

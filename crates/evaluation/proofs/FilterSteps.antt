@@ -9,7 +9,6 @@ use borrow.Author.Tests.{not-true, not-false}
 use lib.ListN.{length}
 use Rattle.octets.specs.Pick.{isSome}
 use Rattle.types.specs.Types.{Ty}
-use Rattle.rules.specs.Rule.{knownRules}
 use Rattle.assertion.specs.Assertion.{Read, assertionAt}
 use Rattle.assertion.specs.inner.Places.{itemOf, reportAssertion}
 use Rattle.assertion.specs.declared.Assertion.{Assertion}
@@ -25,8 +24,7 @@ use Rattle.filter.specs.declared.Tail as tail
 use Rattle.filter.proofs.Laws.{filter-by, read-first, read-another, read-closed, read-tail, filter-further}
 use Rattle.filter.proofs.Progress.{HeadOn, head-on, TailOn, tail-on}
 use Rattle.evaluation.specs.Reading.{Outcome, settled, ofNone, andThen, reading, readingIn}
-use Rattle.evaluation.specs.Assertion.{outcome}
-use Rattle.evaluation.specs.inner.Work.{charged, placed, inverse, judgedIf, judgedFilter, judgedRest, judgedFilters, begun, goesOn, behind, stopsAt, isUndefined, joinedBy, atEnd, turnedBy, turned, judgedText}
+use Rattle.evaluation.specs.inner.Work.{storedOutcome, charged, placed, inverse, judgedIf, judgedFilter, judgedRest, judgedFilters, begun, goesOn, behind, stopsAt, isUndefined, joinedBy, atEnd, turnedBy, turned, judgedText}
 use Rattle.evaluation.specs.declared.Verdict.{Verdict}
 use Rattle.evaluation.specs.declared.Judged.{Judged}
 use Rattle.evaluation.specs.declared.Judging.{Judging}
@@ -81,18 +79,18 @@ unfolding judgedFilter reading
 made-some says live budget n x i after e = rw e
 
 module _ (ty : Ty) (v f : List ℕ) (at : ℕ) (live : Bool) (budget n : ℕ) (a : Assertion) (e : reportAssertion f a ≡ assertionAt f at) where
-  pub assertion-bad : a ≡ Assertion.Bad → Judging.Over ≡ judgedFilter (outcome knownRules ty v) live budget n (made item (assertionAt f at))
-  assertion-bad q = made-none (outcome knownRules ty v) live budget n (assertionAt f at) (sym e ∙ ap (reportAssertion f) q)
+  pub assertion-bad : a ≡ Assertion.Bad → Judging.Over ≡ judgedFilter (storedOutcome ty v) live budget n (made item (assertionAt f at))
+  assertion-bad q = made-none (storedOutcome ty v) live budget n (assertionAt f at) (sym e ∙ ap (reportAssertion f) q)
 
   module _ (p : Parts) (q : a ≡ Assertion.Good p) (after : ℕ) (k : after ≡ p .after) where
-    good : judgedIf live budget n (outcome knownRules ty v (itemOf f p)) after ≡ judgedFilter (outcome knownRules ty v) live budget n (made item (assertionAt f at))
-    good = ap (judgedIf live budget n (outcome knownRules ty v (itemOf f p))) k ∙ made-some (outcome knownRules ty v) live budget n (assertionAt f at) (itemOf f p) (p .after) (sym e ∙ ap (reportAssertion f) q)
+    good : judgedIf live budget n (storedOutcome ty v (itemOf f p)) after ≡ judgedFilter (storedOutcome ty v) live budget n (made item (assertionAt f at))
+    good = ap (judgedIf live budget n (storedOutcome ty v (itemOf f p))) k ∙ made-some (storedOutcome ty v) live budget n (assertionAt f at) (itemOf f p) (p .after) (sym e ∙ ap (reportAssertion f) q)
 
-    pub assertion-passed : not live ≡ true → Judging.At Verdict.Undefined n after ≡ judgedFilter (outcome knownRules ty v) live budget n (made item (assertionAt f at))
-    assertion-passed h = sym (ap (λ (b : Bool). judgedIf b budget n (outcome knownRules ty v (itemOf f p)) after) (not-true live h)) ∙ good
+    pub assertion-passed : not live ≡ true → Judging.At Verdict.Undefined n after ≡ judgedFilter (storedOutcome ty v) live budget n (made item (assertionAt f at))
+    assertion-passed h = sym (ap (λ (b : Bool). judgedIf b budget n (storedOutcome ty v (itemOf f p)) after) (not-true live h)) ∙ good
 
-    pub assertion-judged : (w : Judged) (x : Judging) → not live ≡ false → w ≡ charged budget n (outcome knownRules ty v (itemOf f p)) → x ≡ placed after w → x ≡ judgedFilter (outcome knownRules ty v) live budget n (made item (assertionAt f at))
-    assertion-judged w x h c d = d ∙ ap (placed after) c ∙ sym (ap (λ (b : Bool). judgedIf b budget n (outcome knownRules ty v (itemOf f p)) after) (not-false live h)) ∙ good
+    pub assertion-judged : (w : Judged) (x : Judging) → not live ≡ false → w ≡ charged budget n (storedOutcome ty v (itemOf f p)) → x ≡ placed after w → x ≡ judgedFilter (storedOutcome ty v) live budget n (made item (assertionAt f at))
+    assertion-judged w x h c d = d ∙ ap (placed after) c ∙ sym (ap (λ (b : Bool). judgedIf b budget n (storedOutcome ty v (itemOf f p)) after) (not-false live h)) ∙ good
 
 -- ---- a filter, by its head
 there-some : {A : Type 0} (o : Option A) (a : A) → o ≡ some a → isSome o ≡ true
@@ -119,21 +117,21 @@ empty-judged says j true budget n after h = sym (at-end j Progress.Plain budget 
 empty-judged says j false budget n after h = refl
 
 module _ (ty : Ty) (v f : List ℕ) (at : ℕ) (live : Bool) (budget n : ℕ) (h : Head) (e : reportHead h ≡ headAt f at) where
-  pub filter-item : (p : ℕ) (w : Judging) → h ≡ Head.Assertion p → w ≡ judgedFilter (outcome knownRules ty v) live budget n (made item (assertionAt f p)) → w ≡ judgedFilter (outcome knownRules ty v) live budget n (filterAt f at)
-  filter-item p w q d = d ∙ ap (judgedFilter (outcome knownRules ty v) live budget n) (sym (filter-by f at (sym e ∙ ap reportHead q)))
+  pub filter-item : (p : ℕ) (w : Judging) → h ≡ Head.Assertion p → w ≡ judgedFilter (storedOutcome ty v) live budget n (made item (assertionAt f p)) → w ≡ judgedFilter (storedOutcome ty v) live budget n (filterAt f at)
+  filter-item p w q d = d ∙ ap (judgedFilter (storedOutcome ty v) live budget n) (sym (filter-by f at (sym e ∙ ap reportHead q)))
 
-  pub filter-empty : (j : Join) (p : ℕ) (w : Judging) → n ≤ budget → h ≡ Head.EmptyList j p → w ≡ Judging.At (atEnd (reportJoin j) (begun live)) n p → w ≡ judgedFilter (outcome knownRules ty v) live budget n (filterAt f at)
-  filter-empty j p w l q d = d ∙ empty-judged (outcome knownRules ty v) (reportJoin j) live budget n p l ∙ ap (judgedFilter (outcome knownRules ty v) live budget n) (sym (filter-by f at (sym e ∙ ap reportHead q)))
+  pub filter-empty : (j : Join) (p : ℕ) (w : Judging) → n ≤ budget → h ≡ Head.EmptyList j p → w ≡ Judging.At (atEnd (reportJoin j) (begun live)) n p → w ≡ judgedFilter (storedOutcome ty v) live budget n (filterAt f at)
+  filter-empty j p w l q d = d ∙ empty-judged (storedOutcome ty v) (reportJoin j) live budget n p l ∙ ap (judgedFilter (storedOutcome ty v) live budget n) (sym (filter-by f at (sym e ∙ ap reportHead q)))
 
-  pub filter-list : (j : Join) (p : ℕ) (w : Judging) → h ≡ Head.OpenList j p → w ≡ judgedFilters (outcome knownRules ty v) (reportJoin j) (begun live) budget n (filtersAt f p) → w ≡ judgedFilter (outcome knownRules ty v) live budget n (filterAt f at)
-  filter-list j p w q d = d ∙ list-judged (outcome knownRules ty v) (reportJoin j) live budget n (filtersAt f p) ∙ ap (judgedFilter (outcome knownRules ty v) live budget n) (sym (filter-by f at (sym e ∙ ap reportHead q)))
+  pub filter-list : (j : Join) (p : ℕ) (w : Judging) → h ≡ Head.OpenList j p → w ≡ judgedFilters (storedOutcome ty v) (reportJoin j) (begun live) budget n (filtersAt f p) → w ≡ judgedFilter (storedOutcome ty v) live budget n (filterAt f at)
+  filter-list j p w q d = d ∙ list-judged (storedOutcome ty v) (reportJoin j) live budget n (filtersAt f p) ∙ ap (judgedFilter (storedOutcome ty v) live budget n) (sym (filter-by f at (sym e ∙ ap reportHead q)))
 
-  pub filter-not : (p : ℕ) (w x : Judging) → h ≡ Head.Negation p → w ≡ judgedFilter (outcome knownRules ty v) live budget n (filterAt f p) → x ≡ inverse w → x ≡ judgedFilter (outcome knownRules ty v) live budget n (filterAt f at)
-  filter-not p w x q d g = g ∙ ap inverse d ∙ not-judged (outcome knownRules ty v) live budget n (filterAt f p) ∙ ap (judgedFilter (outcome knownRules ty v) live budget n) (sym (filter-by f at (sym e ∙ ap reportHead q)))
+  pub filter-not : (p : ℕ) (w x : Judging) → h ≡ Head.Negation p → w ≡ judgedFilter (storedOutcome ty v) live budget n (filterAt f p) → x ≡ inverse w → x ≡ judgedFilter (storedOutcome ty v) live budget n (filterAt f at)
+  filter-not p w x q d g = g ∙ ap inverse d ∙ not-judged (storedOutcome ty v) live budget n (filterAt f p) ∙ ap (judgedFilter (storedOutcome ty v) live budget n) (sym (filter-by f at (sym e ∙ ap reportHead q)))
 
-  pub filter-none : h ≡ Head.NoHead → Judging.Over ≡ judgedFilter (outcome knownRules ty v) live budget n (filterAt f at)
+  pub filter-none : h ≡ Head.NoHead → Judging.Over ≡ judgedFilter (storedOutcome ty v) live budget n (filterAt f at)
   unfolding judgedFilter
-  filter-none q = ap (judgedFilter (outcome knownRules ty v) live budget n) (sym (filter-by f at (sym e ∙ ap reportHead q)))
+  filter-none q = ap (judgedFilter (storedOutcome ty v) live budget n) (sym (filter-by f at (sym e ∙ ap reportHead q)))
 
 module _ (f : List ℕ) (at : ℕ) (h : Head) (e : reportHead h ≡ headAt f at) where
   module _ (read : isSome (filterAt f at) ≡ true) where
@@ -206,11 +204,11 @@ pub record Listing (ty : Ty) (v f : List ℕ) (j : filter.Join) (begin : Progres
   pub read : isSome (filtersAt f i) ≡ true
   pub within : k ≤ budget
   pub on : length f - i ≤ length f - at
-  pub same : judgedFilters (outcome knownRules ty v) j p budget k (filtersAt f i) ≡ judgedFilters (outcome knownRules ty v) j begin budget n (filtersAt f at)
+  pub same : judgedFilters (storedOutcome ty v) j p budget k (filtersAt f i) ≡ judgedFilters (storedOutcome ty v) j begin budget n (filtersAt f at)
 
 module _ (ty : Ty) (v f : List ℕ) (j : filter.Join) (live : Bool) (budget n at : ℕ) where
   pub list-begins : (p : Progress) → p ≡ begun live → isSome (filtersAt f at) ≡ true → n ≤ budget → Listing ty v f j (begun live) budget n at p n at
-  list-begins p e r h = record { read = r; within = h; on = omega arith; same = ap (λ (y : Progress). judgedFilters (outcome knownRules ty v) j y budget n (filtersAt f at)) e }
+  list-begins p e r h = record { read = r; within = h; on = omega arith; same = ap (λ (y : Progress). judgedFilters (storedOutcome ty v) j y budget n (filtersAt f at)) e }
 
   module _ (p : Progress) (k i : ℕ) (inv : Listing ty v f j (begun live) budget n at p k i) where
     pub list-lower : (t : ℕ) → 2 * (length f - at) + 1 ≡ t → 2 * (length f - i) < t
@@ -225,18 +223,18 @@ module _ (ty : Ty) (v f : List ℕ) (j : filter.Join) (live : Bool) (budget n at
     pub list-within : k ≤ budget
     list-within = inv .within
 
-    module _ (b : Bool) (w : Judging) (x : Turn) (going : b ≡ goesOn p) (judged : w ≡ judgedFilter (outcome knownRules ty v) b budget k (filterAt f i)) (told : x ≡ turned f j p w) where
-      said : TurnSays (outcome knownRules ty v) f j p budget k i x
+    module _ (b : Bool) (w : Judging) (x : Turn) (going : b ≡ goesOn p) (judged : w ≡ judgedFilter (storedOutcome ty v) b budget k (filterAt f i)) (told : x ≡ turned f j p w) where
+      said : TurnSays (storedOutcome ty v) f j p budget k i x
       said =
-          subst (TurnSays (outcome knownRules ty v) f j p budget k i) (sym told)
-          (says-judged (outcome knownRules ty v) f j p budget k i (rest .0) (rest .1) (inv .within) w (judged ∙ ap (λ (y : Bool). judgedFilter (outcome knownRules ty v) y budget k (filterAt f i)) going))
+          subst (TurnSays (storedOutcome ty v) f j p budget k i) (sym told)
+          (says-judged (storedOutcome ty v) f j p budget k i (rest .0) (rest .1) (inv .within) w (judged ∙ ap (λ (y : Bool). judgedFilter (storedOutcome ty v) y budget k (filterAt f i)) going))
 
-      pub list-ends : (y : Judging) → x ≡ Turn.Ends y → y ≡ judgedFilters (outcome knownRules ty v) j (begun live) budget n (filtersAt f at)
-      list-ends y q = subst (TurnSays (outcome knownRules ty v) f j p budget k i) q said ∙ inv .same
+      pub list-ends : (y : Judging) → x ≡ Turn.Ends y → y ≡ judgedFilters (storedOutcome ty v) j (begun live) budget n (filtersAt f at)
+      list-ends y q = subst (TurnSays (storedOutcome ty v) f j p budget k i) q said ∙ inv .same
 
       module _ (next : Progress) (c a : ℕ) (q : x ≡ Turn.Goes next c a) where
-        goes : TurnSays (outcome knownRules ty v) f j p budget k i (Turn.Goes next c a)
-        goes = subst (TurnSays (outcome knownRules ty v) f j p budget k i) q said
+        goes : TurnSays (storedOutcome ty v) f j p budget k i (Turn.Goes next c a)
+        goes = subst (TurnSays (storedOutcome ty v) f j p budget k i) q said
 
         pub list-falls : length f - a < length f - i
         list-falls = goes .2
@@ -256,9 +254,9 @@ text-judged says budget (some r) j after e h = go j (charged budget 0 (reading s
     go Judged.Over (Judged.Of y l) q = absurd (let z : _≡_ {A = ℕ} 0 1 = cc in omega arith)
     go Judged.Over Judged.Over q = refl
 
-module _ (ty : Ty) (v f : List ℕ) (budget : ℕ) (w : Judging) (read : isSome (filterAt f 0) ≡ true) (judged : w ≡ judgedFilter (outcome knownRules ty v) true budget 0 (filterAt f 0)) where
-  pub text-at : (u : Verdict) (k after : ℕ) → w ≡ Judging.At u k after → Judged.Of u k ≡ judgedText (outcome knownRules ty v) budget (filterAt f 0)
-  text-at u k after q = text-judged (outcome knownRules ty v) budget (filterAt f 0) (Judged.Of u k) after (sym q ∙ judged) read
+module _ (ty : Ty) (v f : List ℕ) (budget : ℕ) (w : Judging) (read : isSome (filterAt f 0) ≡ true) (judged : w ≡ judgedFilter (storedOutcome ty v) true budget 0 (filterAt f 0)) where
+  pub text-at : (u : Verdict) (k after : ℕ) → w ≡ Judging.At u k after → Judged.Of u k ≡ judgedText (storedOutcome ty v) budget (filterAt f 0)
+  text-at u k after q = text-judged (storedOutcome ty v) budget (filterAt f 0) (Judged.Of u k) after (sym q ∙ judged) read
 
-  pub text-over : w ≡ Judging.Over → Judged.Over ≡ judgedText (outcome knownRules ty v) budget (filterAt f 0)
-  text-over q = text-judged (outcome knownRules ty v) budget (filterAt f 0) Judged.Over 0 (sym q ∙ judged) read
+  pub text-over : w ≡ Judging.Over → Judged.Over ≡ judgedText (storedOutcome ty v) budget (filterAt f 0)
+  text-over q = text-judged (storedOutcome ty v) budget (filterAt f 0) Judged.Over 0 (sym q ∙ judged) read

@@ -1,5 +1,5 @@
 -- Each value that a reference names fits what the reference leads to; so the code's acceptance is the definition's, for what is named in a stored value.
-use mathlib.Core.Path.{_≡_, refl, sym, ap, _∙_, subst}
+use mathlib.Core.Path.{_≡_, refl, sym, ap, ap₂, _∙_, subst}
 use mathlib.Core.Bool.{Bool, true, false, false≢true}
 use mathlib.Core.Option.{Option, some}
 use mathlib.Core.List.{List, [], _∷_, _++_}
@@ -26,12 +26,10 @@ use Rattle.rules.specs.Suits.{suits, suitsTarget}
 use Rattle.rules.specs.Accepts.{acceptsContents, accepts}
 use Rattle.rules.specs.inner.Answers.{conformsTo, conforms, said, isRead, isReadBy, acceptsContentsRead}
 use Rattle.rules.proofs.Laws.{read-basic, read-choice, read-count}
-use Rattle.misfit.specs.Trail.{trail}
-use Rattle.misfit.proofs.Agreeing.{laid, trail-named}
 use Rattle.plan.specs.inner.Task as task
 use Rattle.plan.specs.inner.Task.{passesContents, passesCount, passes}
 use Rattle.evaluation.specs.Truth.{TRUE}
-use Rattle.evaluation.specs.Reading.{settled}
+use Rattle.evaluation.specs.Reading.{Outcome, settled}
 use Rattle.evaluation.specs.Assertion.{testing}
 use Rattle.evaluation.proofs.Typed.{same-is, Fresh, Fine, FineIn}
 
@@ -259,7 +257,7 @@ module _ (t : List ℕ) where
     read-value (is-choice {ms = ms} {x = x} c) h = read-choice t (spotOf x .contents) r ms h
     read-value (is-list {k = k} {ty = ty} {s = s} b w q) h = read-list r k ty (s .contents) h
 
-    accepted : (g : Target) (h : Held) → suits r g ≡ true → Fits v h g → passes (task.testing r budget) t (component h) ≡ accepts r (said r t) (component h)
+    accepted : (g : Target) (h : Held) → suits r g ≡ true → Fits v h g → passes (task.testing r budget) t (component h) ≡ accepts r (said r t) h
     unfolding Fits passes passesContents passesCount acceptsContentsRead accepts
     accepted (ofType ty) (value x) e w = ap (λ (b : Bool). both b (acceptsContents r (said r t) (spotOf x .contents))) (read-value (w .0 .4) e)
     accepted ofCount (value x) e w = absurd w
@@ -268,20 +266,12 @@ module _ (t : List ℕ) where
     accepted (ofType ty) (countValue p n) e w = absurd w
     accepted ofCount (countValue p n) e w = read-count t r n e
 
-    laid-tests : (g : Target) (hs : List Held) (n : ℕ) → suits r g ≡ true → AllFit v g hs → testing (passes (task.testing r budget) t) n (laid hs) ≡ testing (accepts r (said r t)) n (laid hs)
-    unfolding AllFit laid testing
-    laid-tests g [] n e w = refl
-    laid-tests g (h ∷ hs) n e w = go (passes (task.testing r budget) t (component h)) (accepts r (said r t) (component h)) (accepted g h e (w .0)) (laid-tests g hs (n + 1) e (w .1))
-      where
-        go : (a b : Bool) → a ≡ b → testing (passes (task.testing r budget) t) (n + 1) (laid hs) ≡ testing (accepts r (said r t)) (n + 1) (laid hs)
-            → pick a (settled TRUE (n + 1)) (testing (passes (task.testing r budget) t) (n + 1) (laid hs)) ≡ pick b (settled TRUE (n + 1)) (testing (accepts r (said r t)) (n + 1) (laid hs))
-        go true true q f = refl
-        go true false q f = absurd (false≢true (sym q))
-        go false true q f = absurd (false≢true q)
-        go false false q f = f
+    all-tests : (g : Target) (hs : List Held) (n : ℕ) → suits r g ≡ true → AllFit v g hs → testing (λ h. passes (task.testing r budget) t (component h)) n hs ≡ testing (accepts r (said r t)) n hs
+    unfolding AllFit testing
+    all-tests g [] n e w = refl
+    all-tests g (h ∷ hs) n e w = ap₂ (λ (b : Bool) (o : Outcome). pick b (settled TRUE (n + 1)) o) (accepted g h e (w .0)) (all-tests g hs (n + 1) e (w .1))
 
-    -- with a rule that is for what the reference leads to and a text that conforms, the trail of a stored value being what is named
+    -- with a rule that is for what the reference leads to and a text that conforms
     pub named-tests : (defaults : Bool) (is : List Id) (ty : Ty) (k : Target) (x : Value) (n : ℕ) → Fine ty → storedValue ty v ≡ some x → allowed is ty ≡ some k → suits r k ≡ true
-        → testing (passes (task.testing r budget) t) n (laid (named defaults is x)) ≡ testing (accepts r (said r t)) n (trail defaults is ty v)
-    named-tests defaults is ty k x n f e h q =
-        laid-tests k (named defaults is x) n q (named-fit defaults v is ty k x f e h) ∙ ap (testing (accepts r (said r t)) n) (sym (trail-named defaults is ty v x e))
+        → testing (λ h. passes (task.testing r budget) t (component h)) n (named defaults is x) ≡ testing (accepts r (said r t)) n (named defaults is x)
+    named-tests defaults is ty k x n f e h q = all-tests k (named defaults is x) n q (named-fit defaults v is ty k x f e h)

@@ -17,6 +17,7 @@ use Rattle.reference.specs.Reference.{Id, identifiers}
 use Rattle.reference.specs.Allowed as allowed
 use Rattle.reference.specs.Allowed.{ofType, ofCount}
 use Rattle.reference.specs.Named.{named}
+use Rattle.reference.specs.Numbers.{component}
 use Rattle.reference.specs.inner.Work.{leadsTo}
 use Rattle.reference.specs.declared.Target.{Target}
 use Rattle.reference.proofs.Laws.{undoubled-reference}
@@ -34,13 +35,12 @@ use Rattle.plan.specs.inner.Resolve.{Lands, Resolves}
 use Rattle.walk.specs.inner.Run.{ranTo}
 use Rattle.walk.specs.inner.Walk.{Asks, Tests}
 use Rattle.walk.specs.declared.State.{State}
-use Rattle.misfit.proofs.Agreeing.{laid}
 use Rattle.assertion.specs.inner.Places.{withinQuotes, componentOf, itemOf}
 use Rattle.assertion.specs.declared.Component.{Component}
 use Rattle.assertion.specs.declared.Parts.{Parts}
 use Rattle.filter.specs.Filter.{Item}
 use Rattle.evaluation.specs.Assertion.{Asked, asked, testing, outcomeOf, outcome}
-use Rattle.evaluation.specs.inner.Work.{Ready, opposed, placed, inverse, targetOf, leadsBy, suitsAny, PlannedFor, ended, charged}
+use Rattle.evaluation.specs.inner.Work.{Ready, outcomeFor, storedOutcome, opposed, placed, inverse, targetOf, leadsBy, suitsAny, PlannedFor, ended, charged}
 use Rattle.evaluation.specs.declared.Judged.{Judged}
 use Rattle.evaluation.specs.declared.Judging.{Judging}
 use Rattle.evaluation.specs.declared.Verdict.{Verdict}
@@ -106,11 +106,15 @@ module _ (ty : Ty) (i : Item) where
 
   module _ (v : List ℕ) (budget n : ℕ) (within : n ≤ budget) where
     -- "an Undefined assertion makes no test"
-    undefined-then : asked knownRules ty i ≡ none → Judged.Of Verdict.Undefined n ≡ charged budget n (outcome knownRules ty v i)
-    unfolding outcome charged
-    undefined-then q = let z : n + 0 ≡ n = omega arith in rw (q, z, le-leb n budget within)
+    undefined-then : asked knownRules ty i ≡ none → Judged.Of Verdict.Undefined n ≡ charged budget n (storedOutcome ty v i)
+    unfolding storedOutcome outcome charged
+    undefined-then q = go (storedValue ty v)
+      where
+        go : (o : Option Value) → Judged.Of Verdict.Undefined n ≡ charged budget n (outcomeFor ty o i)
+        go none = let z : n + 0 ≡ n = omega arith in rw (z, le-leb n budget within)
+        go (some x) = let z : n + 0 ≡ n = omega arith in rw (q, z, le-leb n budget within)
 
-    unruled-then : ruleOf knownRules (i .rule) ≡ none → Judged.Of Verdict.Undefined n ≡ charged budget n (outcome knownRules ty v i)
+    unruled-then : ruleOf knownRules (i .rule) ≡ none → Judged.Of Verdict.Undefined n ≡ charged budget n (storedOutcome ty v i)
     unruled-then e = undefined-then (asked-none (λ is p g q. rule-for-none knownRules g (i .rule) (i .value) e))
 
   module _ (r : rule.Rule) (known : ruleOf knownRules (i .rule) ≡ some r) where
@@ -151,12 +155,12 @@ some-there (some a) e = (a, refl)
 -- ---- the returns
 module _ (ty : Ty) (v f : List ℕ) (p : Parts) (budget n : ℕ) (within : n ≤ budget) where
   pub parts-unknown : (name : List ℕ) (x : Named) → name ≡ itemOf f p .rule → reportRule x ≡ ruleOf knownRules name → x ≡ Named.Unknown
-      → Judged.Of Verdict.Undefined n ≡ charged budget n (outcome knownRules ty v (itemOf f p))
+      → Judged.Of Verdict.Undefined n ≡ charged budget n (storedOutcome ty v (itemOf f p))
   parts-unknown name x h e q = unruled-then ty (itemOf f p) v budget n within (ap (ruleOf knownRules) (sym h) ∙ sym e ∙ ap reportRule q)
 
   module _ (r : Rule) (known : ruleOf knownRules (itemOf f p .rule) ≡ some (meant r)) where
     pub ruled-undefined : (text : List ℕ) (b : Bool) → text ≡ itemOf f p .value → b ≡ conforms (meant r) text → not b ≡ true
-        → Judged.Of Verdict.Undefined n ≡ charged budget n (outcome knownRules ty v (itemOf f p))
+        → Judged.Of Verdict.Undefined n ≡ charged budget n (storedOutcome ty v (itemOf f p))
     ruled-undefined text b h e q =
         undefined-then ty (itemOf f p) v budget n within (unconforming ty (itemOf f p) (meant r) known (ap (conforms (meant r)) (sym h) ∙ sym e ∙ not-true b q))
 
@@ -169,7 +173,7 @@ module _ (t f : List ℕ) (p : Parts) (r : Rule) (g : Target) (leads : targetOf 
   suited-by b e = ap (suitsAny (meant r)) (sym leads) ∙ sym suited ∙ e
 
   pub conforming-unsuited : (v : List ℕ) (budget n : ℕ) → n ≤ budget → ruleOf knownRules (itemOf f p .rule) ≡ some (meant r) → not a ≡ true
-      → Judged.Of Verdict.Undefined n ≡ charged budget n (outcome knownRules (typeAt t 0) v (itemOf f p))
+      → Judged.Of Verdict.Undefined n ≡ charged budget n (storedOutcome (typeAt t 0) v (itemOf f p))
   conforming-unsuited v budget n within known q =
       undefined-then (typeAt t 0) (itemOf f p) v budget n within (unsuited (typeAt t 0) (itemOf f p) (meant r) known (suited-by false (not-true a q)))
 
@@ -197,14 +201,15 @@ module _ (t f : List ℕ) (p : Parts) (r : Rule) (g : Target) (leads : targetOf 
           asked-by (typeAt t 0) (itemOf f p)
           ∙ rw (there .1, there .3, by-rule (typeAt t 0) (itemOf f p) (meant r) known (there .2) true true (there .4) (ap (conforms (meant r)) (sym text) ∙ conforming), sym text)
 
-      outcome-there : testing (passes (task.testing (meant r) budget) x) 0 (laid (named (p .defaults) (there .0) (value .0))) ≡ outcome knownRules (typeAt t 0) v (itemOf f p)
-      unfolding outcome
+      outcome-there : testing (λ h. passes (task.testing (meant r) budget) x (component h)) 0 (named (p .defaults) (there .0) (value .0)) ≡ storedOutcome (typeAt t 0) v (itemOf f p)
+      unfolding storedOutcome outcome
       outcome-there =
           named-tests x (meant r) budget v (ready .short) conforming (p .defaults) (there .0) (typeAt t 0) (there .2) (value .0) 0 (fine-first t w (ready .worded) (ready .admits)) (value .1) (there .3) (there .4)
-          ∙ ap (outcomeOf (typeAt t 0) v (itemOf f p)) (sym asked-there)
+          ∙ ap (outcomeOf (value .0) (itemOf f p)) (sym asked-there)
+          ∙ ap (λ (o : Option Value). outcomeFor (typeAt t 0) o (itemOf f p)) (sym (value .1))
 
       pub conforming-tested : (first : List ℕ) (s : State) (j : Judged) → taskOf first ≡ task.testing (meant r) budget → taskOf q ≡ taskOf first → Tests t q x v n s → j ≡ ended s
-          → j ≡ charged budget n (outcome knownRules (typeAt t 0) v (itemOf f p))
+          → j ≡ charged budget n (storedOutcome (typeAt t 0) v (itemOf f p))
       unfolding Tests conforming-asks ranTo
       conforming-tested first s j a b told e =
           let task-is : taskOf q ≡ task.testing (meant r) budget = b ∙ a in

@@ -1,22 +1,16 @@
--- Where the reading from left to right settles, its truth is the one that RFC 3687 section 4 gives by looking at everyTruth filter of a list.
-use mathlib.Core.Path.{_≡_, refl, sym, ap, _∙_, subst}
+-- The truth of the reading from left to right is the one that RFC 3687 section 4 gives by looking at every filter of a list.
+use mathlib.Core.Path.{_≡_, refl, sym, ap, _∙_}
 use mathlib.Core.Bool.{Bool, true, false, false≢true}
 use mathlib.Core.List.{List, [], _∷_}
 use Prim.Native.Nat.{ℕ}
 use Rattle.octets.specs.Pick.{pick}
 use Rattle.filter.specs.Filter.{Join, and, or, Filter, Filters, item, list, inverse, endFilters, next}
 use Rattle.evaluation.specs.Truth.{Truth, TRUE, FALSE, UNDEFINED, isTrue, isFalse, everyTruth, anyTruth, conjunction, disjunction, joined, opposite, truth, truths}
-use Rattle.evaluation.specs.Reading.{Outcome, settled, misfitAfter, ofNone, withRest, andThen, inverted, reading, readingIn}
+use Rattle.evaluation.specs.Reading.{Outcome, settled, ofNone, withRest, andThen, inverted, reading, readingIn}
 
--- the truth of an outcome; of a fault none is asked
+-- the truth of an outcome
 abbrev pub truthOf : Outcome → Truth
 truthOf (settled t n) = t
-truthOf (misfitAfter n) = UNDEFINED
-
--- an outcome that settles has a truth
-abbrev pub Settles : Outcome → Truth → Type 0
-Settles (settled t n) u = t ≡ u
-Settles (misfitAfter n) u = Unit
 
 -- ---- an Undefined filter before a list
 undefined-and : (a b : Bool) → (a ≡ true → b ≡ false) → withRest and UNDEFINED (pick a TRUE (pick b FALSE UNDEFINED)) ≡ pick b FALSE UNDEFINED
@@ -45,49 +39,38 @@ no-true (FALSE ∷ us) h = no-true us h
 no-true (UNDEFINED ∷ us) h = absurd (false≢true h)
 
 -- ---- one filter more at the head of a list
-head-and : (t : Truth) (n : ℕ) (rest : Outcome) (us : List Truth) → Settles rest (conjunction us) → Settles (andThen and (settled t n) rest) (conjunction (t ∷ us))
+head-and : (t : Truth) (n : ℕ) (rest : Outcome) (us : List Truth) → truthOf rest ≡ conjunction us → truthOf (andThen and (settled t n) rest) ≡ conjunction (t ∷ us)
 unfolding conjunction everyTruth anyTruth
 head-and TRUE n (settled w m) us h = h
-head-and TRUE n (misfitAfter m) us h = tt
 head-and FALSE n rest us h = refl
 head-and UNDEFINED n (settled w m) us h = ap (withRest and UNDEFINED) h ∙ undefined-and (everyTruth isTrue us) (anyTruth isFalse us) (no-false us)
-head-and UNDEFINED n (misfitAfter m) us h = tt
 
-head-or : (t : Truth) (n : ℕ) (rest : Outcome) (us : List Truth) → Settles rest (disjunction us) → Settles (andThen or (settled t n) rest) (disjunction (t ∷ us))
+head-or : (t : Truth) (n : ℕ) (rest : Outcome) (us : List Truth) → truthOf rest ≡ disjunction us → truthOf (andThen or (settled t n) rest) ≡ disjunction (t ∷ us)
 unfolding disjunction everyTruth anyTruth
 head-or TRUE n rest us h = refl
 head-or FALSE n (settled w m) us h = h
-head-or FALSE n (misfitAfter m) us h = tt
 head-or UNDEFINED n (settled w m) us h = ap (withRest or UNDEFINED) h ∙ undefined-or (everyTruth isFalse us) (anyTruth isTrue us) (no-true us)
-head-or UNDEFINED n (misfitAfter m) us h = tt
 
-head : (j : Join) (o : Outcome) (u : Truth) (rest : Outcome) (us : List Truth) → Settles o u → Settles rest (joined j us) → Settles (andThen j o rest) (joined j (u ∷ us))
-head and (settled t n) u rest us e h = subst (λ (x : Truth). Settles (andThen and (settled t n) rest) (conjunction (x ∷ us))) e (head-and t n rest us h)
-head or (settled t n) u rest us e h = subst (λ (x : Truth). Settles (andThen or (settled t n) rest) (disjunction (x ∷ us))) e (head-or t n rest us h)
-head and (misfitAfter n) u rest us e h = tt
-head or (misfitAfter n) u rest us e h = tt
+head : (j : Join) (o : Outcome) (u : Truth) (rest : Outcome) (us : List Truth) → truthOf o ≡ u → truthOf rest ≡ joined j us → truthOf (andThen j o rest) ≡ joined j (u ∷ us)
+head and (settled t n) u rest us e h = head-and t n rest us h ∙ ap (λ (x : Truth). conjunction (x ∷ us)) e
+head or (settled t n) u rest us e h = head-or t n rest us h ∙ ap (λ (x : Truth). disjunction (x ∷ us)) e
 
-empty : (j : Join) → Settles (settled (ofNone j) 0) (joined j [])
+empty : (j : Join) → ofNone j ≡ joined j []
 unfolding conjunction disjunction everyTruth anyTruth
 empty and = refl
 empty or = refl
 
-under-not : (o : Outcome) (u : Truth) → Settles o u → Settles (inverted o) (opposite u)
-under-not (settled t n) u e = ap opposite e
-under-not (misfitAfter n) u e = tt
-
-of-item : (o : Outcome) → Settles o (truthOf o)
-of-item (settled t n) = refl
-of-item (misfitAfter n) = tt
+under-not : (o : Outcome) → truthOf (inverted o) ≡ opposite (truthOf o)
+under-not (settled t n) = refl
 
 mutual
   unfolding reading truth
 
-  pub reading-truth : {A : Type 0} (f : Filter A) (says : A → Outcome) → Settles (reading says f) (truth (λ i. truthOf (says i)) f)
-  reading-truth (item i) says = of-item (says i)
+  pub reading-truth : {A : Type 0} (f : Filter A) (says : A → Outcome) → truthOf (reading says f) ≡ truth (λ i. truthOf (says i)) f
+  reading-truth (item i) says = refl
   reading-truth (list j fs) says = reading-truths fs says j
-  reading-truth (inverse f) says = under-not (reading says f) (truth (λ i. truthOf (says i)) f) (reading-truth f says)
+  reading-truth (inverse f) says = under-not (reading says f) ∙ ap opposite (reading-truth f says)
 
-  reading-truths : {A : Type 0} (fs : Filters A) (says : A → Outcome) (j : Join) → Settles (readingIn says j fs) (joined j (truths (λ i. truthOf (says i)) fs))
+  reading-truths : {A : Type 0} (fs : Filters A) (says : A → Outcome) (j : Join) → truthOf (readingIn says j fs) ≡ joined j (truths (λ i. truthOf (says i)) fs)
   reading-truths endFilters says j = empty j
   reading-truths (next f fs) says j = head j (reading says f) (truth (λ i. truthOf (says i)) f) (readingIn says j fs) (truths (λ i. truthOf (says i)) fs) (reading-truth f says) (reading-truths fs says j)

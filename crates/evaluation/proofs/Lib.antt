@@ -5,6 +5,4 @@ pub mod Fits
 pub mod ItemSteps
 pub mod ListLaws
 pub mod FilterSteps
-pub mod Few
-pub mod Settled
 pub mod Same

@@ -8,7 +8,7 @@ use lib.Dec.{leb}
 use Rattle.octets.specs.Pick.{pick}
 use Rattle.filter.specs.Filter.{Join, and, or}
 use Rattle.evaluation.specs.Truth.{Truth, TRUE, FALSE, UNDEFINED, opposite}
-use Rattle.evaluation.specs.Reading.{Outcome, settled, misfitAfter, ofNone, stops, withRest, added, andThen, inverted}
+use Rattle.evaluation.specs.Reading.{Outcome, settled, ofNone, stops, withRest, added, andThen, inverted}
 use Rattle.evaluation.specs.inner.Work.{verdictOf, opposed, charged, placed, judgedIf, inverse, unsure, judgedRest, goesOn, behind, isUndefined, stopsAt, joinedBy, noneOf, atEnd}
 use Rattle.evaluation.specs.declared.Verdict.{Verdict}
 use Rattle.evaluation.specs.declared.Judged.{Judged}
@@ -18,42 +18,33 @@ use Rattle.evaluation.specs.declared.Progress.{Progress}
 -- ---- tests made before are added
 abbrev shifted : ℕ → Outcome → Outcome
 shifted n (settled t k) = settled t (n + k)
-shifted n (misfitAfter k) = misfitAfter (n + k)
 
 charged-shifted : (budget k n : ℕ) (o : Outcome) → charged budget k (shifted n o) ≡ charged budget (k + n) o
 unfolding charged
 charged-shifted budget k n (settled t i) = let e : k + (n + i) ≡ k + n + i = omega arith in rw e
-charged-shifted budget k n (misfitAfter i) = refl
 
 charged-over : (budget n : ℕ) (o : Outcome) → budget < n → charged budget n o ≡ Judged.Over
 unfolding charged
 charged-over budget n (settled t i) h = let l : budget < n + i = omega arith in rw (lt-leb (n + i) budget l)
-charged-over budget n (misfitAfter i) h = refl
 
 -- the rest behind a filter of truth t
 abbrev onward : Join → Truth → Outcome → Outcome
 onward j t (settled u m) = settled (withRest j t u) m
-onward j t (misfitAfter m) = misfitAfter m
 
 added-onward : (j : Join) (t : Truth) (n : ℕ) (r : Outcome) → added j t n r ≡ shifted n (onward j t r)
 added-onward j t n (settled u m) = refl
-added-onward j t n (misfitAfter m) = refl
 
 onward-true : (j : Join) (r : Outcome) → onward j TRUE r ≡ r
 onward-true j (settled u m) = refl
-onward-true j (misfitAfter m) = refl
 
 onward-false : (j : Join) (r : Outcome) → onward j FALSE r ≡ r
 onward-false j (settled u m) = refl
-onward-false j (misfitAfter m) = refl
 
 onward-undefined : (j : Join) (r : Outcome) → onward j UNDEFINED r ≡ unsure j r
 onward-undefined j (settled u m) = refl
-onward-undefined j (misfitAfter m) = refl
 
 unsure-shifted : (j : Join) (n : ℕ) (r : Outcome) → unsure j (shifted n r) ≡ shifted n (unsure j r)
 unsure-shifted j n (settled u m) = refl
-unsure-shifted j n (misfitAfter m) = refl
 
 twice : (j : Join) (u : Truth) → withRest j UNDEFINED (withRest j UNDEFINED u) ≡ withRest j UNDEFINED u
 twice and TRUE = refl
@@ -65,7 +56,6 @@ twice or UNDEFINED = refl
 
 unsure-twice : (j : Join) (r : Outcome) → unsure j (unsure j r) ≡ unsure j r
 unsure-twice j (settled u m) = ap (λ (y : Truth). settled y m) (twice j u)
-unsure-twice j (misfitAfter m) = refl
 
 unsure-onward : (j : Join) (t : Truth) (r : Outcome) → unsure j (onward j t r) ≡ unsure j r
 unsure-onward j TRUE r = ap (unsure j) (onward-true j r)
@@ -182,7 +172,6 @@ first-plain j budget k (settled t n) q = go (leb (k + n) budget) refl
     go : (b : Bool) → leb (k + n) budget ≡ b → FirstSays j Progress.Plain budget k (settled t n) q (placed q (pick b (Judged.Of (verdictOf t) (k + n)) Judged.Over))
     go true e = (refl, leb-true (k + n) budget e, λ r z. plain-first j budget k z t n r (leb-true (k + n) budget e))
     go false e = λ r z. plain-over j budget k z t n r (leb-false (k + n) budget e)
-first-plain j budget k (misfitAfter n) q = λ r z. refl
 
 first-unsure : (j : Join) (budget k : ℕ) (o : Outcome) (q : ℕ) → FirstSays j Progress.Unsure budget k o q (placed q (charged budget k o))
 unfolding charged
@@ -191,7 +180,6 @@ first-unsure j budget k (settled t n) q = go (leb (k + n) budget) refl
     go : (b : Bool) → leb (k + n) budget ≡ b → FirstSays j Progress.Unsure budget k (settled t n) q (placed q (pick b (Judged.Of (verdictOf t) (k + n)) Judged.Over))
     go true e = (refl, leb-true (k + n) budget e, λ r z. unsure-first j budget k z t n r (leb-true (k + n) budget e))
     go false e = λ r z. unsure-over j budget k z t n r (leb-false (k + n) budget e)
-first-unsure j budget k (misfitAfter n) q = λ r z. refl
 
 pub first-says : (j : Join) (p : Progress) (budget k : ℕ) (o : Outcome) (q : ℕ) → k ≤ budget → FirstSays j p budget k o q (judgedIf (goesOn p) budget k o q)
 first-says j Progress.Plain budget k o q h = first-plain j budget k o q
@@ -236,4 +224,3 @@ inverse-judged true budget n (settled t k) after = go (leb (n + k) budget)
     go : (b : Bool) → inverse (placed after (pick b (Judged.Of (verdictOf t) (n + k)) Judged.Over)) ≡ placed after (pick b (Judged.Of (verdictOf (opposite t)) (n + k)) Judged.Over)
     go true = ap (λ (u : Verdict). Judging.At u (n + k) after) (opposed-same t)
     go false = refl
-inverse-judged true budget n (misfitAfter k) after = refl

@@ -3,20 +3,20 @@
 use Prim.Native.Nat.{ℕ, _+_}
 use mathlib.Core.Bool.{Bool}
 use mathlib.Core.Option.{Option, none, some}
-use mathlib.Core.List.{List}
+use mathlib.Core.List.{List, [], _∷_}
 use Rattle.octets.specs.Pick.{pick, _>>=_}
 use Rattle.types.specs.Types.{Ty}
+use Rattle.value.specs.Value.{Value}
 use Rattle.reference.specs.Reference.{Id, identifiers}
 use Rattle.reference.specs.Allowed.{allowed}
-use Rattle.reference.specs.Numbers.{Component}
+use Rattle.reference.specs.Named.{Held, named}
 use Rattle.rules.specs.Rule.{Rule, Known}
 use Rattle.rules.specs.Asserted.{Asserted}
 use Rattle.rules.specs.RuleFor.{ruleFor}
 use Rattle.rules.specs.Accepts.{accepts}
 use Rattle.filter.specs.Filter.{Item}
-use Rattle.misfit.specs.Trail.{Trail, done, misfit, reach, trail}
 use Rattle.evaluation.specs.Truth.{TRUE, FALSE, UNDEFINED}
-use Rattle.evaluation.specs.Reading.{Outcome, settled, misfitAfter}
+use Rattle.evaluation.specs.Reading.{Outcome, settled}
 
 -- what an assertion asks of a type, where it isn't Undefined: the identifiers of its reference, its rule and what its value text asserts; ks are the
 -- known rules
@@ -33,17 +33,16 @@ asked ks ty i = do
   some (record { ids = is; rule = x .rule; asserted = x .asserted })
 
 -- "one [test] per value a rule is applied to. An assertion stops at its first accepted value": after n tests
-unfoldable pub testing : (Component → Bool) → ℕ → Trail → Outcome
-testing accepted n done = settled FALSE n
-testing accepted n misfit = misfitAfter n
-testing accepted n (reach c a) =
-    let rest = testing accepted (n + 1) a in
-    pick (accepted c) (settled TRUE (n + 1)) rest
+unfoldable pub testing : (Held → Bool) → ℕ → List Held → Outcome
+testing accepted n [] = settled FALSE n
+testing accepted n (h ∷ hs) =
+    let rest = testing accepted (n + 1) hs in
+    pick (accepted h) (settled TRUE (n + 1)) rest
 
--- "an Undefined assertion makes no test"
-abbrev pub outcomeOf : Ty → List ℕ → Item → Option Asked → Outcome
-outcomeOf ty v i none = settled UNDEFINED 0
-outcomeOf ty v i (some a) = testing (accepts (a .rule) (a .asserted)) 0 (trail (i .defaults) (a .ids) ty v)
+-- "an Undefined assertion makes no test"; any other tests what its reference names in the decoded value
+abbrev pub outcomeOf : Value → Item → Option Asked → Outcome
+outcomeOf x i none = settled UNDEFINED 0
+outcomeOf x i (some a) = testing (accepts (a .rule) (a .asserted)) 0 (named (i .defaults) (a .ids) x)
 
-unfoldable pub outcome : List Known → Ty → List ℕ → Item → Outcome
-outcome ks ty v i = outcomeOf ty v i (asked ks ty i)
+unfoldable pub outcome : List Known → Ty → Value → Item → Outcome
+outcome ks ty x i = outcomeOf x i (asked ks ty i)

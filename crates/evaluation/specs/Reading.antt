@@ -6,10 +6,9 @@ use Rattle.octets.specs.Pick.{pick}
 use Rattle.filter.specs.Filter.{Join, and, or, Filter, Filters, item, list, inverse, endFilters, next}
 use Rattle.evaluation.specs.Truth.{Truth, TRUE, FALSE, UNDEFINED, isTrue, isFalse, opposite}
 
--- a truth with the tests made; or, after so many tests, a header that doesn't fit
+-- a truth with the tests made
 pub data Outcome : Type 0 where
   settled : Truth → ℕ → Outcome
-  misfitAfter : ℕ → Outcome
 
 -- the truth of an empty list
 abbrev pub ofNone : Join → Truth
@@ -30,15 +29,12 @@ withRest j UNDEFINED u = pick (stops j u) u UNDEFINED
 -- the rest's outcome, after a filter of truth t that made n tests and did not stop the list
 abbrev pub added : Join → Truth → ℕ → Outcome → Outcome
 added j t n (settled u m) = settled (withRest j t u) (n + m)
-added j t n (misfitAfter m) = misfitAfter (n + m)
 
 abbrev pub andThen : Join → Outcome → Outcome → Outcome
-andThen j (misfitAfter n) rest = misfitAfter n
 andThen j (settled t n) rest = pick (stops j t) (settled t n) (added j t n rest)
 
 abbrev pub inverted : Outcome → Outcome
 inverted (settled t n) = settled (opposite t) n
-inverted (misfitAfter n) = misfitAfter n
 
 unfoldable mutual
   pub reading : {A : Type 0} → (A → Outcome) → Filter A → Outcome

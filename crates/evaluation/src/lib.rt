@@ -1,5 +1,4 @@
 // The truth of a filter over a value, and the tests made.
-use walk::State;
 use assertion::Assertion;
 use assertion::Component;
 use assertion::Parts;
@@ -9,6 +8,7 @@ use filter::Tail;
 use reference::Target;
 use rules::Named;
 use rules::Rule;
+use walk::State;
 ghost use Prim.Native.Nat.{_≤_};
 ghost use mathlib.Core.Path.{_≡_};
 ghost use mathlib.Core.Bool.{true};
@@ -28,7 +28,6 @@ ghost use Rattle.assertion.specs.inner.Places.{componentOf, itemOf};
 ghost use Rattle.filter.specs.Filter.{item};
 ghost use Rattle.filter.specs.Parse as parsing;
 ghost use Rattle.filter.specs.inner.Answers.{filtersAt, reportJoin};
-ghost use Rattle.evaluation.specs.Assertion.{outcome};
 ghost use Rattle.evaluation.specs.inner.Work as work;
 
 pub enum Verdict {
@@ -138,7 +137,7 @@ fn judge_conforming(
     requires conforming { ⌜ conforms (meant rule) (now text) ≡ true ⌝ }
     requires within { ⌜ tests .made ≤ tests .budget ⌝ }
     ensures { λ j. ⌜ j
-        ≡ work.charged (tests .budget) (tests .made) (outcome knownRules (typeAt (now (t .entry)) 0) (now (v .entry)) (itemOf (now (f .entry)) p)) ⌝ }
+        ≡ work.charged (tests .budget) (tests .made) (work.storedOutcome (typeAt (now (t .entry)) 0) (now (v .entry)) (itemOf (now (f .entry)) p)) ⌝ }
 {
     let mut q = [0usize; 72];
     plan::plan_test(&mut q, rule, tests.budget);
@@ -164,7 +163,7 @@ fn judge_ruled(
     requires known { ⌜ ruleOf knownRules (itemOf (now f) p .rule) ≡ some (meant rule) ⌝ }
     requires within { ⌜ tests .made ≤ tests .budget ⌝ }
     ensures { λ j. ⌜ j
-        ≡ work.charged (tests .budget) (tests .made) (outcome knownRules (typeAt (now (t .entry)) 0) (now (v .entry)) (itemOf (now (f .entry)) p)) ⌝ }
+        ≡ work.charged (tests .budget) (tests .made) (work.storedOutcome (typeAt (now (t .entry)) 0) (now (v .entry)) (itemOf (now (f .entry)) p)) ⌝ }
 {
     let text = octets::between(f, p.value, p.value_end);
     if !rules::conforms(rule, text) {
@@ -178,7 +177,7 @@ fn judge_parts(t: &[u8], w: &[u64; 256], v: &[u8], f: &[u8], p: Parts, tests: Te
     requires ready { ⌜ work.Ready (now t) (now w) (now v) ⌝ }
     requires within { ⌜ tests .made ≤ tests .budget ⌝ }
     ensures { λ j. ⌜ j
-        ≡ work.charged (tests .budget) (tests .made) (outcome knownRules (typeAt (now (t .entry)) 0) (now (v .entry)) (itemOf (now (f .entry)) p)) ⌝ }
+        ≡ work.charged (tests .budget) (tests .made) (work.storedOutcome (typeAt (now (t .entry)) 0) (now (v .entry)) (itemOf (now (f .entry)) p)) ⌝ }
 {
     let Named::Known(rule) = rules::rule_of(octets::between(f, p.rule, p.rule_end)) else {
         return Judged::Of(Verdict::Undefined, tests.made);
@@ -327,7 +326,7 @@ fn judge_assertion(
     requires ready { ⌜ work.Ready (now t) (now w) (now v) ⌝ }
     requires within { ⌜ tests .made ≤ tests .budget ⌝ }
     ensures { λ w. ⌜ w
-        ≡ work.judgedFilter (outcome knownRules (typeAt (now (t .entry)) 0) (now (v .entry))) live (tests .budget) (tests .made)
+        ≡ work.judgedFilter (work.storedOutcome (typeAt (now (t .entry)) 0) (now (v .entry))) live (tests .budget) (tests .made)
         (parsing.made item (assertionAt (now (f .entry)) at)) ⌝ }
 {
     let Assertion::Good(parts) = assertion::read_assertion(f, at) else {
@@ -382,7 +381,7 @@ fn judge_filter(
     requires read { ⌜ isSome (parsing.filterAt (now f) at) ≡ true ⌝ }
     requires within { ⌜ tests .made ≤ tests .budget ⌝ }
     ensures { λ w. ⌜ w
-        ≡ work.judgedFilter (outcome knownRules (typeAt (now (t .entry)) 0) (now (v .entry))) live (tests .budget) (tests .made)
+        ≡ work.judgedFilter (work.storedOutcome (typeAt (now (t .entry)) 0) (now (v .entry))) live (tests .budget) (tests .made)
         (parsing.filterAt (now (f .entry)) at) ⌝ }
 {
     match filter::read_head(f, at) {
@@ -409,7 +408,7 @@ fn judge_list(
     requires read { ⌜ isSome (filtersAt (now f) at) ≡ true ⌝ }
     requires within { ⌜ tests .made ≤ tests .budget ⌝ }
     ensures { λ w. ⌜ w
-        ≡ work.judgedFilters (outcome knownRules (typeAt (now (t .entry)) 0) (now (v .entry))) (reportJoin join) (work.begun live)
+        ≡ work.judgedFilters (work.storedOutcome (typeAt (now (t .entry)) 0) (now (v .entry))) (reportJoin join) (work.begun live)
         (tests .budget) (tests .made) (filtersAt (now (f .entry)) at) ⌝ }
 {
     let mut i = at;
@@ -444,7 +443,7 @@ pub fn judge(t: &[u8], w: &[u64; 256], v: &[u8], f: &[u8], budget: usize) -> Jud
     requires ready { ⌜ work.Ready (now t) (now w) (now v) ⌝ }
     requires read { ⌜ isSome (parsing.filterAt (now f) 0) ≡ true ⌝ }
     ensures { λ w. ⌜ w
-        ≡ work.judgedText (outcome knownRules (typeAt (now (t .entry)) 0) (now (v .entry))) budget (parsing.filterAt (now (f .entry)) 0) ⌝ }
+        ≡ work.judgedText (work.storedOutcome (typeAt (now (t .entry)) 0) (now (v .entry))) budget (parsing.filterAt (now (f .entry)) 0) ⌝ }
 {
     match judge_filter(t, w, v, f, 0, true, Tests { made: 0, budget }) {
         Judging::At(u, k, _) => Judged::Of(u, k),

@@ -2,7 +2,7 @@
 use mathlib.Core.Path.{_≡_, refl, sym, ap, ap₂, _∙_, subst}
 use mathlib.Core.Bool.{Bool, true, false}
 use mathlib.Core.Option.{some}
-use mathlib.Core.List.{List, [], _∷_, _++_, map}
+use mathlib.Core.List.{List, [], _∷_, _++_}
 use Prim.Native.Nat.{ℕ, zero, suc, _≤_, _+_, _-_}
 use native.Mathlib.Omega.{arith}
 use borrow.Author.Tests.{lt-ltb, le-ltb}
@@ -20,37 +20,14 @@ use Rattle.value.proofs.Decodes.{Fielded, none-left, there, lacks, Chosen, this
 use Rattle.value.proofs.Before.{choice-before}
 use Rattle.reference.specs.Reference.{Index, position, fromEnd, count, all, Id, name, index}
 use Rattle.reference.specs.Named.{Held, value, defaultValue, countValue, absentNames, memberNamed, size, each, elementAt, indexedBy, step, replaced, held, named}
-use Rattle.reference.specs.Numbers.{Component, stored, byDefault, byCount, component}
+use Rattle.reference.specs.Numbers.{stored, byDefault, byCount, component}
+use Rattle.reference.proofs.HeldLaws.{held-none, held-append, held-step}
 use Rattle.misfit.specs.Opened.{Opened, after, openAt}
 use Rattle.misfit.specs.Trail.{Trail, done, reach, then, eachFrom, countFrom, positionFrom, Found, found, lacking, nothing, findMember}
-use Rattle.misfit.specs.Trail.{findAlternative, ending, lackingTrail, onFound, inMembers, alongIndex, inList, inValue, along, trail, hasMisfit, reached}
+use Rattle.misfit.specs.Trail.{findAlternative, ending, lackingTrail, onFound, inMembers, alongIndex, inList, inValue, along, trail, hasMisfit}
 use Rattle.misfit.proofs.Standing.{Stands, open-decoded, same-start, same-span}
 
--- ---- held values, and the walk that reaches their components and ends well
-held-none : (defaults : Bool) (is : List Id) → held defaults is [] ≡ []
-unfolding held replaced
-held-none defaults [] = refl
-held-none defaults (i ∷ is) = held-none defaults is
-
-append-assoc : (a b c : List Held) → (a ++ b) ++ c ≡ a ++ (b ++ c)
-append-assoc [] b c = refl
-append-assoc (x ∷ a) b c = ap (λ (l : List Held). x ∷ l) (append-assoc a b c)
-
-append-none : (a : List Held) → a ++ [] ≡ a
-append-none [] = refl
-append-none (x ∷ a) = ap (λ (l : List Held). x ∷ l) (append-none a)
-
-replaced-append : (defaults : Bool) (i : Id) (a b : List Held) → replaced defaults i (a ++ b) ≡ replaced defaults i a ++ replaced defaults i b
-unfolding replaced
-replaced-append defaults i [] b = refl
-replaced-append defaults i (x ∷ a) b = ap (λ (l : List Held). step defaults i x ++ l) (replaced-append defaults i a b) ∙ sym (append-assoc (step defaults i x) (replaced defaults i a) (replaced defaults i b))
-
-held-append : (defaults : Bool) (is : List Id) (a b : List Held) → held defaults is (a ++ b) ≡ held defaults is a ++ held defaults is b
-unfolding held
-held-append defaults [] a b = refl
-held-append defaults (i ∷ is) a b = ap (held defaults is) (replaced-append defaults i a b) ∙ held-append defaults is (replaced defaults i a) (replaced defaults i b)
-
--- the walk that reaches these components
+-- ---- the walk that reaches the components of held values and ends well
 unfoldable pub laid : List Held → Trail
 laid [] = done
 laid (h ∷ hs) = reach (component h) (laid hs)
@@ -59,11 +36,6 @@ pub laid-sound : (hs : List Held) → hasMisfit (laid hs) ≡ false
 unfolding hasMisfit laid
 laid-sound [] = refl
 laid-sound (h ∷ hs) = laid-sound hs
-
-pub laid-reached : (hs : List Held) → reached (laid hs) ≡ map component hs
-unfolding reached laid
-laid-reached [] = refl
-laid-reached (h ∷ hs) = ap (λ (cs : List Component). component h ∷ cs) (laid-reached hs)
 
 laid-then : (a b : List Held) → then (laid a) (laid b) ≡ laid (a ++ b)
 unfolding then laid
@@ -267,10 +239,10 @@ module _ (defaults : Bool) (is : List Id) (v : List ℕ) (f : Ty → Opened → 
 
 -- ---- along all identifiers
 pub along-named : (defaults : Bool) (is : List Id) (ty : Ty) (v : List ℕ) (o : Opened) (x : Value) → Stands ty v o x → along defaults is ty v o ≡ laid (held defaults is (value x ∷ []))
-unfolding along held replaced laid
+unfolding along held laid
 along-named defaults [] ty v o x s = ap (λ (y : Spot). reach (stored y) done) (s .spot)
 along-named defaults (i ∷ is) ty v o x s =
-    step-named defaults is v (λ u p. along defaults is u v p) (λ u p y q. along-named defaults is u v p y q) i ty o x s ∙ ap (λ (l : List Held). laid (held defaults is l)) (sym (append-none (step defaults i (value x))))
+    step-named defaults is v (λ u p. along defaults is u v p) (λ u p y q. along-named defaults is u v p y q) i ty o x s ∙ ap laid (sym (held-step defaults i is (value x)))
 
 -- a value that is stored: the walk from its first octet has no fault, and reaches what the reference names
 pub trail-named : (defaults : Bool) (is : List Id) (ty : Ty) (v : List ℕ) (x : Value) → storedValue ty v ≡ some x → trail defaults is ty v ≡ laid (named defaults is x)

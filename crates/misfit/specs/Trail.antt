@@ -143,9 +143,3 @@ unfoldable pub hasMisfit : Trail → Bool
 hasMisfit done = false
 hasMisfit misfit = true
 hasMisfit (reach c a) = hasMisfit a
-
--- the components it reaches
-unfoldable pub reached : Trail → List Component
-reached done = []
-reached misfit = []
-reached (reach c a) = c ∷ reached a

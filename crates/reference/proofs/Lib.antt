@@ -1,4 +1,5 @@
 pub mod Laws
+pub mod HeldLaws
 pub mod IdSteps
 pub mod NameSteps
 pub mod TargetSteps

@@ -1,5 +1,5 @@
 -- Rules: "A rule accepts a named value where it is TRUE for it: presentMatch for any, an ordering rule for one less than the asserted, each other
--- rule here for an equal one, strings as prepared below." What the value text asserts is put to the contents c of a component.
+-- rule here for an equal one, strings as prepared below." What the value text asserts is put to the contents c of a value.
 use Prim.Native.Nat.{ℕ}
 use mathlib.Core.Bool.{Bool, true, false}
 use mathlib.Core.List.{List}
@@ -8,6 +8,8 @@ use Rattle.octets.specs.Octets.{same, below}
 use Rattle.der.specs.Time.{timeOf, sameTime, earlier}
 use Rattle.der.specs.Meaning.{Whole, plus, sameWhole, lessWhole, integerOf, booleanOf, arcsOf, bitsOf}
 use Rattle.strings.specs.Prepared.{prepared}
+use Rattle.value.specs.Value.{spotOf}
+use Rattle.reference.specs.Named.{Held, value, defaultValue, countValue}
 use Rattle.reference.specs.Numbers.{Component, stored, byDefault, byCount, contentsOf}
 use Rattle.rules.specs.Rule.{Rule, present, equal, less}
 use Rattle.rules.specs.Asserted.{Asserted, anyValue, truth, integer, arcs, octets, bits, text, time}
@@ -56,7 +58,14 @@ acceptsCount present a n = true
 acceptsCount (equal s) a n = ofInteger (sameWhole (plus n)) a
 acceptsCount (less s) a n = ofInteger (lessWhole (plus n)) a
 
-unfoldable pub accepts : Rule → Asserted → Component → Bool
-accepts r a (stored s) = acceptsContents r a (s .contents)
-accepts r a (byDefault place m) = acceptsContents r a (contentsOf (m .presence))
-accepts r a (byCount place n) = acceptsCount r a n
+-- what a reference names, in a decoded value
+unfoldable pub accepts : Rule → Asserted → Held → Bool
+accepts r a (value x) = acceptsContents r a (spotOf x .contents)
+accepts r a (defaultValue place m) = acceptsContents r a (contentsOf (m .presence))
+accepts r a (countValue place n) = acceptsCount r a n
+
+-- the same of a component, as the octets have it
+unfoldable pub acceptsComponent : Rule → Asserted → Component → Bool
+acceptsComponent r a (stored s) = acceptsContents r a (s .contents)
+acceptsComponent r a (byDefault place m) = acceptsContents r a (contentsOf (m .presence))
+acceptsComponent r a (byCount place n) = acceptsCount r a n

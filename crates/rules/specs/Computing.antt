@@ -10,11 +10,11 @@ use Rattle.strings.specs.Asserted.{isText, assertedText}
 use Rattle.times.specs.Asserted.{isTime, assertedTime}
 use Rattle.rules.specs.Asserted.{isTruth, assertedIn, assertedOf}
 use Rattle.rules.specs.RuleFor.{ruleFor}
-use Rattle.rules.specs.Accepts.{isEqual, isLess, acceptsContents, acceptsCount, accepts}
+use Rattle.rules.specs.Accepts.{isEqual, isLess, acceptsContents, acceptsCount, accepts, acceptsComponent}
 
 unfoldable pub rulesCompute : ℕ
 unfolding referenceComputes knownRules sameName ruleOf allStrings suitsTarget suits
     charactersIn folded image images joined prepared isTruth isInteger assertedInteger inQuotes isHexString isBitText isOctets assertedOctets
     isBits hexBits textBits assertedBits isText assertedText isTime assertedTime
-    assertedIn assertedOf ruleFor isEqual isLess acceptsContents acceptsCount accepts
+    assertedIn assertedOf ruleFor isEqual isLess acceptsContents acceptsCount accepts acceptsComponent
 rulesCompute = 0

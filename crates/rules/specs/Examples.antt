@@ -8,8 +8,9 @@ use Prim.Native.String.{String}
 use Rattle.octets.specs.Pick.{bind}
 use Rattle.octets.specs.Octets.{bytes, hex}
 use Rattle.types.specs.Types.{Tagging, untagged, explicit, mandatory, Ty, basic, sequence, choice, noMore, more}
+use Rattle.value.specs.Value.{leaf, fields, endFields}
 use Rattle.reference.specs.Allowed.{Target, ofType, ofCount}
-use Rattle.reference.specs.Numbers.{Component, stored, byCount}
+use Rattle.reference.specs.Named.{Held, value, countValue}
 use Rattle.rules.specs.Rule.{knownRules}
 use Rattle.rules.specs.Rule as rule
 use Rattle.rules.specs.Asserted.{Asserted, anyValue, truth, integer, arcs, octets, bits, text, time, assertedOf}
@@ -18,13 +19,13 @@ use Rattle.strings.specs.Prepared.{prepared}
 use Rattle.rules.specs.Accepts.{accepts}
 use Rattle.rules.specs.Computing.{rulesCompute}
 
--- a rule's answer for one component of a target; none where it is Undefined
-test : Target → String → Component → String → Option Bool
-test g rule c value = bind (ruleFor knownRules g (bytes rule) (bytes value)) (λ x. some (accepts (x .rule) (x .asserted) c))
+-- a rule's answer for one held value of a target; none where it is Undefined
+test : Target → String → Held → String → Option Bool
+test g rule h asserts = bind (ruleFor knownRules g (bytes rule) (bytes asserts)) (λ x. some (accepts (x .rule) (x .asserted) h))
 
 -- what a value text asserts
 says : rule.Rule → String → Option Asserted
-says r value = assertedOf r ofCount (bytes value)
+says r asserts = assertedOf r ofCount (bytes asserts)
 
 asserting : says rule.present "NULL" ∷ says (rule.equal rule.booleans) "FALSE" ∷ says (rule.less rule.integers) "-3" ∷ says (rule.equal rule.objectIdentifiers) "2.5.13"
     ∷ says (rule.equal rule.octetStrings) "'0AFF'H" ∷ says (rule.equal rule.bitStrings) "'A'H" ∷ says (rule.equal (rule.strings true)) "\"A\"\"b\""
@@ -35,12 +36,12 @@ asserting : says rule.present "NULL" ∷ says (rule.equal rule.booleans) "FALSE"
 unfolding rulesCompute says
 asserting = refl
 
-abbrev contents : List ℕ → Component
-contents c = stored (record { place = 0; size = 0; contents = c })
+abbrev contents : ℕ → List ℕ → Held
+contents k c = value (leaf k (record { place = 0; size = 0; contents = c }))
 
 -- a rule put to a basic kind with contents, for each value text
 tests : ℕ → String → List ℕ → List String → List (Option Bool)
-tests k rule c values = map (test (ofType (basic k)) rule (contents c)) values
+tests k rule c values = map (test (ofType (basic k)) rule (contents k c)) values
 
 -- value `NULL` alone
 present : tests 4 "presentMatch" [] ("NULL" ∷ "null" ∷ "\"\"" ∷ []) ≡ some true ∷ none ∷ none ∷ []
@@ -127,10 +128,10 @@ time-order = refl
 
 -- ---- which rule is for which target
 -- INTEGER rules on a count; not on ENUMERATED; string rules on kinds 8, 9, 10
-targets : test ofCount "integerMatch" (byCount 6 2) "2" ∷ test ofCount "integerOrderingMatch" (byCount 6 2) "3"
-    ∷ test ofCount "presentMatch" (byCount 6 2) "NULL" ∷ test ofCount "booleanMatch" (byCount 6 2) "TRUE"
-    ∷ test (ofType (basic 3)) "integerMatch" (contents (hex "02")) "2" ∷ test (ofType (basic 6)) "caseIgnoreMatch" (contents []) "\"a\""
-    ∷ test (ofType (sequence noMore)) "presentMatch" (contents []) "NULL" ∷ []
+targets : test ofCount "integerMatch" (countValue 6 2) "2" ∷ test ofCount "integerOrderingMatch" (countValue 6 2) "3"
+    ∷ test ofCount "presentMatch" (countValue 6 2) "NULL" ∷ test ofCount "booleanMatch" (countValue 6 2) "TRUE"
+    ∷ test (ofType (basic 3)) "integerMatch" (contents 3 (hex "02")) "2" ∷ test (ofType (basic 6)) "caseIgnoreMatch" (contents 6 []) "\"a\""
+    ∷ test (ofType (sequence noMore)) "presentMatch" (value (fields (record { place = 0; size = 2; contents = [] }) endFields)) "NULL" ∷ []
     ≡ some true ∷ some true ∷ some true ∷ none ∷ none ∷ none ∷ some true ∷ []
 unfolding rulesCompute test
 targets = refl
@@ -141,14 +142,14 @@ alternatives g ty =
     (more (record { row = 2; name = bytes "b"; tagging = g; presence = mandatory }) ty noMore)))
 
 -- a CHOICE of untagged string rows; with a tagged one; with one that is no string
-choices : map (λ g. test g "caseIgnoreMatch" (contents (bytes "A")) "\"a\"") (alternatives untagged (basic 9) ∷ alternatives (explicit 0) (basic 9)
+choices : map (λ g. test g "caseIgnoreMatch" (contents 9 (bytes "A")) "\"a\"") (alternatives untagged (basic 9) ∷ alternatives (explicit 0) (basic 9)
     ∷ alternatives untagged (basic 2) ∷ [])
     ≡ some true ∷ none ∷ none ∷ []
 unfolding rulesCompute test
 choices = refl
 
 -- names without regard to case, OIDs, unknown ones
-names : map (λ r. test (ofType (basic 2)) r (contents (hex "01")) "1") ("INTEGERmatch" ∷ "2.5.13.14" ∷ "2.5.13.15" ∷ "integerMatches" ∷ "2.5.13.140"
+names : map (λ r. test (ofType (basic 2)) r (contents 2 (hex "01")) "1") ("INTEGERmatch" ∷ "2.5.13.14" ∷ "2.5.13.15" ∷ "integerMatches" ∷ "2.5.13.140"
     ∷ "caseIgnoreMatch" ∷ [])
     ≡ some true ∷ some true ∷ some false ∷ none ∷ none ∷ none ∷ []
 unfolding rulesCompute test

@@ -17,41 +17,15 @@ use Rattle.value.specs.Decode.{startsHere}
 use Rattle.value.specs.inner.Decodes as decodes
 use Rattle.value.specs.inner.Decodes.{Tagged, Fielded, Chosen, this, other}
 use Rattle.reference.specs.Reference.{Id}
-use Rattle.reference.specs.Named.{Held, value, defaultValue, absentNames, memberNamed, step, replaced, held}
+use Rattle.reference.specs.Named.{Held, value, defaultValue, absentNames, memberNamed, step, held}
 use Rattle.reference.specs.Numbers.{component, numbersOf, byDefault, contentsOf}
+use Rattle.reference.proofs.HeldLaws.{held-none, held-step}
 use Rattle.rules.specs.Rule.{Rule}
 use Rattle.plan.specs.inner.Task.{Task, counting, listing, testing, passesContents, passes}
 use Rattle.plan.specs.inner.Plan.{absentOf, Unnamed, cons, Names, here, later}
 use Rattle.walk.specs.inner.Leads.{Picked, there, lacking, past, pickedAt}
 use Rattle.walk.specs.inner.Run.{Seen, seen, countOne, testOne, noted, visited, onward, run, countedTo, testedTo, ranTo}
 use Rattle.walk.specs.declared.State.{State}
-
-pub held-none : (d : Bool) (is : List Id) → held d is [] ≡ []
-unfolding held replaced
-held-none d [] = refl
-held-none d (i ∷ is) = held-none d is
-
-append-assoc : (a b c : List Held) → (a ++ b) ++ c ≡ a ++ (b ++ c)
-append-assoc [] b c = refl
-append-assoc (x ∷ a) b c = ap (λ (l : List Held). x ∷ l) (append-assoc a b c)
-
-append-none : (a : List Held) → a ++ [] ≡ a
-append-none [] = refl
-append-none (x ∷ a) = ap (λ (l : List Held). x ∷ l) (append-none a)
-
-replaced-append : (d : Bool) (i : Id) (a b : List Held) → replaced d i (a ++ b) ≡ replaced d i a ++ replaced d i b
-unfolding replaced
-replaced-append d i [] b = refl
-replaced-append d i (x ∷ a) b = ap (λ (l : List Held). step d i x ++ l) (replaced-append d i a b) ∙ sym (append-assoc (step d i x) (replaced d i a) (replaced d i b))
-
-pub held-append : (d : Bool) (is : List Id) (a b : List Held) → held d is (a ++ b) ≡ held d is a ++ held d is b
-unfolding held
-held-append d [] a b = refl
-held-append d (i ∷ is) a b = ap (held d is) (replaced-append d i a b) ∙ held-append d is (replaced d i a) (replaced d i b)
-
-pub held-step : (d : Bool) (i : Id) (is : List Id) (h : Held) → held d (i ∷ is) (h ∷ []) ≡ held d is (step d i h)
-unfolding held replaced
-held-step d i is h = ap (held d is) (append-none (step d i h))
 
 pub held-done : (d : Bool) (hs : List Held) → held d [] hs ≡ hs
 unfolding held

@@ -19,6 +19,7 @@ use Rattle.reference.specs.Reference.{Index, position, fromEnd, count, all, Id,
 use Rattle.reference.specs.inner.Work.{cap}
 use Rattle.reference.specs.Named.{Held, value, countValue, memberNamed, size, each, elementAt, elementFromEnd, indexedBy, step, held, named}
 use Rattle.reference.specs.Numbers.{Numbers, stored, byDefault, byCount, numbersOf}
+use Rattle.reference.proofs.HeldLaws.{held-none, held-append, held-step}
 use Rattle.plan.specs.inner.Sort as sort
 use Rattle.plan.specs.inner.Task.{Task, counting, taskOf}
 use Rattle.plan.specs.inner.Plan as plan
@@ -35,7 +36,7 @@ use Rattle.walk.proofs.RawLaws.{start-long, start-before}
 use Rattle.walk.proofs.Standing.{tagged-stands, stands-within, stands-spot, stands-place, whole-stands}
 use Rattle.walk.proofs.Leaves.{Next, turn-next, turn-end, turn-size, element-capped, from-end-capped}
 use Rattle.walk.proofs.PlanViews.{MemberStep, AlternativeStep, ListStep, ListOn, over-view, member-view, alternative-view, position-view, end-view, count-view, all-view}
-use Rattle.walk.proofs.Naming.{held-none, held-append, held-step, held-done, run-none, run-one, run-append, run-accepted, run-over, absent-runs}
+use Rattle.walk.proofs.Naming.{held-done, run-none, run-one, run-append, run-accepted, run-over, absent-runs}
 use Rattle.walk.proofs.Naming.{seen-state, counting-listing, ran, pickedHeld, field-named, other-chosen, named-so, this-chosen}
 
 -- ---- what every function of the walk knows

@@ -12,12 +12,13 @@ use Rattle.types.specs.Types.{Ty}
 use Rattle.types.specs.Admitted.{admitted}
 use Rattle.table.specs.inner.Rows.{tableRows, typeAt}
 use Rattle.table.specs.inner.Words.{Worded}
+use Rattle.value.specs.Value.{Value}
 use Rattle.value.specs.Decode.{storedValue}
 use Rattle.reference.specs.Reference.{Id, identifiers}
 use Rattle.reference.specs.Allowed.{Target, allowed}
 use Rattle.reference.specs.inner.Work.{reportTarget}
 use Rattle.reference.specs.declared.Target as target
-use Rattle.rules.specs.Rule.{Rule}
+use Rattle.rules.specs.Rule.{Rule, knownRules}
 use Rattle.rules.specs.Suits.{suits}
 use Rattle.plan.specs.inner.Plan.{Planned}
 use Rattle.plan.specs.inner.Resolve.{Lands}
@@ -26,7 +27,8 @@ use Rattle.assertion.specs.Assertion.{Read}
 use Rattle.filter.specs.Filter.{Item, Join, and, or, Filter, Filters}
 use Rattle.filter.specs.Parse.{Tail, another, closed, noTail, tailAt}
 use Rattle.evaluation.specs.Truth.{Truth, TRUE, FALSE, UNDEFINED, opposite}
-use Rattle.evaluation.specs.Reading.{Outcome, settled, misfitAfter, ofNone, withRest, reading, readingIn}
+use Rattle.evaluation.specs.Reading.{Outcome, settled, ofNone, withRest, reading, readingIn}
+use Rattle.evaluation.specs.Assertion.{outcome}
 use Rattle.evaluation.specs.declared.Verdict.{Verdict}
 use Rattle.evaluation.specs.declared.Judged.{Judged}
 use Rattle.evaluation.specs.declared.Judging.{Judging}
@@ -52,6 +54,14 @@ opposed Verdict.False = Verdict.True
 opposed Verdict.Undefined = Verdict.Undefined
 
 -- ---- an assertion
+-- its outcome for the value that octets decode to; of other octets nothing is asked
+abbrev pub outcomeFor : Ty → Option Value → Item → Outcome
+outcomeFor ty none i = settled UNDEFINED 0
+outcomeFor ty (some x) i = outcome knownRules ty x i
+
+unfoldable pub storedOutcome : Ty → List ℕ → Item → Outcome
+storedOutcome ty v i = outcomeFor ty (storedValue ty v) i
+
 -- what the code's target is, by the table t
 abbrev pub targetOf : List ℕ → target.Target → Option Target
 targetOf t g = reportTarget (tableLimits .chain) t (tableRows t) g
@@ -76,10 +86,9 @@ ended (State.Accepted k) = Judged.Of Verdict.True k
 ended State.Over = Judged.Over
 
 -- ---- tests within a budget
--- an outcome after n tests; a stored value has no header that doesn't fit, and nothing is asked there
+-- an outcome after n tests
 unfoldable pub charged : ℕ → ℕ → Outcome → Judged
 charged budget n (settled t k) = pick (leb (n + k) budget) (Judged.Of (verdictOf t) (n + k)) Judged.Over
-charged budget n (misfitAfter k) = Judged.Over
 
 -- the same with the place after the filter
 abbrev pub placed : ℕ → Judged → Judging
@@ -105,7 +114,6 @@ judgedFilter says live budget n (some r) = judgedIf live budget n (reading says 
 -- the rest's outcome behind an Undefined filter
 abbrev pub unsure : Join → Outcome → Outcome
 unsure j (settled u k) = settled (withRest j UNDEFINED u) k
-unsure j (misfitAfter k) = misfitAfter k
 
 -- the rest of a list, by what the filters before it were
 abbrev pub judgedRest : Join → Progress → ℕ → ℕ → Outcome → ℕ → Judging
