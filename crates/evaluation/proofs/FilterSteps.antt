@@ -1,33 +1,41 @@
 -- Filters and lists: one lemma for each return and each turn of a loop; its premises are the facts as the code has them.
 use mathlib.Core.Path.{_≡_, refl, sym, ap, _∙_, subst}
-use mathlib.Core.Bool.{Bool, true, false, not, false≢true}
+use mathlib.Core.Bool.{Bool, true, false, not}
 use mathlib.Core.Option.{Option, none, some}
 use mathlib.Core.List.{List}
 use Prim.Native.Nat.{ℕ, _≤_, _<_, _+_, _-_, _*_}
 use native.Mathlib.Omega.{arith}
-use borrow.Author.Tests.{not-true, not-false}
+use borrow.Author.Tests.{not-true, not-false, leb-true}
 use lib.ListN.{length}
-use Rattle.octets.specs.Pick.{isSome}
+use lib.Dec.{leb}
+use Rattle.octets.specs.Pick.{pick, isSome}
+use Rattle.octets.specs.Utf8.{utf8}
 use Rattle.types.specs.Types.{Ty}
 use Rattle.assertion.specs.Assertion.{Read, assertionAt}
 use Rattle.assertion.specs.inner.Places.{itemOf, reportAssertion}
 use Rattle.assertion.specs.declared.Assertion.{Assertion}
 use Rattle.assertion.specs.declared.Parts.{Parts}
 use Rattle.filter.specs.Filter as filter
-use Rattle.filter.specs.Filter.{Item, item, list, inverse as invert, Filter, Filters, endFilters, next}
-use Rattle.filter.specs.Parse.{made, filterAt, headAt, tailAt, Tail, another, closed, noTail, openList, negation}
-use Rattle.filter.specs.inner.Answers.{filtersAt}
+use Rattle.filter.specs.Filter.{Item, item, list, inverse as invert, Filter, Filters, endFilters, next, depth, items}
+use Rattle.filter.specs.Paper.{filterLimits}
+use Rattle.filter.specs.Parse.{made, filterAt, headAt, tailAt, parse, Tail, another, closed, noTail, openList, negation, byTail}
+use Rattle.filter.specs.inner.Answers.{filtersAt, bounded, boundedIn}
 use Rattle.filter.specs.inner.Answers.{reportJoin, reportHead, reportTail}
 use Rattle.filter.specs.declared.Join.{Join}
 use Rattle.filter.specs.declared.Head.{Head}
+use Rattle.filter.specs.declared.Span.{Span}
 use Rattle.filter.specs.declared.Tail as tail
-use Rattle.filter.proofs.Laws.{filter-by, read-first, read-another, read-closed, read-tail, filter-further}
+use Rattle.filter.proofs.Laws.{filter-by, filters-step, filters-by, read-first, filter-further, parse-read, counted-some, counted-none}
+use Rattle.filter.proofs.Bounds.{bounded-item, bounded-empty, bounded-list, bounded-negation, bounded-of, bad-first, bounded-more, bounded-last}
+use Rattle.filter.proofs.Steps as reading
 use Rattle.filter.proofs.Progress.{HeadOn, head-on, TailOn, tail-on}
 use Rattle.evaluation.specs.Reading.{Outcome, settled, ofNone, andThen, reading, readingIn}
-use Rattle.evaluation.specs.inner.Work.{storedOutcome, charged, placed, inverse, judgedIf, judgedFilter, judgedRest, judgedFilters, begun, goesOn, behind, stopsAt, isUndefined, joinedBy, atEnd, turnedBy, turned, judgedText}
+use Rattle.evaluation.specs.inner.Work.{storedOutcome, verdictOf, charged, Ended, ends, over, placed, inverse, judgedIf, judgedFilter, judgedRest, judgedFilters}
+use Rattle.evaluation.specs.inner.Work.{JudgedAs, Judges, JudgedInAs, JudgesIn, placedAt, inverseOf, begun, goesOn, behind, stopsAt, isUndefined, joinedBy, atEnd, turnedBy, turned, Evaluates}
 use Rattle.evaluation.specs.declared.Verdict.{Verdict}
 use Rattle.evaluation.specs.declared.Judged.{Judged}
 use Rattle.evaluation.specs.declared.Judging.{Judging}
+use Rattle.evaluation.specs.declared.Evaluated.{Evaluated}
 use Rattle.evaluation.specs.declared.Progress.{Progress}
 use Rattle.evaluation.specs.declared.Turn.{Turn}
 use Rattle.evaluation.proofs.ItemSteps.{some-there}
@@ -45,102 +53,171 @@ module _ (j : filter.Join) (p : Progress) (u : Verdict) (a : Bool) (going : a �
     pub joined-on : (c : Bool) (r : Progress) → b ≡ false → c ≡ isUndefined u → r ≡ behind p c → r ≡ joinedBy j p u
     joined-on c r q e f = rw (sym going ∙ not-false a h, sym stop ∙ q, sym e) f
 
-pub empty-at : (j : filter.Join) (live : Bool) (n after : ℕ) (p : Progress) (u : Verdict) → p ≡ begun live → u ≡ atEnd j p → Judging.At u n after ≡ Judging.At (atEnd j (begun live)) n after
-empty-at j live n after p u e f = rw (f, e)
+pub empty-at : (j : filter.Join) (live : Bool) (n after left : ℕ) (p : Progress) (u : Verdict) → p ≡ begun live → u ≡ atEnd j p
+    → Judging.At u n after left ≡ Judging.At (atEnd j (begun live)) n after left
+empty-at j live n after left p u e f = rw (f, e)
 
 -- ---- what follows a filter of a list
-module _ (s : List ℕ) (j : filter.Join) (p : Progress) (k q : ℕ) (t : tail.Tail) (g : reportTail t ≡ tailAt s q) where
-  turned-by : (x : tail.Tail) → t ≡ x → turnedBy j p k (reportTail x) ≡ turnedBy j p k (tailAt s q)
-  turned-by x e = ap (turnedBy j p k) (ap reportTail (sym e) ∙ g)
+module _ (s : List ℕ) (j : filter.Join) (p : Progress) (k q left : ℕ) (t : tail.Tail) (g : reportTail t ≡ tailAt s q) where
+  turned-by : (x : tail.Tail) → t ≡ x → turnedBy j p k left (reportTail x) ≡ turnedBy j p k left (tailAt s q)
+  turned-by x e = ap (turnedBy j p k left) (ap reportTail (sym e) ∙ g)
 
-  pub follow-goes : (a : ℕ) → t ≡ tail.Tail.Another a → Turn.Goes p k a ≡ turnedBy j p k (tailAt s q)
+  pub follow-goes : (a : ℕ) → t ≡ tail.Tail.Another a → Turn.Goes p k a left ≡ turnedBy j p k left (tailAt s q)
   follow-goes a e = turned-by (tail.Tail.Another a) e
 
-  pub follow-closed : (a : ℕ) (y : Verdict) → t ≡ tail.Tail.Closed a → y ≡ atEnd j p → Turn.Ends (Judging.At y k a) ≡ turnedBy j p k (tailAt s q)
-  follow-closed a y e f = ap (λ (z : Verdict). Turn.Ends (Judging.At z k a)) f ∙ turned-by (tail.Tail.Closed a) e
+  pub follow-closed : (a : ℕ) (y : Verdict) → t ≡ tail.Tail.Closed a → y ≡ atEnd j p → Turn.Ends (Judging.At y k a left) ≡ turnedBy j p k left (tailAt s q)
+  follow-closed a y e f = ap (λ (z : Verdict). Turn.Ends (Judging.At z k a left)) f ∙ turned-by (tail.Tail.Closed a) e
 
-  pub follow-lost : t ≡ tail.Tail.NoTail → Turn.Ends Judging.Over ≡ turnedBy j p k (tailAt s q)
+  pub follow-lost : t ≡ tail.Tail.NoTail → Turn.Ends Judging.Bad ≡ turnedBy j p k left (tailAt s q)
   follow-lost e = turned-by tail.Tail.NoTail e
 
 module _ (s : List ℕ) (j : filter.Join) (p : Progress) (w : Judging) where
-  pub turn-at : (u : Verdict) (k q : ℕ) (x : Progress) (r : Turn) → w ≡ Judging.At u k q → x ≡ joinedBy j p u → r ≡ turnedBy j x k (tailAt s q) → r ≡ turned s j p w
-  turn-at u k q x r h e f = f ∙ ap (λ (y : Progress). turnedBy j y k (tailAt s q)) e ∙ sym (ap (turned s j p) h)
+  pub turn-at : (u : Verdict) (k q left : ℕ) (x : Progress) (r : Turn) → w ≡ Judging.At u k q left → x ≡ joinedBy j p u → r ≡ turnedBy j x k left (tailAt s q)
+      → r ≡ turned s j p w
+  turn-at u k q left x r h e f = f ∙ ap (λ (y : Progress). turnedBy j y k left (tailAt s q)) e ∙ sym (ap (turned s j p) h)
 
   pub turn-over : w ≡ Judging.Over → Turn.Ends Judging.Over ≡ turned s j p w
   turn-over h = sym (ap (turned s j p) h)
 
--- ---- the assertion of an item
-made-none : (says : Item → Outcome) (live : Bool) (budget n : ℕ) (x : Option (Read Item)) → x ≡ none → Judging.Over ≡ judgedFilter says live budget n (made item x)
-unfolding judgedFilter
-made-none says live budget n x e = rw e
+  pub turn-bad : w ≡ Judging.Bad → Turn.Ends Judging.Bad ≡ turned s j p w
+  turn-bad h = sym (ap (turned s j p) h)
 
-made-some : (says : Item → Outcome) (live : Bool) (budget n : ℕ) (x : Option (Read Item)) (i : Item) (after : ℕ) → x ≡ some (record { is = i; after = after }) → judgedIf live budget n (says i) after ≡ judgedFilter says live budget n (made item x)
+-- ---- the assertion of an item
+made-some : (says : Item → Outcome) (live : Bool) (budget n : ℕ) (x : Option (Read Item)) (i : Item) (after : ℕ) → x ≡ some (record { is = i; after = after })
+    → judgedIf live budget n (says i) after ≡ judgedFilter says live budget n (made item x)
 unfolding judgedFilter reading
 made-some says live budget n x i after e = rw e
 
-module _ (ty : Ty) (v f : List ℕ) (at : ℕ) (live : Bool) (budget n : ℕ) (a : Assertion) (e : reportAssertion f a ≡ assertionAt f at) where
-  pub assertion-bad : a ≡ Assertion.Bad → Judging.Over ≡ judgedFilter (storedOutcome ty v) live budget n (made item (assertionAt f at))
-  assertion-bad q = made-none (storedOutcome ty v) live budget n (assertionAt f at) (sym e ∙ ap (reportAssertion f) q)
+-- the tests of an outcome within the budget
+charged-within : (budget n : ℕ) (o : Outcome) (u : Verdict) (k : ℕ) → Judged.Of u k ≡ charged budget n o → k ≤ budget
+unfolding charged
+charged-within budget n (settled t m) u k e = go (leb (n + m) budget) refl e
+  where
+    go : (b : Bool) → leb (n + m) budget ≡ b → Judged.Of u k ≡ pick b (Judged.Of (verdictOf t) (n + m)) Judged.Over → k ≤ budget
+    go true q f = let h : n + m ≤ budget = leb-true (n + m) budget q in let z : k ≡ n + m = cc in omega arith
+    go false q f = absurd (let z : _≡_ {A = ℕ} 0 1 = cc in omega arith)
 
-  module _ (p : Parts) (q : a ≡ Assertion.Good p) (after : ℕ) (k : after ≡ p .after) where
+pub assertion-full : (says : Item → Outcome) (f : List ℕ) (at room : ℕ) (live : Bool) (budget n : ℕ) → room ≡ 0
+    → Judges says 1 room live budget n (made item (assertionAt f at)) Judging.Bad
+unfolding Judges
+assertion-full says f at room live budget n e = reading.item-full f at room e
+
+module _ (ty : Ty) (v f : List ℕ) (at room : ℕ) (live : Bool) (budget n : ℕ) (many : room ≡ 0 → ⊥) (a : Assertion) (e : reportAssertion f a ≡ assertionAt f at) where
+  pub assertion-bad : a ≡ Assertion.Bad → Judges (storedOutcome ty v) 1 room live budget n (made item (assertionAt f at)) Judging.Bad
+  unfolding Judges
+  assertion-bad q = reading.item-bad f at room many a e q
+
+  module _ (p : Parts) (q : a ≡ Assertion.Good p) (after left : ℕ) (k : after ≡ p .after) (l : left ≡ room - 1) where
     good : judgedIf live budget n (storedOutcome ty v (itemOf f p)) after ≡ judgedFilter (storedOutcome ty v) live budget n (made item (assertionAt f at))
-    good = ap (judgedIf live budget n (storedOutcome ty v (itemOf f p))) k ∙ made-some (storedOutcome ty v) live budget n (assertionAt f at) (itemOf f p) (p .after) (sym e ∙ ap (reportAssertion f) q)
+    good =
+        ap (judgedIf live budget n (storedOutcome ty v (itemOf f p))) k
+        ∙ made-some (storedOutcome ty v) live budget n (assertionAt f at) (itemOf f p) (p .after) (sym e ∙ ap (reportAssertion f) q)
 
-    pub assertion-passed : not live ≡ true → Judging.At Verdict.Undefined n after ≡ judgedFilter (storedOutcome ty v) live budget n (made item (assertionAt f at))
-    assertion-passed h = sym (ap (λ (b : Bool). judgedIf b budget n (storedOutcome ty v (itemOf f p)) after) (not-true live h)) ∙ good
+    span : Span.Of after left ≡ bounded 1 room (made item (assertionAt f at))
+    span = ap (λ (x : ℕ). Span.Of x left) k ∙ ap (Span.Of (p .after)) l ∙ reading.item-is f at room many a e p q
 
-    pub assertion-judged : (w : Judged) (x : Judging) → not live ≡ false → w ≡ charged budget n (storedOutcome ty v (itemOf f p)) → x ≡ placed after w → x ≡ judgedFilter (storedOutcome ty v) live budget n (made item (assertionAt f at))
-    assertion-judged w x h c d = d ∙ ap (placed after) c ∙ sym (ap (λ (b : Bool). judgedIf b budget n (storedOutcome ty v (itemOf f p)) after) (not-false live h)) ∙ good
+    pub assertion-passed : n ≤ budget → not live ≡ true → Judges (storedOutcome ty v) 1 room live budget n (made item (assertionAt f at)) (Judging.At Verdict.Undefined n after left)
+    unfolding Judges
+    assertion-passed within h = (span, (within, sym (ap (λ (b : Bool). judgedIf b budget n (storedOutcome ty v (itemOf f p)) after) (not-true live h)) ∙ good))
+
+    judged-as : not live ≡ false → (w : Judged) → w ≡ charged budget n (storedOutcome ty v (itemOf f p))
+        → JudgedAs (storedOutcome ty v) 1 room live budget n (made item (assertionAt f at)) (placedAt after left w)
+    judged-as h w c = go w c (ap (placed after) c ∙ sym (ap (λ (b : Bool). judgedIf b budget n (storedOutcome ty v (itemOf f p)) after) (not-false live h)) ∙ good)
+      where
+        go : (y : Judged) → y ≡ charged budget n (storedOutcome ty v (itemOf f p)) → placed after y ≡ judgedFilter (storedOutcome ty v) live budget n (made item (assertionAt f at))
+            → JudgedAs (storedOutcome ty v) 1 room live budget n (made item (assertionAt f at)) (placedAt after left y)
+        go (Judged.Of u m) d z = (span, (charged-within budget n (storedOutcome ty v (itemOf f p)) u m d, z))
+        go Judged.Over d z = λ some. z
+
+    pub assertion-judged : (w : Judged) (x : Judging) → not live ≡ false → w ≡ charged budget n (storedOutcome ty v (itemOf f p)) → x ≡ placedAt after left w
+        → Judges (storedOutcome ty v) 1 room live budget n (made item (assertionAt f at)) x
+    unfolding Judges
+    assertion-judged w x h c d = subst (JudgedAs (storedOutcome ty v) 1 room live budget n (made item (assertionAt f at))) (sym d) (judged-as h w c)
 
 -- ---- a filter, by its head
-there-some : {A : Type 0} (o : Option A) (a : A) → o ≡ some a → isSome o ≡ true
-there-some o a e = rw e
-
 made-is : {A B : Type 0} (f : A → B) (x : Option (Read A)) → isSome (made f x) ≡ true → isSome x ≡ true
 made-is f none e = e
 made-is f (some r) e = refl
 
-list-judged : (says : Item → Outcome) (j : filter.Join) (live : Bool) (budget n : ℕ) (x : Option (Read (Filters Item))) → judgedFilters says j (begun live) budget n x ≡ judgedFilter says live budget n (made (list j) x)
+list-judged : (says : Item → Outcome) (j : filter.Join) (live : Bool) (budget n : ℕ) (x : Option (Read (Filters Item)))
+    → judgedFilters says j (begun live) budget n x ≡ judgedFilter says live budget n (made (list j) x)
 unfolding judgedFilter judgedFilters reading
 list-judged says j live budget n none = refl
 list-judged says j true budget n (some r) = refl
 list-judged says j false budget n (some r) = refl
 
-not-judged : (says : Item → Outcome) (live : Bool) (budget n : ℕ) (x : Option (Read (Filter Item))) → inverse (judgedFilter says live budget n x) ≡ judgedFilter says live budget n (made invert x)
+not-judged : (says : Item → Outcome) (live : Bool) (budget n : ℕ) (x : Option (Read (Filter Item)))
+    → inverse (judgedFilter says live budget n x) ≡ judgedFilter says live budget n (made invert x)
 unfolding judgedFilter reading
 not-judged says live budget n none = refl
 not-judged says live budget n (some r) = inverse-judged live budget n (reading says (r .is)) (r .after)
 
-empty-judged : (says : Item → Outcome) (j : filter.Join) (live : Bool) (budget n after : ℕ) → n ≤ budget → Judging.At (atEnd j (begun live)) n after ≡ judgedFilter says live budget n (some (record { is = list j endFilters; after = after }))
+empty-judged : (says : Item → Outcome) (j : filter.Join) (live : Bool) (budget n after : ℕ) → n ≤ budget
+    → ends (atEnd j (begun live)) n after ≡ judgedFilter says live budget n (some (record { is = list j endFilters; after = after }))
 unfolding judgedFilter reading
 empty-judged says j true budget n after h = sym (at-end j Progress.Plain budget n after h)
 empty-judged says j false budget n after h = refl
 
-module _ (ty : Ty) (v f : List ℕ) (at : ℕ) (live : Bool) (budget n : ℕ) (h : Head) (e : reportHead h ≡ headAt f at) where
-  pub filter-item : (p : ℕ) (w : Judging) → h ≡ Head.Assertion p → w ≡ judgedFilter (storedOutcome ty v) live budget n (made item (assertionAt f p)) → w ≡ judgedFilter (storedOutcome ty v) live budget n (filterAt f at)
-  filter-item p w q d = d ∙ ap (judgedFilter (storedOutcome ty v) live budget n) (sym (filter-by f at (sym e ∙ ap reportHead q)))
+module _ (says : Item → Outcome) (d room : ℕ) (live : Bool) (budget n : ℕ) (deep : d ≡ 0 → ⊥) where
+  positive : 0 < d
+  positive = omega arith
 
-  pub filter-empty : (j : Join) (p : ℕ) (w : Judging) → n ≤ budget → h ≡ Head.EmptyList j p → w ≡ Judging.At (atEnd (reportJoin j) (begun live)) n p → w ≡ judgedFilter (storedOutcome ty v) live budget n (filterAt f at)
-  filter-empty j p w l q d = d ∙ empty-judged (storedOutcome ty v) (reportJoin j) live budget n p l ∙ ap (judgedFilter (storedOutcome ty v) live budget n) (sym (filter-by f at (sym e ∙ ap reportHead q)))
+  item-as : (x : Option (Read Item)) (w : Judging) → JudgedAs says 1 room live budget n (made item x) w → JudgedAs says d room live budget n (made item x) w
+  item-as x (Judging.At u k a l) s = (s .0 ∙ bounded-item d room positive x, s .1)
+  item-as x Judging.Over s = s
+  item-as x Judging.Bad s = s ∙ bounded-item d room positive x
 
-  pub filter-list : (j : Join) (p : ℕ) (w : Judging) → h ≡ Head.OpenList j p → w ≡ judgedFilters (storedOutcome ty v) (reportJoin j) (begun live) budget n (filtersAt f p) → w ≡ judgedFilter (storedOutcome ty v) live budget n (filterAt f at)
-  filter-list j p w q d = d ∙ list-judged (storedOutcome ty v) (reportJoin j) live budget n (filtersAt f p) ∙ ap (judgedFilter (storedOutcome ty v) live budget n) (sym (filter-by f at (sym e ∙ ap reportHead q)))
+  list-as : (j : filter.Join) (x : Option (Read (Filters Item))) (w : Judging) → JudgedInAs says j (begun live) (d - 1) room budget n x w
+      → JudgedAs says d room live budget n (made (list j) x) w
+  list-as j x (Judging.At u k a l) s = (s .0 ∙ bounded-list d room positive j x, (s .1 .0, s .1 .1 ∙ list-judged says j live budget n x))
+  list-as j x Judging.Over s = λ h. s (made-is (list j) x h) ∙ list-judged says j live budget n x
+  list-as j x Judging.Bad s = s ∙ bounded-list d room positive j x
 
-  pub filter-not : (p : ℕ) (w x : Judging) → h ≡ Head.Negation p → w ≡ judgedFilter (storedOutcome ty v) live budget n (filterAt f p) → x ≡ inverse w → x ≡ judgedFilter (storedOutcome ty v) live budget n (filterAt f at)
-  filter-not p w x q d g = g ∙ ap inverse d ∙ not-judged (storedOutcome ty v) live budget n (filterAt f p) ∙ ap (judgedFilter (storedOutcome ty v) live budget n) (sym (filter-by f at (sym e ∙ ap reportHead q)))
+  not-as : (x : Option (Read (Filter Item))) (w : Judging) → JudgedAs says (d - 1) room live budget n x w → JudgedAs says d room live budget n (made invert x) (inverseOf w)
+  not-as x (Judging.At u k a l) s = (s .0 ∙ bounded-negation d room positive x, (s .1 .0, ap inverse (s .1 .1) ∙ not-judged says live budget n x))
+  not-as x Judging.Over s = λ h. ap inverse (s (made-is invert x h)) ∙ not-judged says live budget n x
+  not-as x Judging.Bad s = s ∙ bounded-negation d room positive x
 
-  pub filter-none : h ≡ Head.NoHead → Judging.Over ≡ judgedFilter (storedOutcome ty v) live budget n (filterAt f at)
-  unfolding judgedFilter
-  filter-none q = ap (judgedFilter (storedOutcome ty v) live budget n) (sym (filter-by f at (sym e ∙ ap reportHead q)))
+pub filter-shallow : (says : Item → Outcome) (f : List ℕ) (at d room : ℕ) (live : Bool) (budget n : ℕ) → d ≡ 0 → Judges says d room live budget n (filterAt f at) Judging.Bad
+unfolding Judges
+filter-shallow says f at d room live budget n e = reading.filter-shallow f at d room e
+
+module _ (says : Item → Outcome) (f : List ℕ) (at d room : ℕ) (live : Bool) (budget n : ℕ) (deep : d ≡ 0 → ⊥) (h : Head) (e : reportHead h ≡ headAt f at) where
+  pub filter-item : (p : ℕ) (w : Judging) → h ≡ Head.Assertion p → Judges says 1 room live budget n (made item (assertionAt f p)) w → Judges says d room live budget n (filterAt f at) w
+  unfolding Judges
+  filter-item p w q s =
+      subst (λ (x : Option (Read (Filter Item))). JudgedAs says d room live budget n x w) (sym (filter-by f at (sym e ∙ ap reportHead q)))
+      (item-as says d room live budget n deep (assertionAt f p) w s)
+
+  pub filter-empty : (j : Join) (p : ℕ) (w : Judging) → n ≤ budget → h ≡ Head.EmptyList j p → w ≡ Judging.At (atEnd (reportJoin j) (begun live)) n p room
+      → Judges says d room live budget n (filterAt f at) w
+  unfolding Judges
+  filter-empty j p w l q c =
+      subst (JudgedAs says d room live budget n (filterAt f at)) (sym c)
+      (subst (λ (x : Option (Read (Filter Item))). JudgedAs says d room live budget n x (Judging.At (atEnd (reportJoin j) (begun live)) n p room))
+      (sym (filter-by f at (sym e ∙ ap reportHead q)))
+      (bounded-empty d room (positive says d room live budget n deep) (reportJoin j) p, (l, empty-judged says (reportJoin j) live budget n p l)))
+
+  pub filter-list : (j : Join) (p : ℕ) (w : Judging) → h ≡ Head.OpenList j p → JudgesIn says (reportJoin j) (begun live) (d - 1) room budget n (filtersAt f p) w
+      → Judges says d room live budget n (filterAt f at) w
+  unfolding Judges JudgesIn
+  filter-list j p w q s =
+      subst (λ (x : Option (Read (Filter Item))). JudgedAs says d room live budget n x w) (sym (filter-by f at (sym e ∙ ap reportHead q)))
+      (list-as says d room live budget n deep (reportJoin j) (filtersAt f p) w s)
+
+  pub filter-not : (p : ℕ) (w x : Judging) → h ≡ Head.Negation p → Judges says (d - 1) room live budget n (filterAt f p) w → x ≡ inverseOf w
+      → Judges says d room live budget n (filterAt f at) x
+  unfolding Judges
+  filter-not p w x q s c =
+      subst (JudgedAs says d room live budget n (filterAt f at)) (sym c)
+      (subst (λ (y : Option (Read (Filter Item))). JudgedAs says d room live budget n y (inverseOf w)) (sym (filter-by f at (sym e ∙ ap reportHead q)))
+      (not-as says d room live budget n deep (filterAt f p) w s))
+
+  pub filter-none : h ≡ Head.NoHead → Judges says d room live budget n (filterAt f at) Judging.Bad
+  unfolding Judges
+  filter-none q = reading.filter-none f at d room deep h e q
 
 module _ (f : List ℕ) (at : ℕ) (h : Head) (e : reportHead h ≡ headAt f at) where
-  module _ (read : isSome (filterAt f at) ≡ true) where
-    pub list-read : (j : Join) (p : ℕ) → h ≡ Head.OpenList j p → isSome (filtersAt f p) ≡ true
-    list-read j p q = made-is (list (reportJoin j)) (filtersAt f p) (ap isSome (sym (filter-by f at (sym e ∙ ap reportHead q))) ∙ read)
-
-    pub not-read : (p : ℕ) → h ≡ Head.Negation p → isSome (filterAt f p) ≡ true
-    not-read p q = made-is invert (filterAt f p) (ap isSome (sym (filter-by f at (sym e ∙ ap reportHead q))) ∙ read)
-
   -- the text that is left falls
   pub list-less : (t : ℕ) (j : Join) (p : ℕ) → 2 * (length f - at) ≡ t → h ≡ Head.OpenList j p → 2 * (length f - p) + 1 < t
   list-less t j p m q = let l : HeadOn (length f) at (openList (reportJoin j) p) = subst (HeadOn (length f) at) (sym e ∙ ap reportHead q) (head-on f at) in let a = l .0 in let b = l .1 in omega arith
@@ -148,115 +225,161 @@ module _ (f : List ℕ) (at : ℕ) (h : Head) (e : reportHead h ≡ headAt f at)
   pub not-less : (t p : ℕ) → 2 * (length f - at) ≡ t → h ≡ Head.Negation p → 2 * (length f - p) < t
   not-less t p m q = let l : HeadOn (length f) at (negation p) = subst (HeadOn (length f) at) (sym e ∙ ap reportHead q) (head-on f at) in let a = l .0 in let b = l .1 in omega arith
 
--- ---- the filters of a list, one turn: what the turn says of those from place i on, after k tests
-abbrev TurnSays : (Item → Outcome) → List ℕ → filter.Join → Progress → ℕ → ℕ → ℕ → Turn → Type 0
-TurnSays says f j p budget k i (Turn.Goes q c a) = (isSome (filtersAt f a) ≡ true) × (c ≤ budget) × (length f - a < length f - i) × (judgedFilters says j q budget c (filtersAt f a) ≡ judgedFilters says j p budget k (filtersAt f i))
-TurnSays says f j p budget k i (Turn.Ends y) = y ≡ judgedFilters says j p budget k (filtersAt f i)
+-- ---- the filters of a list, one turn: what is said of those behind it is said of those from place i on
+abbrev TurnSays : (Item → Outcome) → List ℕ → filter.Join → Progress → ℕ → ℕ → ℕ → ℕ → ℕ → Turn → Type 0
+TurnSays says f j p d room budget k i (Turn.Goes q c a l) =
+    (c ≤ budget) × ((length f - a < length f - i) × ((w : Judging) → JudgedInAs says j q d l budget c (filtersAt f a) w → JudgedInAs says j p d room budget k (filtersAt f i) w))
+TurnSays says f j p d room budget k i (Turn.Ends y) = JudgedInAs says j p d room budget k (filtersAt f i) y
 
-module _ (says : Item → Outcome) (f : List ℕ) (j : filter.Join) (p : Progress) (budget k i : ℕ) (r : Read (Filters Item)) (read : filtersAt f i ≡ some r) (h : k ≤ budget) where
+module _ (says : Item → Outcome) (f : List ℕ) (j : filter.Join) (p : Progress) (d room budget k i : ℕ) (h : k ≤ budget) where
+  -- the first filter was read
   module _ (x : Read (Filter Item)) (first : filterAt f i ≡ some x) where
     abbrev o : Outcome
     o = reading says (x .is)
 
-    -- the first filter and the others
-    list-is : (fs : Filters Item) (z : ℕ) → next (x .is) fs ≡ r .is → z ≡ r .after → judgedRest j p budget k (andThen j o (readingIn says j fs)) z ≡ judgedFilters says j p budget k (filtersAt f i)
+    -- what its judging says of the list
+    said-of : (w : Ended) → w ≡ judgedFilter says (goesOn p) budget k (filterAt f i) → FirstSays j p budget k o (x .after) w
+    unfolding judgedFilter
+    said-of w e = subst (FirstSays j p budget k o (x .after)) (sym (e ∙ ap (judgedFilter says (goesOn p) budget k) first)) (first-says j p budget k o (x .after) h)
+
+    -- more tests than the budget, whatever the rest
+    over-in : FirstSays j p budget k o (x .after) over → over ≡ judgedFilters says j p budget k (filtersAt f i)
     unfolding judgedFilters reading
-    list-is fs z q e = ap (λ (y : Filters Item). judgedRest j p budget k (readingIn says j y) z) q ∙ ap (λ (y : ℕ). judgedRest j p budget k (readingIn says j (r .is)) y) e ∙ ap (judgedFilters says j p budget k) (sym read)
+    over-in s = go (tailAt f (x .after)) (filters-by f i x first refl)
+      where
+        behind-it : (y : Option (Read (Filters Item))) → over ≡ judgedFilters says j p budget k (made (next (x .is)) y)
+        behind-it none = refl
+        behind-it (some r) = sym (s (readingIn says j (r .is)) (r .after))
 
-    shape : (t : Tail) → tailAt f (x .after) ≡ t → (fs : Filters Item) × (next (x .is) fs ≡ r .is)
-    shape (another a) e = let l = read-another f i r x read first a e in (l .0 .is, l .1 .1 .0)
-    shape (closed a) e = let l = read-closed f i r x read first a e in (endFilters, l .0)
-    shape noTail e = absurd (read-tail f i r x read first e)
+        go : (t : Tail) → filtersAt f i ≡ byTail (filtersAt f) (x .is) t → over ≡ judgedFilters says j p budget k (filtersAt f i)
+        go (another a) e = behind-it (filtersAt f a) ∙ ap (judgedFilters says j p budget k) (sym e)
+        go (closed a) e = sym (s (settled (ofNone j) 0) a) ∙ ap (judgedFilters says j p budget k) (sym e)
+        go noTail e = ap (judgedFilters says j p budget k) (sym e)
 
-    on-tail : (t : Tail) → tailAt f (x .after) ≡ t → (u : Verdict) (c : ℕ) → c ≤ budget → ((s : Outcome) (z : ℕ) → judgedRest j p budget k (andThen j o s) z ≡ judgedRest j (joinedBy j p u) budget c s z)
-        → TurnSays says f j p budget k i (turnedBy j (joinedBy j p u) c t)
-    unfolding judgedFilters reading
-    on-tail (another a) e u c l law =
-        let m = read-another f i r x read first a e in
-        let d = filter-further f i x first in
-        let n : TailOn (length f) (x .after) (another a) = subst (TailOn (length f) (x .after)) e (tail-on f (x .after)) in
-        let d0 = d .0 in
-        let n0 = n .0 in
-        let n1 = n .1 in (
-          there-some (filtersAt f a) (m .0) (m .1 .0),
-          l,
-          omega arith,
-          ap (judgedFilters says j (joinedBy j p u) budget c) (m .1 .0) ∙ sym (law (readingIn says j (m .0 .is)) (m .0 .after)) ∙ list-is (m .0 .is) (m .0 .after) (m .1 .1 .0) (m .1 .1 .1),
-        )
-    on-tail (closed a) e u c l law =
-        let m = read-closed f i r x read first a e in
-        sym (at-end j (joinedBy j p u) budget c a l) ∙ sym (law (settled (ofNone j) 0) a) ∙ list-is endFilters a (m .0) (m .1)
-    on-tail noTail e u c l law = absurd (read-tail f i r x read first e)
+    -- within the budget, up to place q, with so many items left
+    module _ (u : Verdict) (c q l : ℕ) (within : c ≤ budget) (ends-here : q ≡ x .after) (deep : depth (x .is) ≤ d) (few : length (items (x .is)) ≤ room) (left : l ≡ room - length (items (x .is)))
+        (law : (r : Outcome) (z : ℕ) → judgedRest j p budget k (andThen j o r) z ≡ judgedRest j (joinedBy j p u) budget c r z) where
+      bounds : (y : Option (Read (Filters Item))) → boundedIn d l y ≡ boundedIn d room (made (next (x .is)) y)
+      bounds y = ap (λ (m : ℕ). boundedIn d m y) left ∙ bounded-more d room (x .is) deep few y
 
-    says-turn : (w : Judging) → FirstSays j p budget k o (x .after) w → TurnSays says f j p budget k i (turned f j p w)
-    says-turn (Judging.At u c q) s = on-tail (tailAt f q) (ap (tailAt f) (sym (s .0))) u c (s .1) (s .2)
-    says-turn Judging.Over s = let y = shape (tailAt f (x .after)) refl in sym (s (readingIn says j (y .0)) (r .after)) ∙ list-is (y .0) (r .after) (y .1) refl
+      rests : (y : Option (Read (Filters Item))) → judgedFilters says j (joinedBy j p u) budget c y ≡ judgedFilters says j p budget k (made (next (x .is)) y)
+      unfolding judgedFilters reading
+      rests none = refl
+      rests (some r) = sym (law (readingIn says j (r .is)) (r .after))
 
-  says-judged : (w : Judging) → w ≡ judgedFilter says (goesOn p) budget k (filterAt f i) → TurnSays says f j p budget k i (turned f j p w)
-  unfolding judgedFilter
-  says-judged w e =
-      let x = read-first f i r read in
-      let z : judgedIf (goesOn p) budget k (reading says (x .0 .is)) (x .0 .after) ≡ w = sym (e ∙ ap (judgedFilter says (goesOn p) budget k) (x .1 .0)) in
-      says-turn (x .0) (x .1 .0) w (subst (FirstSays j p budget k (reading says (x .0 .is)) (x .0 .after)) z (first-says j p budget k (reading says (x .0 .is)) (x .0 .after) h))
+      more : (y : Option (Read (Filters Item))) (w : Judging) → JudgedInAs says j (joinedBy j p u) d l budget c y w → JudgedInAs says j p d room budget k (made (next (x .is)) y) w
+      more y (Judging.At v m a n) s = (s .0 ∙ bounds y, (s .1 .0, s .1 .1 ∙ rests y))
+      more y Judging.Over s = λ some. s (made-is (next (x .is)) y some) ∙ rests y
+      more y Judging.Bad s = s ∙ bounds y
 
--- ---- the filters of a list: k tests were made before place i, and the list so far is p
-pub record Listing (ty : Ty) (v f : List ℕ) (j : filter.Join) (begin : Progress) (budget n at : ℕ) (p : Progress) (k i : ℕ) : Type 0 where
-  pub read : isSome (filtersAt f i) ≡ true
+      last : (a : ℕ) → JudgedInAs says j p d room budget k (byTail (filtersAt f) (x .is) (closed a)) (Judging.At (atEnd j (joinedBy j p u)) c a l)
+      unfolding judgedFilters reading
+      last a = (ap (Span.Of a) left ∙ bounded-last d room (x .is) deep few a, (within, sym (at-end j (joinedBy j p u) budget c a within) ∙ sym (law (settled (ofNone j) 0) a)))
+
+      on-tail : (t : Tail) → tailAt f q ≡ t → TurnSays says f j p d room budget k i (turnedBy j (joinedBy j p u) c l t)
+      unfolding boundedIn
+      on-tail t e = go t e (filters-by f i x first (sym (ap (tailAt f) ends-here) ∙ e))
+        where
+          go : (t : Tail) → tailAt f q ≡ t → filtersAt f i ≡ byTail (filtersAt f) (x .is) t → TurnSays says f j p d room budget k i (turnedBy j (joinedBy j p u) c l t)
+          go (another a) e r =
+              let b = filter-further f i x first in
+              let n : TailOn (length f) q (another a) = subst (TailOn (length f) q) e (tail-on f q) in
+              let b0 = b .0 in
+              let n0 = n .0 in
+              let n1 = n .1 in
+              (within, (omega arith, λ w s. subst (λ (y : Option (Read (Filters Item))). JudgedInAs says j p d room budget k y w) (sym r) (more (filtersAt f a) w s)))
+          go (closed a) e r = subst (λ (y : Option (Read (Filters Item))). JudgedInAs says j p d room budget k y (Judging.At (atEnd j (joinedBy j p u)) c a l)) (sym r) (last a)
+          go noTail e r = ap (boundedIn d room) (sym r)
+
+  says-turn : (w : Judging) → JudgedAs says d room (goesOn p) budget k (filterAt f i) w → TurnSays says f j p d room budget k i (turned f j p w)
+  says-turn (Judging.At u c q l) s =
+      let b = bounded-of d room (filterAt f i) q l (s .0) in
+      let z = said-of (b .0) (b .1 .0) (ends u c q) (s .1 .1) in
+      on-tail (b .0) (b .1 .0) u c q l (s .1 .0) (b .1 .1 .1 .0) (b .1 .1 .0 .0) (b .1 .1 .0 .1) (b .1 .1 .1 .1) (z .2) (tailAt f q) refl
+  says-turn Judging.Over s = λ h.
+      let r = some-there (filtersAt f i) h in
+      let x = read-first f i (r .0) (r .1) in
+      over-in (x .0) (x .1 .0) (said-of (x .0) (x .1 .0) over (s (ap isSome (x .1 .0))))
+  says-turn Judging.Bad s = bad-first d room f (filtersAt f) (filterAt f i) s ∙ ap (boundedIn d room) (sym (filters-step f i))
+
+-- ---- the filters of a list: k tests were made before place i, the list so far is p, and so many items are left
+pub record Listing (says : Item → Outcome) (f : List ℕ) (j : filter.Join) (begin : Progress) (d room budget n at : ℕ) (p : Progress) (k i left : ℕ) : Type 0 where
   pub within : k ≤ budget
   pub on : length f - i ≤ length f - at
-  pub same : judgedFilters (storedOutcome ty v) j p budget k (filtersAt f i) ≡ judgedFilters (storedOutcome ty v) j begin budget n (filtersAt f at)
+  pub carries : (w : Judging) → JudgedInAs says j p d left budget k (filtersAt f i) w → JudgedInAs says j begin d room budget n (filtersAt f at) w
 
-module _ (ty : Ty) (v f : List ℕ) (j : filter.Join) (live : Bool) (budget n at : ℕ) where
-  pub list-begins : (p : Progress) → p ≡ begun live → isSome (filtersAt f at) ≡ true → n ≤ budget → Listing ty v f j (begun live) budget n at p n at
-  list-begins p e r h = record { read = r; within = h; on = omega arith; same = ap (λ (y : Progress). judgedFilters (storedOutcome ty v) j y budget n (filtersAt f at)) e }
+module _ (says : Item → Outcome) (f : List ℕ) (j : filter.Join) (begin : Progress) (d room budget n at : ℕ) where
+  pub list-begins : n ≤ budget → Listing says f j begin d room budget n at begin n at room
+  list-begins h = record { within = h; on = omega arith; carries = λ w s. s }
 
-  module _ (p : Progress) (k i : ℕ) (inv : Listing ty v f j (begun live) budget n at p k i) where
+  module _ (p : Progress) (k i left : ℕ) (inv : Listing says f j begin d room budget n at p k i left) where
     pub list-lower : (t : ℕ) → 2 * (length f - at) + 1 ≡ t → 2 * (length f - i) < t
     list-lower t m = let a = inv .on in omega arith
-
-    rest : (r : Read (Filters Item)) × (filtersAt f i ≡ some r)
-    rest = some-there (filtersAt f i) (inv .read)
-
-    pub list-filter : isSome (filterAt f i) ≡ true
-    list-filter = let x = read-first f i (rest .0) (rest .1) in there-some (filterAt f i) (x .0) (x .1 .0)
 
     pub list-within : k ≤ budget
     list-within = inv .within
 
-    module _ (b : Bool) (w : Judging) (x : Turn) (going : b ≡ goesOn p) (judged : w ≡ judgedFilter (storedOutcome ty v) b budget k (filterAt f i)) (told : x ≡ turned f j p w) where
-      said : TurnSays (storedOutcome ty v) f j p budget k i x
+    module _ (b : Bool) (w : Judging) (x : Turn) (going : b ≡ goesOn p) (judged : Judges says d left b budget k (filterAt f i) w) (told : x ≡ turned f j p w) where
+      said : TurnSays says f j p d left budget k i x
+      unfolding Judges
       said =
-          subst (TurnSays (storedOutcome ty v) f j p budget k i) (sym told)
-          (says-judged (storedOutcome ty v) f j p budget k i (rest .0) (rest .1) (inv .within) w (judged ∙ ap (λ (y : Bool). judgedFilter (storedOutcome ty v) y budget k (filterAt f i)) going))
+          subst (TurnSays says f j p d left budget k i) (sym told)
+          (says-turn says f j p d left budget k i (inv .within) w (subst (λ (y : Bool). JudgedAs says d left y budget k (filterAt f i) w) going judged))
 
-      pub list-ends : (y : Judging) → x ≡ Turn.Ends y → y ≡ judgedFilters (storedOutcome ty v) j (begun live) budget n (filtersAt f at)
-      list-ends y q = subst (TurnSays (storedOutcome ty v) f j p budget k i) q said ∙ inv .same
+      pub list-ends : (live : Bool) (y : Judging) → begin ≡ begun live → x ≡ Turn.Ends y → JudgesIn says j (begun live) d room budget n (filtersAt f at) y
+      unfolding JudgesIn
+      list-ends live y e q = subst (λ (z : Progress). JudgedInAs says j z d room budget n (filtersAt f at) y) e (inv .carries y (subst (TurnSays says f j p d left budget k i) q said))
 
-      module _ (next : Progress) (c a : ℕ) (q : x ≡ Turn.Goes next c a) where
-        goes : TurnSays (storedOutcome ty v) f j p budget k i (Turn.Goes next c a)
-        goes = subst (TurnSays (storedOutcome ty v) f j p budget k i) q said
+      module _ (next : Progress) (c a l : ℕ) (q : x ≡ Turn.Goes next c a l) where
+        goes : TurnSays says f j p d left budget k i (Turn.Goes next c a l)
+        goes = subst (TurnSays says f j p d left budget k i) q said
 
         pub list-falls : length f - a < length f - i
-        list-falls = goes .2
+        list-falls = goes .1 .0
 
-        pub list-again : Listing ty v f j (begun live) budget n at next c a
-        list-again = record { read = goes .0; within = goes .1; on = let d = goes .2 in let e = inv .on in omega arith; same = goes .3 ∙ inv .same }
+        pub list-again : Listing says f j begin d room budget n at next c a l
+        list-again = record { within = goes .0; on = let e = goes .1 .0 in let g = inv .on in omega arith; carries = λ w s. inv .carries w (goes .1 .1 w s) }
 
 -- ---- the whole text
-text-judged : (says : Item → Outcome) (budget : ℕ) (x : Option (Read (Filter Item))) (j : Judged) (after : ℕ) → placed after j ≡ judgedFilter says true budget 0 x → isSome x ≡ true → j ≡ judgedText says budget x
-unfolding judgedFilter judgedText
-text-judged says budget none j after e h = absurd (false≢true h)
-text-judged says budget (some r) j after e h = go j (charged budget 0 (reading says (r .is))) e
-  where
-    go : (a b : Judged) → placed after a ≡ placed (r .after) b → a ≡ b
-    go (Judged.Of u k) (Judged.Of y l) q = cc
-    go (Judged.Of u k) Judged.Over q = absurd (let z : _≡_ {A = ℕ} 0 1 = cc in omega arith)
-    go Judged.Over (Judged.Of y l) q = absurd (let z : _≡_ {A = ℕ} 0 1 = cc in omega arith)
-    go Judged.Over Judged.Over q = refl
+placed-same : (after : ℕ) (a b : Judged) → placed after a ≡ placed after b → a ≡ b
+placed-same after (Judged.Of u k) (Judged.Of y l) q = cc
+placed-same after (Judged.Of u k) Judged.Over q = absurd (let z : _≡_ {A = ℕ} 0 1 = cc in omega arith)
+placed-same after Judged.Over (Judged.Of y l) q = absurd (let z : _≡_ {A = ℕ} 0 1 = cc in omega arith)
+placed-same after Judged.Over Judged.Over q = refl
 
-module _ (ty : Ty) (v f : List ℕ) (budget : ℕ) (w : Judging) (read : isSome (filterAt f 0) ≡ true) (judged : w ≡ judgedFilter (storedOutcome ty v) true budget 0 (filterAt f 0)) where
-  pub text-at : (u : Verdict) (k after : ℕ) → w ≡ Judging.At u k after → Judged.Of u k ≡ judgedText (storedOutcome ty v) budget (filterAt f 0)
-  text-at u k after q = text-judged (storedOutcome ty v) budget (filterAt f 0) (Judged.Of u k) after (sym q ∙ judged) read
+module _ (says : Item → Outcome) (f : List ℕ) (budget : ℕ) where
+  -- the judging of a text that is a filter g
+  text-of : (g : Filter Item) → parse filterLimits f ≡ some g → (j : Judged) → placed (length f) j ≡ judgedFilter says true budget 0 (filterAt f 0) → j ≡ charged budget 0 (reading says g)
+  unfolding judgedFilter
+  text-of g e j q =
+      placed-same (length f) j (charged budget 0 (reading says g)) (q ∙ ap (judgedFilter says true budget 0) (parse-read filterLimits f g e .0 .1))
 
-  pub text-over : w ≡ Judging.Over → Judged.Over ≡ judgedText (storedOutcome ty v) budget (filterAt f 0)
-  text-over q = text-judged (storedOutcome ty v) budget (filterAt f 0) Judged.Over 0 (sym q ∙ judged) read
+  module _ (b : Bool) (valid : b ≡ utf8 f) where
+    pub text-other : not b ≡ true → Evaluates says budget (parse filterLimits f) Evaluated.Malformed
+    unfolding Evaluates
+    text-other h = counted-none (parse filterLimits f) (reading.read-other f b valid h)
+
+    module _ (h : not b ≡ false) (w : Judging) (judged : Judges says (filterLimits .depth) (filterLimits .items) true budget 0 (filterAt f 0) w) where
+      known : (y : Judging) → w ≡ y → JudgedAs says (filterLimits .depth) (filterLimits .items) true budget 0 (filterAt f 0) y
+      unfolding Judges
+      known y q = subst (JudgedAs says (filterLimits .depth) (filterLimits .items) true budget 0 (filterAt f 0)) q judged
+
+      module _ (u : Verdict) (k after left : ℕ) (q : w ≡ Judging.At u k after left) where
+        pub text-trailing : (after ≡ length f → ⊥) → Evaluates says budget (parse filterLimits f) Evaluated.Malformed
+        unfolding Evaluates
+        text-trailing n = counted-none (parse filterLimits f) (reading.read-trailing f b valid h (Span.Of after left) (known (Judging.At u k after left) q .0) after left refl n)
+
+        pub text-at : after ≡ length f → Evaluates says budget (parse filterLimits f) (Evaluated.Of u k)
+        unfolding Evaluates
+        text-at e =
+            let s = known (Judging.At u k after left) q in
+            let g = counted-some (parse filterLimits f) (filterLimits .items - left) (reading.read-whole f b valid h (Span.Of after left) (s .0) after left refl (filterLimits .items - left) e refl) in
+            (g .0, (g .1 .0, text-of (g .0) (g .1 .0) (Judged.Of u k) (ap (ends u k) (sym e) ∙ s .1 .1)))
+
+      pub text-over : w ≡ Judging.Over → Evaluates says budget (parse filterLimits f) Evaluated.Over
+      unfolding Evaluates
+      text-over q = λ g e. text-of g e Judged.Over (known Judging.Over q (ap isSome (parse-read filterLimits f g e .0 .1)))
+
+      pub text-bad : w ≡ Judging.Bad → Evaluates says budget (parse filterLimits f) Evaluated.Malformed
+      unfolding Evaluates
+      text-bad q = counted-none (parse filterLimits f) (reading.read-bad f b valid h Span.Bad (known Judging.Bad q) refl)

@@ -40,7 +40,7 @@ use Rattle.assertion.specs.declared.Component.{Component}
 use Rattle.assertion.specs.declared.Parts.{Parts}
 use Rattle.filter.specs.Filter.{Item}
 use Rattle.evaluation.specs.Assertion.{Asked, asked, testing, outcomeOf, outcome}
-use Rattle.evaluation.specs.inner.Work.{Ready, outcomeFor, storedOutcome, opposed, placed, inverse, targetOf, leadsBy, suitsAny, PlannedFor, ended, charged}
+use Rattle.evaluation.specs.inner.Work.{Ready, outcomeFor, storedOutcome, opposed, placedAt, inverseOf, targetOf, leadsBy, suitsAny, PlannedFor, ended, charged}
 use Rattle.evaluation.specs.declared.Judged.{Judged}
 use Rattle.evaluation.specs.declared.Judging.{Judging}
 use Rattle.evaluation.specs.declared.Verdict.{Verdict}
@@ -234,9 +234,9 @@ module _ (s : State) (k : ℕ) where
   ended-accepted e = ap ended (sym e)
 
 module _ (w : Judged) where
-  pub placed-of : (u : Verdict) (k after : ℕ) → w ≡ Judged.Of u k → Judging.At u k after ≡ placed after w
-  placed-of u k after q = ap (placed after) (sym q)
+  pub placed-of : (u : Verdict) (k after left : ℕ) → w ≡ Judged.Of u k → Judging.At u k after left ≡ placedAt after left w
+  placed-of u k after left q = ap (placedAt after left) (sym q)
 
 module _ (w : Judging) where
-  pub inverse-at : (u x : Verdict) (k after : ℕ) → w ≡ Judging.At u k after → x ≡ opposed u → Judging.At x k after ≡ inverse w
-  inverse-at u x k after q e = ap (λ (y : Verdict). Judging.At y k after) e ∙ ap inverse (sym q)
+  pub inverse-at : (u x : Verdict) (k after left : ℕ) → w ≡ Judging.At u k after left → x ≡ opposed u → Judging.At x k after left ≡ inverseOf w
+  inverse-at u x k after left q e = ap (λ (y : Verdict). Judging.At y k after left) e ∙ ap inverseOf (sym q)

@@ -9,10 +9,9 @@ use Rattle.octets.specs.Pick.{pick}
 use Rattle.filter.specs.Filter.{Join, and, or}
 use Rattle.evaluation.specs.Truth.{Truth, TRUE, FALSE, UNDEFINED, opposite}
 use Rattle.evaluation.specs.Reading.{Outcome, settled, ofNone, stops, withRest, added, andThen, inverted}
-use Rattle.evaluation.specs.inner.Work.{verdictOf, opposed, charged, placed, judgedIf, inverse, unsure, judgedRest, goesOn, behind, isUndefined, stopsAt, joinedBy, noneOf, atEnd}
+use Rattle.evaluation.specs.inner.Work.{verdictOf, opposed, charged, Ended, ends, over, placed, judgedIf, inverse, unsure, judgedRest, goesOn, behind, isUndefined, stopsAt, joinedBy, noneOf, atEnd}
 use Rattle.evaluation.specs.declared.Verdict.{Verdict}
 use Rattle.evaluation.specs.declared.Judged.{Judged}
-use Rattle.evaluation.specs.declared.Judging.{Judging}
 use Rattle.evaluation.specs.declared.Progress.{Progress}
 
 -- ---- tests made before are added
@@ -109,9 +108,9 @@ module _ (j : Join) (budget k z : ℕ) where
       go FALSE = refl
       go UNDEFINED = refl
 
-  stopped : (t : Truth) (n : ℕ) → k + n ≤ budget → stops j t ≡ true → placed z (charged budget k (settled t n)) ≡ Judging.At (verdictOf (opposite (ofNone j))) (k + n) z
+  stopped : (t : Truth) (n : ℕ) → k + n ≤ budget → stops j t ≡ true → placed z (charged budget k (settled t n)) ≡ ends (verdictOf (opposite (ofNone j))) (k + n) z
   unfolding charged
-  stopped t n h e = rw (le-leb (k + n) budget h) (ap (λ (y : Truth). Judging.At (verdictOf y) (k + n) z) (stop-truth j t e))
+  stopped t n h e = rw (le-leb (k + n) budget h) (ap (λ (y : Truth). ends (verdictOf y) (k + n) z) (stop-truth j t e))
 
   -- within the budget
   plain-first : (t : Truth) (n : ℕ) (r : Outcome) → k + n ≤ budget → judgedRest j Progress.Plain budget k (andThen j (settled t n) r) z ≡ judgedRest j (joinedBy j Progress.Plain (verdictOf t)) budget (k + n) r z
@@ -143,27 +142,27 @@ module _ (j : Join) (budget k z : ℕ) where
   over-unsure : (t : Truth) (n : ℕ) (r : Outcome) → budget < k + n → charged budget k (unsure j (added j t n r)) ≡ Judged.Over
   over-unsure t n r h = ap (charged budget k) (ap (unsure j) (added-onward j t n r) ∙ unsure-shifted j n (onward j t r)) ∙ charged-shifted budget k n (unsure j (onward j t r)) ∙ charged-over budget (k + n) (unsure j (onward j t r)) h
 
-  plain-over : (t : Truth) (n : ℕ) (r : Outcome) → budget < k + n → placed z (charged budget k (andThen j (settled t n) r)) ≡ Judging.Over
+  plain-over : (t : Truth) (n : ℕ) (r : Outcome) → budget < k + n → placed z (charged budget k (andThen j (settled t n) r)) ≡ over
   plain-over t n r h = go (stops j t)
     where
-      go : (b : Bool) → placed z (charged budget k (pick b (settled t n) (added j t n r))) ≡ Judging.Over
+      go : (b : Bool) → placed z (charged budget k (pick b (settled t n) (added j t n r))) ≡ over
       go true = ap (placed z) (over-one t n h)
       go false = ap (placed z) (over-rest t n r h)
 
-  unsure-over : (t : Truth) (n : ℕ) (r : Outcome) → budget < k + n → placed z (charged budget k (unsure j (andThen j (settled t n) r))) ≡ Judging.Over
+  unsure-over : (t : Truth) (n : ℕ) (r : Outcome) → budget < k + n → placed z (charged budget k (unsure j (andThen j (settled t n) r))) ≡ over
   unsure-over t n r h = go (stops j t)
     where
       unsure-one : (u : Truth) → charged budget k (unsure j (settled u n)) ≡ Judged.Over
       unsure-one u = over-one (withRest j UNDEFINED u) n h
 
-      go : (b : Bool) → placed z (charged budget k (unsure j (pick b (settled t n) (added j t n r)))) ≡ Judging.Over
+      go : (b : Bool) → placed z (charged budget k (unsure j (pick b (settled t n) (added j t n r)))) ≡ over
       go true = ap (placed z) (unsure-one t)
       go false = ap (placed z) (over-unsure t n r h)
 
 -- what the judging w of a first filter with the outcome o, which ends before q, says of the list
-abbrev pub FirstSays : Join → Progress → ℕ → ℕ → Outcome → ℕ → Judging → Type 0
-FirstSays j p budget k o q (Judging.At u c a) = (a ≡ q) × (c ≤ budget) × ((r : Outcome) (z : ℕ) → judgedRest j p budget k (andThen j o r) z ≡ judgedRest j (joinedBy j p u) budget c r z)
-FirstSays j p budget k o q Judging.Over = (r : Outcome) (z : ℕ) → judgedRest j p budget k (andThen j o r) z ≡ Judging.Over
+abbrev pub FirstSays : Join → Progress → ℕ → ℕ → Outcome → ℕ → Ended → Type 0
+FirstSays j p budget k o q (ends u c a) = (a ≡ q) × (c ≤ budget) × ((r : Outcome) (z : ℕ) → judgedRest j p budget k (andThen j o r) z ≡ judgedRest j (joinedBy j p u) budget c r z)
+FirstSays j p budget k o q over = (r : Outcome) (z : ℕ) → judgedRest j p budget k (andThen j o r) z ≡ over
 
 first-plain : (j : Join) (budget k : ℕ) (o : Outcome) (q : ℕ) → FirstSays j Progress.Plain budget k o q (placed q (charged budget k o))
 unfolding charged
@@ -200,14 +199,14 @@ none-unsure : (j : Join) → verdictOf (withRest j UNDEFINED (ofNone j)) ≡ Ver
 none-unsure and = refl
 none-unsure or = refl
 
-within-at : (budget c z : ℕ) (t : Truth) → c ≤ budget → placed z (charged budget c (settled t 0)) ≡ Judging.At (verdictOf t) c z
+within-at : (budget c z : ℕ) (t : Truth) → c ≤ budget → placed z (charged budget c (settled t 0)) ≡ ends (verdictOf t) c z
 unfolding charged
 within-at budget c z t h = let e : c + 0 ≡ c = omega arith in rw (e, le-leb c budget h)
 
-pub at-end : (j : Join) (p : Progress) (budget c z : ℕ) → c ≤ budget → judgedRest j p budget c (settled (ofNone j) 0) z ≡ Judging.At (atEnd j p) c z
-at-end j Progress.Plain budget c z h = within-at budget c z (ofNone j) h ∙ ap (λ (u : Verdict). Judging.At u c z) (none-same j)
-at-end j Progress.Unsure budget c z h = within-at budget c z (withRest j UNDEFINED (ofNone j)) h ∙ ap (λ (u : Verdict). Judging.At u c z) (none-unsure j)
-at-end j Progress.Stopped budget c z h = ap (λ (u : Verdict). Judging.At u c z) (none-opposite j)
+pub at-end : (j : Join) (p : Progress) (budget c z : ℕ) → c ≤ budget → judgedRest j p budget c (settled (ofNone j) 0) z ≡ ends (atEnd j p) c z
+at-end j Progress.Plain budget c z h = within-at budget c z (ofNone j) h ∙ ap (λ (u : Verdict). ends u c z) (none-same j)
+at-end j Progress.Unsure budget c z h = within-at budget c z (withRest j UNDEFINED (ofNone j)) h ∙ ap (λ (u : Verdict). ends u c z) (none-unsure j)
+at-end j Progress.Stopped budget c z h = ap (λ (u : Verdict). ends u c z) (none-opposite j)
 at-end j Progress.Passed budget c z h = refl
 
 -- ---- under `not`
@@ -222,5 +221,5 @@ inverse-judged false budget n o after = refl
 inverse-judged true budget n (settled t k) after = go (leb (n + k) budget)
   where
     go : (b : Bool) → inverse (placed after (pick b (Judged.Of (verdictOf t) (n + k)) Judged.Over)) ≡ placed after (pick b (Judged.Of (verdictOf (opposite t)) (n + k)) Judged.Over)
-    go true = ap (λ (u : Verdict). Judging.At u (n + k) after) (opposed-same t)
+    go true = ap (λ (u : Verdict). ends u (n + k) after) (opposed-same t)
     go false = refl

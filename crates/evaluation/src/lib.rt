@@ -2,6 +2,7 @@
 use assertion::Assertion;
 use assertion::Component;
 use assertion::Parts;
+use filter::Filter;
 use filter::Head;
 use filter::Join;
 use filter::Tail;
@@ -27,6 +28,7 @@ ghost use Rattle.assertion.specs.Assertion.{assertionAt};
 ghost use Rattle.assertion.specs.inner.Places.{componentOf, itemOf};
 ghost use Rattle.filter.specs.Filter.{item};
 ghost use Rattle.filter.specs.Parse as parsing;
+ghost use Rattle.filter.specs.Paper.{filterLimits};
 ghost use Rattle.filter.specs.inner.Answers.{filtersAt, reportJoin};
 ghost use Rattle.evaluation.specs.inner.Work as work;
 
@@ -42,10 +44,26 @@ pub enum Judged {
     Over,
 }
 
-// The same with the place after the filter. Of a text that is not a filter nothing is asked: Over.
+// The same with the place after the filter and the items left of those allowed; or a text that is no filter within the limits.
 pub enum Judging {
-    At(Verdict, usize, usize),
+    At(Verdict, usize, usize, usize),
     Over,
+    Bad,
+}
+
+// The filter of a whole text: a truth after so many tests; more tests than the budget; or a text that is no filter.
+pub enum Evaluated {
+    Of(Verdict, usize),
+    Over,
+    Malformed,
+}
+
+// A place in a filter text: the depth and the items left there, and whether what stands there is judged or passed over.
+pub struct Spot {
+    pub at: usize,
+    pub depth: usize,
+    pub items: usize,
+    pub live: bool,
 }
 
 // The tests made, and the most that may be made.
@@ -54,9 +72,9 @@ pub struct Tests {
     pub budget: usize,
 }
 
-// One filter of a list: the next one's place, with the list so far and the tests made; or the list's end.
+// One filter of a list: the list so far, the tests made, the next one's place and the items left; or the list's end.
 pub enum Turn {
-    Goes(Progress, usize, usize),
+    Goes(Progress, usize, usize, usize),
     Ends(Judging),
 }
 
@@ -186,11 +204,11 @@ fn judge_parts(t: &[u8], w: &[u64; 256], v: &[u8], f: &[u8], p: Parts, tests: Te
 }
 
 // ---- truths
-fn placed(w: Judged, after: usize) -> Judging
-    ensures { λ r. ⌜ r ≡ work.placed after w ⌝ }
+fn placed(w: Judged, after: usize, left: usize) -> Judging
+    ensures { λ r. ⌜ r ≡ work.placedAt after left w ⌝ }
 {
     match w {
-        Judged::Of(u, k) => Judging::At(u, k, after),
+        Judged::Of(u, k) => Judging::At(u, k, after, left),
         Judged::Over => Judging::Over,
     }
 }
@@ -206,11 +224,12 @@ fn opposite(u: Verdict) -> Verdict
 }
 
 fn inverted(w: Judging) -> Judging
-    ensures { λ r. ⌜ r ≡ work.inverse w ⌝ }
+    ensures { λ r. ⌜ r ≡ work.inverseOf w ⌝ }
 {
     match w {
-        Judging::At(u, k, after) => Judging::At(opposite(u), k, after),
+        Judging::At(u, k, after, left) => Judging::At(opposite(u), k, after, left),
         Judging::Over => Judging::Over,
+        Judging::Bad => Judging::Bad,
     }
 }
 
@@ -313,47 +332,49 @@ fn at_end(join: Join, p: Progress) -> Verdict
 }
 
 // ---- filters and lists
-// The assertion of an item.
+// The assertion of an item, one of the items left.
 fn judge_assertion(
     t: &[u8],
     w: &[u64; 256],
     v: &[u8],
     f: &[u8],
-    at: usize,
-    live: bool,
+    here: Spot,
     tests: Tests,
 ) -> Judging
     requires ready { ⌜ work.Ready (now t) (now w) (now v) ⌝ }
     requires within { ⌜ tests .made ≤ tests .budget ⌝ }
-    ensures { λ w. ⌜ w
-        ≡ work.judgedFilter (work.storedOutcome (typeAt (now (t .entry)) 0) (now (v .entry))) live (tests .budget) (tests .made)
-        (parsing.made item (assertionAt (now (f .entry)) at)) ⌝ }
+    ensures { λ r. ⌜ work.Judges (work.storedOutcome (typeAt (now (t .entry)) 0) (now (v .entry))) 1 (here .items) (here .live)
+        (tests .budget) (tests .made) (parsing.made item (assertionAt (now (f .entry)) (here .at))) r ⌝ }
 {
-    let Assertion::Good(parts) = assertion::read_assertion(f, at) else {
-        return Judging::Over;
+    if here.items == 0 {
+        return Judging::Bad;
+    }
+    let Assertion::Good(parts) = assertion::read_assertion(f, here.at) else {
+        return Judging::Bad;
     };
     let after = parts.after;
-    if !live {
-        return Judging::At(Verdict::Undefined, tests.made, after);
+    let left = here.items - 1;
+    if !here.live {
+        return Judging::At(Verdict::Undefined, tests.made, after, left);
     }
-    placed(judge_parts(t, w, v, f, parts, tests), after)
+    placed(judge_parts(t, w, v, f, parts, tests), after, left)
 }
 
 // An empty list.
-fn empty_list(join: Join, live: bool, n: usize, after: usize) -> Judging
-    ensures { λ w. ⌜ w ≡ Judging.At (work.atEnd (reportJoin join) (work.begun live)) n after ⌝ }
+fn empty_list(join: Join, live: bool, n: usize, after: usize, left: usize) -> Judging
+    ensures { λ w. ⌜ w ≡ Judging.At (work.atEnd (reportJoin join) (work.begun live)) n after left ⌝ }
 {
-    Judging::At(at_end(join, begin(live)), n, after)
+    Judging::At(at_end(join, begin(live)), n, after, left)
 }
 
 // What follows a filter of a list that ends before q, after k tests; p is the list so far.
-fn follow(f: &[u8], join: Join, p: Progress, k: usize, q: usize) -> Turn
-    ensures { λ r. ⌜ r ≡ work.turnedBy (reportJoin join) p k (parsing.tailAt (now (f .entry)) q) ⌝ }
+fn follow(f: &[u8], join: Join, p: Progress, k: usize, q: usize, left: usize) -> Turn
+    ensures { λ r. ⌜ r ≡ work.turnedBy (reportJoin join) p k left (parsing.tailAt (now (f .entry)) q) ⌝ }
 {
     match filter::read_tail(f, q) {
-        Tail::Another(a) => Turn::Goes(p, k, a),
-        Tail::Closed(a) => Turn::Ends(Judging::At(at_end(join, p), k, a)),
-        Tail::NoTail => Turn::Ends(Judging::Over),
+        Tail::Another(a) => Turn::Goes(p, k, a, left),
+        Tail::Closed(a) => Turn::Ends(Judging::At(at_end(join, p), k, a, left)),
+        Tail::NoTail => Turn::Ends(Judging::Bad),
     }
 }
 
@@ -362,76 +383,114 @@ fn next_turn(f: &[u8], join: Join, p: Progress, w: Judging) -> Turn
     ensures { λ r. ⌜ r ≡ work.turned (now (f .entry)) (reportJoin join) p w ⌝ }
 {
     match w {
-        Judging::At(u, k, q) => follow(f, join, joined(join, p, u), k, q),
+        Judging::At(u, k, q, left) => follow(f, join, joined(join, p, u), k, q, left),
         Judging::Over => Turn::Ends(Judging::Over),
+        Judging::Bad => Turn::Ends(Judging::Bad),
     }
 }
 
-// The filter at a place, judged or passed over, after n tests.
-fn judge_filter(
-    t: &[u8],
-    w: &[u64; 256],
-    v: &[u8],
-    f: &[u8],
-    at: usize,
-    live: bool,
-    tests: Tests,
-) -> Judging
+// The filter at a place, read, and judged or passed over.
+fn judge_filter(t: &[u8], w: &[u64; 256], v: &[u8], f: &[u8], here: Spot, tests: Tests) -> Judging
     requires ready { ⌜ work.Ready (now t) (now w) (now v) ⌝ }
-    requires read { ⌜ isSome (parsing.filterAt (now f) at) ≡ true ⌝ }
     requires within { ⌜ tests .made ≤ tests .budget ⌝ }
-    ensures { λ w. ⌜ w
-        ≡ work.judgedFilter (work.storedOutcome (typeAt (now (t .entry)) 0) (now (v .entry))) live (tests .budget) (tests .made)
-        (parsing.filterAt (now (f .entry)) at) ⌝ }
+    ensures { λ r. ⌜ work.Judges (work.storedOutcome (typeAt (now (t .entry)) 0) (now (v .entry))) (here .depth) (here .items) (here .live)
+        (tests .budget) (tests .made) (parsing.filterAt (now (f .entry)) (here .at)) r ⌝ }
 {
-    match filter::read_head(f, at) {
-        Head::Assertion(p) => judge_assertion(t, w, v, f, p, live, tests),
-        Head::EmptyList(join, p) => empty_list(join, live, tests.made, p),
-        Head::OpenList(join, p) => judge_list(t, w, v, f, p, join, live, tests),
-        Head::Negation(p) => inverted(judge_filter(t, w, v, f, p, live, tests)),
-        Head::NoHead => Judging::Over,
+    let depth = here.depth;
+    let items = here.items;
+    let live = here.live;
+    if depth == 0 {
+        return Judging::Bad;
+    }
+    let depth = depth - 1;
+    match filter::read_head(f, here.at) {
+        Head::Assertion(at) => judge_assertion(
+            t,
+            w,
+            v,
+            f,
+            Spot {
+                at,
+                depth,
+                items,
+                live,
+            },
+            tests,
+        ),
+        Head::EmptyList(join, p) => empty_list(join, live, tests.made, p, items),
+        Head::OpenList(join, at) => judge_list(
+            t,
+            w,
+            v,
+            f,
+            Spot {
+                at,
+                depth,
+                items,
+                live,
+            },
+            join,
+            tests,
+        ),
+        Head::Negation(at) => inverted(judge_filter(
+            t,
+            w,
+            v,
+            f,
+            Spot {
+                at,
+                depth,
+                items,
+                live,
+            },
+            tests,
+        )),
+        Head::NoHead => Judging::Bad,
     }
 }
 
-// The filters of a list, from one of them on, after n tests.
+// The filters of a list, from one of them on.
 fn judge_list(
     t: &[u8],
     w: &[u64; 256],
     v: &[u8],
     f: &[u8],
-    at: usize,
+    here: Spot,
     join: Join,
-    live: bool,
     tests: Tests,
 ) -> Judging
     requires ready { ⌜ work.Ready (now t) (now w) (now v) ⌝ }
-    requires read { ⌜ isSome (filtersAt (now f) at) ≡ true ⌝ }
     requires within { ⌜ tests .made ≤ tests .budget ⌝ }
-    ensures { λ w. ⌜ w
-        ≡ work.judgedFilters (work.storedOutcome (typeAt (now (t .entry)) 0) (now (v .entry))) (reportJoin join) (work.begun live)
-        (tests .budget) (tests .made) (filtersAt (now (f .entry)) at) ⌝ }
+    ensures { λ r. ⌜ work.JudgesIn (work.storedOutcome (typeAt (now (t .entry)) 0) (now (v .entry))) (reportJoin join) (work.begun (here .live))
+        (here .depth) (here .items) (tests .budget) (tests .made) (filtersAt (now (f .entry)) (here .at)) r ⌝ }
 {
-    let mut i = at;
-    let mut k = tests.made;
-    let mut p = begin(live);
+    let depth = here.depth;
+    let budget = tests.budget;
+    let mut at = here.at;
+    let mut items = here.items;
+    let mut made = tests.made;
+    let mut p = begin(here.live);
     loop {
+        let live = goes_on(p);
         let first = judge_filter(
             t,
             w,
             v,
             f,
-            i,
-            goes_on(p),
-            Tests {
-                made: k,
-                budget: tests.budget,
+            Spot {
+                at,
+                depth,
+                items,
+                live,
             },
+            Tests { made, budget },
         );
         match next_turn(f, join, p, first) {
-            Turn::Goes(next, c, a) => {
+            Turn::Goes(next, k, a, left) => {
                 p = next;
-                k = c;
-                i = a;
+                made = k;
+                at = a;
+                items = left;
             }
             Turn::Ends(end) => return end,
         }
@@ -439,14 +498,27 @@ fn judge_list(
 }
 
 // The filter of a whole text.
-pub fn judge(t: &[u8], w: &[u64; 256], v: &[u8], f: &[u8], budget: usize) -> Judged
+pub fn judge(t: &[u8], w: &[u64; 256], v: &[u8], f: &[u8], budget: usize) -> Evaluated
     requires ready { ⌜ work.Ready (now t) (now w) (now v) ⌝ }
-    requires read { ⌜ isSome (parsing.filterAt (now f) 0) ≡ true ⌝ }
-    ensures { λ w. ⌜ w
-        ≡ work.judgedText (work.storedOutcome (typeAt (now (t .entry)) 0) (now (v .entry))) budget (parsing.filterAt (now (f .entry)) 0) ⌝ }
+    ensures { λ r. ⌜ work.Evaluates (work.storedOutcome (typeAt (now (t .entry)) 0) (now (v .entry))) budget (parsing.parse filterLimits (now (f .entry))) r ⌝ }
 {
-    match judge_filter(t, w, v, f, 0, true, Tests { made: 0, budget }) {
-        Judging::At(u, k, _) => Judged::Of(u, k),
-        Judging::Over => Judged::Over,
+    if !octets::utf8(f) {
+        return Evaluated::Malformed;
+    }
+    let whole = Spot {
+        at: 0,
+        depth: Filter::MAX_DEPTH,
+        items: Filter::MAX_ITEMS,
+        live: true,
+    };
+    match judge_filter(t, w, v, f, whole, Tests { made: 0, budget }) {
+        Judging::At(u, k, after, _) => {
+            if after != f.len() {
+                return Evaluated::Malformed;
+            }
+            Evaluated::Of(u, k)
+        }
+        Judging::Over => Evaluated::Over,
+        Judging::Bad => Evaluated::Malformed,
     }
 }

@@ -1,4 +1,4 @@
-use Rattle.evaluation.proofs.FilterSteps.{filter-item, filter-empty, filter-list, filter-not, filter-none, list-read, not-read, list-less, not-less, Listing, list-begins, list-lower, list-filter, list-within, list-ends, list-falls, list-again}
+use Rattle.evaluation.proofs.FilterSteps.{filter-shallow, filter-item, filter-empty, filter-list, filter-not, filter-none, list-less, not-less, Listing, list-begins, list-lower, list-within, list-ends, list-falls, list-again}
 use borrow.Author.Needs.{needs}
 use Prim.Native.Nat.{ℕ, _<_, _+_, _-_, _*_}
 use lib.ListN.{length}
@@ -6,7 +6,7 @@ use borrow.Fn.Kinds.{In}
 use borrow.Fn.PlainCycle.{Measures, is, falls, and}
 use Rattle.table.specs.inner.Rows.{typeAt}
 use Rattle.filter.specs.inner.Answers.{reportJoin}
-use Rattle.evaluation.specs.inner.Work.{begun}
+use Rattle.evaluation.specs.inner.Work.{storedOutcome}
 use Rattle.evaluation.proofs.judge_filter.Reads as judge-filter
 use Rattle.evaluation.proofs.judge_filter.Kinds as judge-filter-kinds
 use Rattle.evaluation.proofs.+judge_filter+judge_list.Lts-judge_filter as judge-filter-lts
@@ -25,10 +25,10 @@ use Rattle.evaluation.proofs.+judge_filter+judge_list.Tie.{close}
 
 -- the text that is left falls
 abbrev μ-judge-filter : Measures 4 judge-filter-kinds.ps ℕ
-μ-judge-filter κs a = 2 * (length (a .1 .1 .1 .0 .now) - a .1 .1 .1 .1 .0)
+μ-judge-filter κs a = 2 * (length (a .1 .1 .1 .0 .now) - a .1 .1 .1 .1 .0 .at)
 
 abbrev μ-judge-list : Measures 4 judge-list-kinds.ps ℕ
-μ-judge-list κs a = 2 * (length (a .1 .1 .1 .0 .now) - a .1 .1 .1 .1 .0) + 1
+μ-judge-list κs a = 2 * (length (a .1 .1 .1 .0 .now) - a .1 .1 .1 .1 .0 .at) + 1
 
 abbrev judge-filter-at : ℕ → In 4 judge-filter-kinds.ps
 judge-filter-at t = and 4 judge-filter-kinds.ps (is 4 judge-filter-kinds.ps μ-judge-filter t) judge-filter.Pre
@@ -50,36 +50,39 @@ abbrev judge-list-claims : ℕ → judge-list-lts.Claims
 judge-list-claims t = (begin-reads.Asked, begin-reads.Learnt, goes-on-reads.Asked, goes-on-reads.Learnt, judge-filter-below t, judge-filter.Post, next-turn-reads.Asked, next-turn-reads.Learnt)
 
 abbrev judge-list-Inv-loop : judge-list-lts.InvT-loop
-judge-list-Inv-loop t w v f at join live tests i₀ k₀ p₀ i k p = Listing (typeAt t 0) v f (reportJoin join) (begun live) (tests .budget) (tests .made) at p k i
+judge-list-Inv-loop t w v f join depth budget at₀ items₀ made₀ p₀ at items made p =
+    Listing (storedOutcome (typeAt t 0) v) f (reportJoin join) p₀ depth items₀ budget made₀ at₀ p made at items
 
 abbrev judge-list-μ-loop : judge-list-lts.MeasureT-loop
-judge-list-μ-loop t w v f at join live tests i₀ k₀ p₀ i k p = length f - i
+judge-list-μ-loop t w v f join depth budget at₀ items₀ made₀ p₀ at items made p = length f - at
 
 pub +judge-filter+judge-list-spec : {M : Type 1} → statement M
 +judge-filter+judge-list-spec =
     close μ-judge-filter μ-judge-list
     (λ t. judge-filter-lts.spec (judge-filter-claims t) (judge-filter-at t) judge-filter.Post
+    (λ c. search filter-shallow)  -- returns
+    (λ c. search needs)  -- sub-depth
     (λ c κs. search needs)  -- read-head-requires
-    (λ c. search needs)  -- enum-known-p
+    (λ c. search needs)  -- enum-known-at
     (λ c κs. search needs)  -- judge-assertion-requires
     (λ c. search needs)  -- enum-known-join
     (λ c κs. search needs)  -- empty-list-requires
     (λ c. search needs)  -- enum-known-join-2
-    (λ c κs. (search list-less, (search needs, (search list-read, search needs))))  -- judge-list-requires
-    (λ c. search needs)  -- enum-known-p-2
-    (λ c κs. (search not-less, (search needs, (search not-read, search needs))))  -- judge-filter-requires
+    (λ c κs. (search list-less, (search needs, search needs)))  -- judge-list-requires
+    (λ c. search needs)  -- enum-known-at-2
+    (λ c κs. (search not-less, (search needs, search needs)))  -- judge-filter-requires
     (λ c κs. search needs)  -- inverted-requires
     (λ c. search needs)  -- enum-told
-    (λ c. search filter-item)  -- returns
-    (λ c. search filter-empty)  -- returns-2
-    (λ c. search filter-list)  -- returns-3
-    (λ c. search filter-not)  -- returns-4
-    (λ c. search filter-none))  -- returns-5
+    (λ c. search filter-item)  -- returns-2
+    (λ c. search filter-empty)  -- returns-3
+    (λ c. search filter-list)  -- returns-4
+    (λ c. search filter-not)  -- returns-5
+    (λ c. search filter-none))  -- returns-6
     (λ t. judge-list-lts.spec (judge-list-claims t) (judge-list-at t) judge-list.Post judge-list-Inv-loop judge-list-μ-loop
     (λ c κs. search needs)  -- begin-requires
     (λ c. search list-begins)  -- loop-holds
     (λ c κs. search needs)  -- goes-on-requires
-    (λ c κs. (search list-lower, (search needs, (search list-filter, search list-within))))  -- judge-filter-requires
+    (λ c κs. (search list-lower, (search needs, search list-within)))  -- judge-filter-requires
     (λ c κs. search needs)  -- next-turn-requires
     (λ c. search needs)  -- enum-known-next
     (λ c. search list-falls)  -- loop-less

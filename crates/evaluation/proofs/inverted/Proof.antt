@@ -10,5 +10,7 @@ inverted-spec =
     (λ c. search needs)  -- enum-known-w
     (λ c κs. search needs)  -- opposite-requires
     (λ c. search needs)  -- enum-told
+    (λ c. search needs)  -- enum-told-2
     (λ c. search inverse-at)  -- returns
-    (λ c. search needs))  -- returns-2
+    (λ c. search needs)  -- returns-2
+    (λ c. search needs))  -- returns-3

@@ -1,4 +1,4 @@
-use Rattle.evaluation.proofs.FilterSteps.{turn-at, turn-over}
+use Rattle.evaluation.proofs.FilterSteps.{turn-at, turn-bad, turn-over}
 use borrow.Author.Needs.{needs}
 use Rattle.evaluation.proofs.next_turn.Statement.{statement}
 use Rattle.evaluation.proofs.next_turn.Tie as tie
@@ -11,5 +11,7 @@ next-turn-spec =
     (λ c κs. search needs)  -- joined-requires
     (λ c κs. search needs)  -- follow-requires
     (λ c. search needs)  -- enum-told
+    (λ c. search needs)  -- enum-told-2
     (λ c. search turn-at)  -- returns
-    (λ c. search turn-over))  -- returns-2
+    (λ c. search turn-over)  -- returns-2
+    (λ c. search turn-bad))  -- returns-3

@@ -26,6 +26,8 @@ use Rattle.walk.specs.declared.State.{State}
 use Rattle.assertion.specs.Assertion.{Read}
 use Rattle.filter.specs.Filter.{Item, Join, and, or, Filter, Filters}
 use Rattle.filter.specs.Parse.{Tail, another, closed, noTail, tailAt}
+use Rattle.filter.specs.inner.Answers.{bounded, boundedIn}
+use Rattle.filter.specs.declared.Span.{Span}
 use Rattle.evaluation.specs.Truth.{Truth, TRUE, FALSE, UNDEFINED, opposite}
 use Rattle.evaluation.specs.Reading.{Outcome, settled, ofNone, withRest, reading, readingIn}
 use Rattle.evaluation.specs.Assertion.{outcome}
@@ -34,6 +36,7 @@ use Rattle.evaluation.specs.declared.Judged.{Judged}
 use Rattle.evaluation.specs.declared.Judging.{Judging}
 use Rattle.evaluation.specs.declared.Progress.{Progress}
 use Rattle.evaluation.specs.declared.Turn.{Turn}
+use Rattle.evaluation.specs.declared.Evaluated.{Evaluated}
 
 -- what evaluation rests on: the words w of an admitted table t, and a stored value v of the type of row 0
 pub record Ready (t w v : List ℕ) : Type 0 where
@@ -91,23 +94,27 @@ unfoldable pub charged : ℕ → ℕ → Outcome → Judged
 charged budget n (settled t k) = pick (leb (n + k) budget) (Judged.Of (verdictOf t) (n + k)) Judged.Over
 
 -- the same with the place after the filter
-abbrev pub placed : ℕ → Judged → Judging
-placed after (Judged.Of u k) = Judging.At u k after
-placed after Judged.Over = Judging.Over
+pub data Ended : Type 0 where
+  ends : Verdict → ℕ → ℕ → Ended
+  over : Ended
+
+abbrev pub placed : ℕ → Judged → Ended
+placed after (Judged.Of u k) = ends u k after
+placed after Judged.Over = over
 
 -- a filter that is passed over makes no test
-abbrev pub judgedIf : Bool → ℕ → ℕ → Outcome → ℕ → Judging
+abbrev pub judgedIf : Bool → ℕ → ℕ → Outcome → ℕ → Ended
 judgedIf true budget n o after = placed after (charged budget n o)
-judgedIf false budget n o after = Judging.At Verdict.Undefined n after
+judgedIf false budget n o after = ends Verdict.Undefined n after
 
 -- under `not`
-abbrev pub inverse : Judging → Judging
-inverse (Judging.At u k after) = Judging.At (opposed u) k after
-inverse Judging.Over = Judging.Over
+abbrev pub inverse : Ended → Ended
+inverse (ends u k after) = ends (opposed u) k after
+inverse over = over
 
 -- a filter that was read; of a text that was not nothing is asked
-unfoldable pub judgedFilter : (Item → Outcome) → Bool → ℕ → ℕ → Option (Read (Filter Item)) → Judging
-judgedFilter says live budget n none = Judging.Over
+unfoldable pub judgedFilter : (Item → Outcome) → Bool → ℕ → ℕ → Option (Read (Filter Item)) → Ended
+judgedFilter says live budget n none = over
 judgedFilter says live budget n (some r) = judgedIf live budget n (reading says (r .is)) (r .after)
 
 -- ---- the filters of a list, from one of them on
@@ -116,15 +123,45 @@ abbrev pub unsure : Join → Outcome → Outcome
 unsure j (settled u k) = settled (withRest j UNDEFINED u) k
 
 -- the rest of a list, by what the filters before it were
-abbrev pub judgedRest : Join → Progress → ℕ → ℕ → Outcome → ℕ → Judging
+abbrev pub judgedRest : Join → Progress → ℕ → ℕ → Outcome → ℕ → Ended
 judgedRest j Progress.Plain budget n o after = placed after (charged budget n o)
 judgedRest j Progress.Unsure budget n o after = placed after (charged budget n (unsure j o))
-judgedRest j Progress.Stopped budget n o after = Judging.At (verdictOf (opposite (ofNone j))) n after
-judgedRest j Progress.Passed budget n o after = Judging.At Verdict.Undefined n after
+judgedRest j Progress.Stopped budget n o after = ends (verdictOf (opposite (ofNone j))) n after
+judgedRest j Progress.Passed budget n o after = ends Verdict.Undefined n after
 
-unfoldable pub judgedFilters : (Item → Outcome) → Join → Progress → ℕ → ℕ → Option (Read (Filters Item)) → Judging
-judgedFilters says j p budget n none = Judging.Over
+unfoldable pub judgedFilters : (Item → Outcome) → Join → Progress → ℕ → ℕ → Option (Read (Filters Item)) → Ended
+judgedFilters says j p budget n none = over
 judgedFilters says j p budget n (some r) = judgedRest j p budget n (readingIn says j (r .is)) (r .after)
+
+-- ---- what the code says where it reads and judges: the place after the filter and the items left, with the truth; a text that is no filter, or not within
+-- the depth d and so many items; or more tests than the budget, and then nothing of the text behind
+abbrev pub JudgedAs : (Item → Outcome) → ℕ → ℕ → Bool → ℕ → ℕ → Option (Read (Filter Item)) → Judging → Type 0
+JudgedAs says d room live budget n x (Judging.At u k after left) =
+    (Span.Of after left ≡ bounded d room x) × ((k ≤ budget) × (ends u k after ≡ judgedFilter says live budget n x))
+JudgedAs says d room live budget n x Judging.Over = isSome x ≡ true → over ≡ judgedFilter says live budget n x
+JudgedAs says d room live budget n x Judging.Bad = Span.Bad ≡ bounded d room x
+
+unfoldable pub Judges : (Item → Outcome) → ℕ → ℕ → Bool → ℕ → ℕ → Option (Read (Filter Item)) → Judging → Type 0
+Judges says d room live budget n x w = JudgedAs says d room live budget n x w
+
+abbrev pub JudgedInAs : (Item → Outcome) → Join → Progress → ℕ → ℕ → ℕ → ℕ → Option (Read (Filters Item)) → Judging → Type 0
+JudgedInAs says j p d room budget n x (Judging.At u k after left) =
+    (Span.Of after left ≡ boundedIn d room x) × ((k ≤ budget) × (ends u k after ≡ judgedFilters says j p budget n x))
+JudgedInAs says j p d room budget n x Judging.Over = isSome x ≡ true → over ≡ judgedFilters says j p budget n x
+JudgedInAs says j p d room budget n x Judging.Bad = Span.Bad ≡ boundedIn d room x
+
+unfoldable pub JudgesIn : (Item → Outcome) → Join → Progress → ℕ → ℕ → ℕ → ℕ → Option (Read (Filters Item)) → Judging → Type 0
+JudgesIn says j p d room budget n x w = JudgedInAs says j p d room budget n x w
+
+-- the code's answers in steps
+abbrev pub placedAt : ℕ → ℕ → Judged → Judging
+placedAt after left (Judged.Of u k) = Judging.At u k after left
+placedAt after left Judged.Over = Judging.Over
+
+abbrev pub inverseOf : Judging → Judging
+inverseOf (Judging.At u k after left) = Judging.At (opposed u) k after left
+inverseOf Judging.Over = Judging.Over
+inverseOf Judging.Bad = Judging.Bad
 
 -- the same in steps: how a list begins, whether it goes on, what one filter more makes of it, and its truth at the end
 abbrev pub begun : Bool → Progress
@@ -169,16 +206,21 @@ atEnd j Progress.Stopped = opposed (noneOf j)
 atEnd j Progress.Passed = Verdict.Undefined
 
 -- a filter of the text s was judged: what follows it
-abbrev pub turnedBy : Join → Progress → ℕ → Tail → Turn
-turnedBy j p k (another a) = Turn.Goes p k a
-turnedBy j p k (closed a) = Turn.Ends (Judging.At (atEnd j p) k a)
-turnedBy j p k noTail = Turn.Ends Judging.Over
+abbrev pub turnedBy : Join → Progress → ℕ → ℕ → Tail → Turn
+turnedBy j p k left (another a) = Turn.Goes p k a left
+turnedBy j p k left (closed a) = Turn.Ends (Judging.At (atEnd j p) k a left)
+turnedBy j p k left noTail = Turn.Ends Judging.Bad
 
 abbrev pub turned : List ℕ → Join → Progress → Judging → Turn
-turned s j p (Judging.At u k after) = turnedBy j (joinedBy j p u) k (tailAt s after)
+turned s j p (Judging.At u k after left) = turnedBy j (joinedBy j p u) k left (tailAt s after)
 turned s j p Judging.Over = Turn.Ends Judging.Over
+turned s j p Judging.Bad = Turn.Ends Judging.Bad
 
--- ---- the filter of a whole text
-unfoldable pub judgedText : (Item → Outcome) → ℕ → Option (Read (Filter Item)) → Judged
-judgedText says budget none = Judged.Over
-judgedText says budget (some r) = charged budget 0 (reading says (r .is))
+-- ---- the filter of a whole text, if it is one: a truth within the budget, or more tests; where the budget is met first nothing is said of the text
+abbrev pub EvaluatedAs : (Item → Outcome) → ℕ → Option (Filter Item) → Evaluated → Type 0
+EvaluatedAs says budget x (Evaluated.Of u k) = (f : Filter Item) × ((x ≡ some f) × (Judged.Of u k ≡ charged budget 0 (reading says f)))
+EvaluatedAs says budget x Evaluated.Over = (f : Filter Item) → x ≡ some f → Judged.Over ≡ charged budget 0 (reading says f)
+EvaluatedAs says budget x Evaluated.Malformed = x ≡ none
+
+unfoldable pub Evaluates : (Item → Outcome) → ℕ → Option (Filter Item) → Evaluated → Type 0
+Evaluates says budget x r = EvaluatedAs says budget x r
