@@ -1,5 +1,5 @@
 -- The answer to a filter: one lemma for each return; its premises are the facts as the code has them.
-use mathlib.Core.Path.{_≡_, refl, sym, ap, _∙_}
+use mathlib.Core.Path.{_≡_, refl, sym, ap, _∙_, subst}
 use mathlib.Core.Bool.{Bool, true, false, not, true≢false}
 use mathlib.Core.Option.{Option, none, some}
 use mathlib.Core.List.{List}
@@ -30,15 +30,16 @@ use Rattle.filter.specs.Paper.{filterLimits}
 use Rattle.filter.specs.inner.Answers as filter
 use Rattle.filter.specs.declared.Filter as declared
 use Rattle.filter.specs.declared.Reading.{Reading}
-use Rattle.filter.proofs.Laws.{parse-read, counted-some, counted-none}
+use Rattle.filter.proofs.Laws.{counted-some, counted-none}
 use Rattle.evaluation.specs.Truth.{TRUE, FALSE, UNDEFINED}
 use Rattle.evaluation.specs.Reading.{Outcome, settled, reading}
-use Rattle.evaluation.specs.inner.Work.{Ready, outcomeFor, storedOutcome, charged, judgedText}
+use Rattle.evaluation.specs.inner.Work.{Ready, outcomeFor, storedOutcome, charged, EvaluatedAs, Evaluates}
 use Rattle.evaluation.proofs.ItemSteps.{some-there}
 use Rattle.evaluation.specs.declared.Verdict.{Verdict}
 use Rattle.evaluation.specs.declared.Judged.{Judged}
+use Rattle.evaluation.specs.declared.Evaluated.{Evaluated}
 use Rattle.engine.specs.Answer.{Report, refused, budgeted, questionFits, evaluated, withValue, withFilter, questionOf, askReport, report}
-use Rattle.engine.specs.inner.Judged.{settledAs, judgedReport}
+use Rattle.engine.specs.inner.Judged.{refusedBehind, settledAs, judgedReport}
 use Rattle.engine.specs.Paper.{limits}
 use Rattle.engine.specs.declared.Answer.{Answer}
 use Rattle.engine.proofs.MisfitLaws.{no-misfit}
@@ -74,13 +75,6 @@ module _ (u : Verdict) (n : ℕ) where
   pub settled-undefined : u ≡ Verdict.Undefined → Answer.Undefined n ≡ settledAs u n
   settled-undefined e = rw e
 
-module _ (w z : Judged) (told : w ≡ z) where
-  pub judged-of : (a : Answer) (u : Verdict) (n : ℕ) → w ≡ Judged.Of u n → a ≡ settledAs u n → report a ≡ judgedReport z
-  judged-of a u n e q = ap report q ∙ ap judgedReport (sym e ∙ told)
-
-  pub judged-over : w ≡ Judged.Over → refused 5 ≡ judgedReport z
-  judged-over e = ap judgedReport (sym e ∙ told)
-
 judged-pick : (b : Bool) (j : Judged) → judgedReport (pick b j Judged.Over) ≡ pick b (judgedReport j) (refused 5)
 judged-pick true j = refl
 judged-pick false j = refl
@@ -92,20 +86,13 @@ budget-told budget (settled TRUE k) = let e : 0 + k ≡ k = omega arith in judge
 budget-told budget (settled FALSE k) = let e : 0 + k ≡ k = omega arith in judged-pick (leb (0 + k) budget) (Judged.Of Verdict.False (0 + k)) ∙ rw e
 budget-told budget (settled UNDEFINED k) = let e : 0 + k ≡ k = omega arith in judged-pick (leb (0 + k) budget) (Judged.Of Verdict.Undefined (0 + k)) ∙ rw e
 
--- ---- 3, then 4
-module _ (s : List ℕ) (r : Reading) (told : filter.report r ≡ filter.itemsOf (parse filterLimits s)) where
-  is-malformed : r ≡ Reading.Bad → parse filterLimits s ≡ none
-  is-malformed e = counted-none (parse filterLimits s) (sym (ap filter.report e) ∙ told)
+-- ---- 3, then another
+module _ (s : List ℕ) (k : ℕ) (r : Reading) (told : filter.report r ≡ filter.itemsOf (parse filterLimits s)) where
+  pub refuse-malformed : r ≡ Reading.Bad → Answer.Refused 3 ≡ refusedBehind k (parse filterLimits s)
+  refuse-malformed e = ap (refusedBehind k) (sym (counted-none (parse filterLimits s) (sym (ap filter.report e) ∙ told)))
 
-  module _ (f : declared.Filter) (good : r ≡ Reading.Good f) where
-    the-filter : (g : Filter Item) × (parse filterLimits s ≡ some g)
-    the-filter = let w = counted-some (parse filterLimits s) (f .items) (sym (ap filter.report good) ∙ told) in (w .0, w .1 .0)
-
-    read-at : filterAt s 0 ≡ some (record { is = the-filter .0; after = length s })
-    read-at = parse-read filterLimits s (the-filter .0) (the-filter .1) .0 .1
-
-    pub typed-read : isSome (filterAt s 0) ≡ true
-    typed-read = ap isSome read-at
+  pub refuse-good : (f : declared.Filter) → r ≡ Reading.Good f → Answer.Refused k ≡ refusedBehind k (parse filterLimits s)
+  refuse-good f e = ap (refusedBehind k) (sym (counted-some (parse filterLimits s) (f .items) (sym (ap filter.report e) ∙ told) .1 .0))
 
 -- what the octets decode to, if anything
 module _ (ty : Ty) (v : List ℕ) (budget : ℕ) (f : Filter Item) where
@@ -126,25 +113,48 @@ module _ (ty : Ty) (v : List ℕ) (budget : ℕ) (f : Filter Item) where
       ∙ sym (ap (λ (b : Bool). pick b (refused 7) (budgeted budget (evaluated knownRules ty x f))) (no-misfit knownRules ty v x e budget f))
       ∙ ap (withValue knownRules ty v budget f) (sym e)
 
-module _ (ty : Ty) (v s : List ℕ) (budget : ℕ) (r : Reading) (told : filter.report r ≡ filter.itemsOf (parse filterLimits s)) where
-  pub typed-malformed : r ≡ Reading.Bad → refused 3 ≡ withFilter knownRules ty v budget (parse filterLimits s)
+-- 3, then 4
+pub typed-bad : (ty : Ty) (v s : List ℕ) (budget : ℕ) (x : Bool) (a : Answer) → x ≡ isSome (storedValue ty v) → not x ≡ true → a ≡ refusedBehind 4 (parse filterLimits s)
+    → report a ≡ withFilter knownRules ty v budget (parse filterLimits s)
+unfolding withFilter
+typed-bad ty v s budget x a stored e q = ap report q ∙ go (parse filterLimits s)
+  where
+    go : (o : Option (Filter Item)) → report (refusedBehind 4 o) ≡ withFilter knownRules ty v budget o
+    go none = refl
+    go (some f) = not-stored ty v budget f (sym stored ∙ not-true x e)
+
+-- 3, then 5, or a truth
+module _ (t w v s : List ℕ) (budget : ℕ) (ready : Ready t w v) (r : Evaluated) (told : Evaluates (storedOutcome (words.typeAt t 0) v) budget (parse filterLimits s) r) where
+  abbrev ty : Ty
+  ty = words.typeAt t 0
+
+  the-value : (x : Value) × (storedValue ty v ≡ some x)
+  the-value = some-there (storedValue ty v) (ready .stored)
+
+  judged : (f : Filter Item) → judgedReport (charged budget 0 (reading (storedOutcome ty v) f)) ≡ withFilter knownRules ty v budget (some f)
   unfolding withFilter
-  typed-malformed e = rw (is-malformed s r told e)
+  judged f = stored-told ty v budget f (the-value .0) (the-value .1)
 
-  module _ (f : declared.Filter) (good : r ≡ Reading.Good f) (x : Bool) (stored : x ≡ isSome (storedValue ty v)) where
-    pub typed-bad : not x ≡ true → refused 4 ≡ withFilter knownRules ty v budget (parse filterLimits s)
-    unfolding withFilter
-    typed-bad e = not-stored ty v budget (the-filter s r told f good .0) (sym stored ∙ not-true x e) ∙ sym (rw (the-filter s r told f good .1) refl)
+  known : (y : Evaluated) → r ≡ y → EvaluatedAs (storedOutcome ty v) budget (parse filterLimits s) y
+  unfolding Evaluates
+  known y e = subst (EvaluatedAs (storedOutcome ty v) budget (parse filterLimits s)) e told
 
-    pub typed-judged : (a : Report) → not x ≡ false → a ≡ judgedReport (judgedText (storedOutcome ty v) budget (filterAt s 0)) → a ≡ withFilter knownRules ty v budget (parse filterLimits s)
-    unfolding withFilter judgedText
-    typed-judged a e q =
-        let is = the-filter s r told f good in
-        let y = some-there (storedValue ty v) (sym stored ∙ not-false x e) in
-        q
-        ∙ ap (λ (o : Option (Read (Filter Item))). judgedReport (judgedText (storedOutcome ty v) budget o)) (read-at s r told f good)
-        ∙ stored-told ty v budget (is .0) (y .0) (y .1)
-        ∙ sym (rw (is .1) refl)
+  pub stored-of : (u : Verdict) (n : ℕ) (a : Answer) → r ≡ Evaluated.Of u n → a ≡ settledAs u n → report a ≡ withFilter knownRules ty v budget (parse filterLimits s)
+  stored-of u n a e q =
+      let k = known (Evaluated.Of u n) e in
+      ap report q ∙ ap judgedReport (k .1 .1) ∙ judged (k .0) ∙ ap (withFilter knownRules ty v budget) (sym (k .1 .0))
+
+  pub stored-over : (a : Answer) → r ≡ Evaluated.Over → a ≡ refusedBehind 5 (parse filterLimits s) → report a ≡ withFilter knownRules ty v budget (parse filterLimits s)
+  unfolding withFilter
+  stored-over a e q = ap report q ∙ go (parse filterLimits s) refl
+    where
+      go : (o : Option (Filter Item)) → parse filterLimits s ≡ o → report (refusedBehind 5 o) ≡ withFilter knownRules ty v budget o
+      go none z = refl
+      go (some f) z = ap judgedReport (known Evaluated.Over e f z) ∙ judged f
+
+  pub stored-malformed : r ≡ Evaluated.Malformed → refused 3 ≡ withFilter knownRules ty v budget (parse filterLimits s)
+  unfolding withFilter
+  stored-malformed e = ap (withFilter knownRules ty v budget) (sym (known Evaluated.Malformed e))
 
 pub typed-ready : (t w v : List ℕ) (x : Bool) → Worded t w → admitted tableLimits t ≡ true → length v ≤ 65536 → x ≡ isSome (storedValue (words.typeAt t 0) v) → not x ≡ false
     → Ready t w v

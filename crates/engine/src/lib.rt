@@ -1,5 +1,5 @@
 // The answers of the engine: the listing, and the answer to a filter.
-use evaluation::Judged;
+use evaluation::Evaluated;
 use evaluation::Verdict;
 use filter::Filter;
 use filter::Reading;
@@ -18,13 +18,13 @@ ghost use Rattle.table.specs.inner.Words.{Worded};
 ghost use Rattle.reference.specs.Reference.{givenIds};
 ghost use Rattle.rules.specs.Rule.{knownRules};
 ghost use Rattle.plan.specs.inner.Task.{counting, taskOf};
-ghost use Rattle.filter.specs.Parse.{filterAt, parse};
+ghost use Rattle.filter.specs.Parse.{parse};
 ghost use Rattle.filter.specs.Paper.{filterLimits};
-ghost use Rattle.evaluation.specs.inner.Work.{Ready, storedOutcome, judgedText};
+ghost use Rattle.evaluation.specs.inner.Work.{Ready};
 ghost use Rattle.engine.specs.Answer as answer;
 ghost use Rattle.engine.specs.Listing.{report, lists, referenceFits, listingFits, withIds, listingOf, listReport, listing};
 ghost use Rattle.engine.specs.Paper.{limits};
-ghost use Rattle.engine.specs.inner.Judged.{settledAs, judgedReport};
+ghost use Rattle.engine.specs.inner.Judged.{refusedBehind, settledAs};
 ghost use Rattle.engine.specs.inner.Listed as inner;
 
 // The answer of the listing: the number of named values, or a refusal.
@@ -273,16 +273,26 @@ fn question_fits(table: &[u8], value: &[u8], filter: &[u8], budget: u64) -> bool
     budget <= Answer::MAX_BUDGET
 }
 
-// A filter that has been read and a value that has been checked.
-fn ask_judged(t: &[u8], w: &[u64; 256], v: &[u8], filter: &[u8], budget: usize) -> Answer
+// The refusal n, where a text is a filter; else 3, which comes before it.
+fn refuse_filter(filter: &[u8], n: u8) -> Answer
+    ensures { λ a. ⌜ a ≡ refusedBehind n (parse filterLimits (now (filter .entry))) ⌝ }
+{
+    let Reading::Good(_) = filter::read(filter) else {
+        return Answer::Refused(3);
+    };
+    Answer::Refused(n)
+}
+
+// The answer on a value that has been checked.
+fn ask_stored(t: &[u8], w: &[u64; 256], v: &[u8], filter: &[u8], budget: usize) -> Answer
     requires ready { ⌜ Ready (now t) (now w) (now v) ⌝ }
-    requires read { ⌜ isSome (filterAt (now filter) 0) ≡ true ⌝ }
     ensures { λ a. ⌜ answer.report a
-        ≡ judgedReport (judgedText (storedOutcome (typeAt (now (t .entry)) 0) (now (v .entry))) budget (filterAt (now (filter .entry)) 0)) ⌝ }
+        ≡ answer.withFilter knownRules (typeAt (now (t .entry)) 0) (now (v .entry)) budget (parse filterLimits (now (filter .entry))) ⌝ }
 {
     match evaluation::judge(t, w, v, filter, budget) {
-        Judged::Of(u, n) => Answer::of(u, n),
-        Judged::Over => Answer::Refused(5),
+        Evaluated::Of(u, n) => Answer::of(u, n),
+        Evaluated::Over => refuse_filter(filter, 5),
+        Evaluated::Malformed => Answer::Refused(3),
     }
 }
 
@@ -294,13 +304,10 @@ fn ask_typed(t: &[u8], w: &[u64; 256], v: &[u8], filter: &[u8], budget: usize) -
     ensures { λ a. ⌜ answer.report a
         ≡ answer.withFilter knownRules (typeAt (now (t .entry)) 0) (now (v .entry)) budget (parse filterLimits (now (filter .entry))) ⌝ }
 {
-    let Reading::Good(_) = filter::read(filter) else {
-        return Answer::Refused(3);
-    };
     if !value::is_stored(t, w, v) {
-        return Answer::Refused(4);
+        return refuse_filter(filter, 4);
     }
-    ask_judged(t, w, v, filter, budget)
+    ask_stored(t, w, v, filter, budget)
 }
 
 // The answer where sizes and budget are within limits.
