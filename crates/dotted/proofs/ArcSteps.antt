@@ -1,14 +1,14 @@
 -- One arc: its digits, and the piece of the text that it stands in.
 use mathlib.Core.Path.{_≡_, refl, sym, ap, _∙_}
-use mathlib.Core.Bool.{Bool, true, false}
+use mathlib.Core.Bool.{Bool, true, false, not}
 use mathlib.Core.List.{List, [], _∷_}
 use Prim.Native.Nat.{ℕ, zero, suc, _≤_, _<_, _+_, _-_, _*_}
 use native.Mathlib.Omega.{arith}
 use native.Mathlib.Numerals.{add-one}
-use borrow.Author.Tests.{eq-eqb, ne-eqb}
+use borrow.Author.Tests.{eq-eqb, ne-eqb, not-true, not-false}
 use lib.Dec.{eqb}
 use lib.ListN.{length, drop}
-use Rattle.octets.specs.Pick.{pick}
+use Rattle.octets.specs.Pick.{pick, both}
 use Rattle.octets.specs.Octets.{octet, every}
 use Rattle.octets.specs.Text.{isDigit, isNumber, decimalFrom, ontoFirst, pieces}
 use Rattle.octets.specs.inner.Answers.{clip, growOf}
@@ -16,7 +16,9 @@ use Rattle.octets.specs.declared.Size.{Size}
 use Rattle.octets.proofs.Laws.{rest-cons, rest-none}
 use Rattle.octets.proofs.TextLaws.{every-nil, every-cons, decimal-nil, decimal-cons, number-nil, number-cons, pieces-nil, pieces-cons}
 use Rattle.octets.proofs.Steps.{grow-clip}
-use Rattle.dotted.specs.inner.Arcs.{moreDigit, firstDigit, afterDigit, isFormed, addDigit, arcOf, arcFrom, arcAt, restPieces}
+use Rattle.der.specs.Dotted.{everyNumber}
+use Rattle.der.proofs.DottedLaws.{numbers-nil, numbers-cons}
+use Rattle.dotted.specs.inner.Arcs.{moreDigit, firstDigit, afterDigit, isFormed, numbersAfter, addDigit, arcOf, arcFrom, arcAt, restPieces}
 use Rattle.dotted.specs.declared.Form.{Form}
 use Rattle.dotted.specs.declared.Digits.{Digits}
 use Rattle.dotted.specs.declared.Dots.{Dots}
@@ -69,7 +71,7 @@ module _ (t : List ℕ) (at i : ℕ) (d : Digits) (inv : arcFrom d (drop i t) i 
     arc-more g q e = ap (λ (x : Digits). arcFrom x (drop (i + 1) t) (i + 1)) e ∙ (rw (ne-eqb (octet t i) 46 q) at step)
 
 -- ---- the form of digits is that of a number
-unfoldable formFrom : Form → List ℕ → Form
+unfoldable pub formFrom : Form → List ℕ → Form
 formFrom f [] = f
 formFrom f (b ∷ s) = formFrom (afterDigit f b) s
 
@@ -101,6 +103,67 @@ number-form (b ∷ s) = go (eqb b 48) (isDigit b) ∙ sym (number-cons b s)
     go true t = zero-form s
     go false true = digits-form s
     go false false = broken-stays s
+
+-- ---- the arcs of a text, octet by octet
+-- the first piece of a text and those after it; after digits of a form
+pub record Cut (s : List ℕ) : Type 0 where
+  pub piece : List ℕ
+  pub others : List (List ℕ)
+  pub is : pieces s ≡ piece ∷ others
+  pub numbers : (f : Form) → numbersAfter f s ≡ both (isFormed (formFrom f piece)) (everyNumber others)
+
+cut-numbers : (s : List ℕ) → Cut s → numbersAfter Form.Empty s ≡ everyNumber (pieces s)
+cut-numbers s c =
+    c .numbers Form.Empty ∙ ap (λ (b : Bool). both b (everyNumber (c .others))) (number-form (c .piece)) ∙ sym (numbers-cons (c .piece) (c .others))
+    ∙ ap everyNumber (sym (c .is))
+
+pub cut : (s : List ℕ) → Cut s
+unfolding numbersAfter formFrom
+cut [] = record { piece = []; others = []; is = pieces-nil; numbers = λ f. rw numbers-nil (whole (isFormed f)) }
+  where
+    whole : (b : Bool) → b ≡ both b true
+    whole true = refl
+    whole false = refl
+cut (b ∷ s) = go (cut s) (eqb b 46) refl (pieces-cons b s)
+  where
+    go : Cut s → (u : Bool) → eqb b 46 ≡ u → pieces (b ∷ s) ≡ pick u ([] ∷ pieces s) (ontoFirst b (pieces s)) → Cut (b ∷ s)
+    go c true e q = record {
+      piece = [];
+      others = pieces s;
+      is = q;
+      numbers = λ f. rw e (ap (both (isFormed f)) (cut-numbers s c));
+    }
+    go c false e q = record {
+      piece = b ∷ c .piece;
+      others = c .others;
+      is = q ∙ ap (ontoFirst b) (c .is);
+      numbers = λ f. rw e (c .numbers (afterDigit f b));
+    }
+
+pub numbers-start : (t : List ℕ) (at : ℕ) → numbersAfter Form.Empty (drop at t) ≡ everyNumber (pieces (drop at t))
+numbers-start t at = cut-numbers (drop at t) (cut (drop at t))
+
+module _ (t : List ℕ) (i : ℕ) (f : Form) (m : Bool) (inv : numbersAfter f (drop i t) ≡ m) where
+  pub numbers-done : (r : Bool) → length t ≤ i → r ≡ isFormed f → r ≡ m
+  unfolding numbersAfter
+  numbers-done r h e = e ∙ (rw (rest-none t i h) at inv)
+
+  module _ (h : i < length t) where
+    on : numbersAfter f (octet t i ∷ drop (i + 1) t) ≡ m
+    on = sym (ap (numbersAfter f) (rest-cons t i h)) ∙ inv
+
+    module _ (u : Bool) (told : u ≡ isFormed f) (q : octet t i ≡ 46) where
+      pub numbers-bad : not u ≡ true → false ≡ m
+      unfolding numbersAfter
+      numbers-bad e = rw (eq-eqb (octet t i) 46 q, sym told ∙ not-true u e) at on
+
+      pub numbers-next : not u ≡ false → numbersAfter Form.Empty (drop (i + 1) t) ≡ m
+      unfolding numbersAfter
+      numbers-next e = rw (eq-eqb (octet t i) 46 q, sym told ∙ not-false u e) at on
+
+    pub numbers-longer : (g : Form) → (octet t i ≡ 46 → ⊥) → g ≡ afterDigit f (octet t i) → numbersAfter g (drop (i + 1) t) ≡ m
+    unfolding numbersAfter
+    numbers-longer g q e = rw e (rw (ne-eqb (octet t i) 46 q) at on)
 
 -- ---- the piece that an arc stands in, after digits that stand for n, of form f
 record Piece (ps : List (List ℕ)) (n : ℕ) (f : Form) (t : List ℕ) (arc : Arc) : Type 0 where

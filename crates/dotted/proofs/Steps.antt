@@ -2,22 +2,24 @@
 use mathlib.Core.Path.{_≡_, refl, sym, ap, ap₂, _∙_}
 use mathlib.Core.Bool.{Bool, true, false, not}
 use mathlib.Core.List.{List, [], _∷_, map}
-use Prim.Native.Nat.{ℕ, suc, _≤_, _<_}
+use Prim.Native.Nat.{ℕ, _≤_, _<_}
 use native.Mathlib.Omega.{arith}
-use borrow.Author.Tests.{le-ltb, lt-leb, le-leb, eq-eqb, ne-eqb, ltb-false, not-true, not-false}
+use borrow.Author.Tests.{le-ltb, lt-leb, le-leb, leb-true, eqb-true, eq-eqb, ne-eqb, ltb-false, not-true, not-false}
 use lib.Dec.{ltb, leb, eqb}
 use lib.ListN.{length, drop}
 use Rattle.octets.specs.Pick.{pick, both, either}
-use Rattle.octets.specs.Text.{decimalFrom, pieces}
+use Rattle.octets.specs.Octets.{octet, every}
+use Rattle.octets.specs.Text.{isDigit, isNumber, decimalFrom, ontoFirst, pieces}
 use Rattle.octets.specs.inner.Answers.{clip}
 use Rattle.octets.specs.declared.Size.{Size}
-use Rattle.octets.proofs.Laws.{never}
+use Rattle.octets.proofs.Laws.{never, both-true, rest-cons}
+use Rattle.octets.proofs.TextLaws.{pieces-cons}
 use Rattle.der.specs.Dotted.{everyNumber, rooted, isDotted}
 use Rattle.der.proofs.DottedLaws.{numbers-nil, numbers-cons, dotted-pieces}
-use Rattle.dotted.specs.inner.Arcs.{arcAt, restPieces, areRoots, underRoot, dottedUnder}
+use Rattle.dotted.specs.inner.Arcs.{isJoint, arcAt, restPieces, areRoots, underRoot, dottedUnder}
 use Rattle.dotted.specs.declared.Dots.{Dots}
 use Rattle.dotted.specs.declared.Arc.{Arc}
-use Rattle.dotted.proofs.ArcSteps.{Headed, arc-headed}
+use Rattle.dotted.proofs.ArcSteps.{Cut, cut, Headed, arc-headed}
 
 -- ---- the first two arcs
 module _ (a b : Size) (m : ℕ) (e : a ≡ Size.Of m) where
@@ -74,20 +76,6 @@ module _ (t : List ℕ) (i : ℕ) (arc : Arc) (read : arc ≡ arcAt t i) where
   numbers : everyNumber (pieces (drop i t)) ≡ both (arc .formed) (everyNumber (restPieces t (arc .next)))
   numbers = ap everyNumber (headed .is) ∙ numbers-cons _ _ ∙ ap (λ (x : Bool). both x (everyNumber (restPieces t (arc .next)))) (sym (headed .formed))
 
-  module _ (m : Bool) (inv : everyNumber (pieces (drop i t)) ≡ m) where
-    pub numbers-bad : not (arc .formed) ≡ true → false ≡ m
-    numbers-bad h = sym (numbers ∙ rw (not-true (arc .formed) h)) ∙ inv
-
-    module _ (h : not (arc .formed) ≡ false) where
-      pub numbers-end : arc .next ≡ Dots.Over → true ≡ m
-      numbers-end e = sym (numbers ∙ rw (not-false (arc .formed) h, e, rest-over t) numbers-nil) ∙ inv
-
-      pub numbers-more : (p : ℕ) → arc .next ≡ Dots.At p → everyNumber (pieces (drop p t)) ≡ m
-      numbers-more p e = sym (numbers ∙ rw (not-false (arc .formed) h, e, rest-at t p)) ∙ inv
-
-  pub numbers-fall : (p : ℕ) → arc .next ≡ Dots.At p → length (pieces (drop p t)) < length (pieces (drop i t))
-  numbers-fall p e = let q : length (pieces (drop i t)) ≡ suc (length (pieces (drop p t))) = ap length (headed .is) ∙ rw (e, rest-at t p) in omega arith
-
   -- ---- the arcs after the first
   under : (a : Size) → dottedUnder a (pieces (drop i t)) ≡ both (both (arc .formed) (everyNumber (restPieces t (arc .next)))) (areRoots a (arc .size))
   unfolding dottedUnder
@@ -111,6 +99,44 @@ module _ (t : List ℕ) (i : ℕ) (arc : Arc) (read : arc ≡ arcAt t i) where
 
         pub under-is : (p : ℕ) (r : Bool) → arc .next ≡ Dots.At p → r ≡ everyNumber (pieces (drop p t)) → r ≡ dottedUnder a (pieces (drop i t))
         under-is p r e f = f ∙ sym (under a ∙ rw (sym told ∙ not-false u q, not-false (arc .formed) h, e, rest-at t p) (always (everyNumber (pieces (drop p t)))))
+
+-- ---- a text whose first arc is 2
+module _ (t : List ℕ) where
+  pub joint-short : length t < 2 → false ≡ isJoint t
+  unfolding isJoint
+  joint-short h = rw (lt-leb 2 (length t) h)
+
+  module _ (h : 2 ≤ length t) where
+    pub joint-other : (octet t 0 ≡ 50 → ⊥) → false ≡ isJoint t
+    unfolding isJoint
+    joint-other q = rw (le-leb 2 (length t) h, ne-eqb (octet t 0) 50 q)
+
+    pub joint-is : (r : Bool) → octet t 0 ≡ 50 → r ≡ eqb (octet t 1) 46 → r ≡ isJoint t
+    unfolding isJoint
+    joint-is r q e = rw (le-leb 2 (length t) h, eq-eqb (octet t 0) 50 q) e
+
+  joint-pieces : isJoint t ≡ true → pieces t ≡ (50 ∷ []) ∷ pieces (drop 2 t)
+  unfolding isJoint
+  joint-pieces e =
+      let a = both-true (leb 2 (length t)) (both (eqb (octet t 0) 50) (eqb (octet t 1) 46)) e in
+      let b = both-true (eqb (octet t 0) 50) (eqb (octet t 1) 46) (a .1) in
+      let long : 2 ≤ length t = leb-true 2 (length t) (a .0) in
+      ap pieces (rest-cons t 0 (omega arith) ∙ ap (λ (l : List ℕ). octet t 0 ∷ l) (rest-cons t 1 (omega arith)) ∙ ap₂ (λ (x y : ℕ). x ∷ y ∷ drop 2 t) (eqb-true (octet t 0) 50 (b .0)) (eqb-true (octet t 1) 46 (b .1)))
+      ∙ pieces-cons 50 (46 ∷ drop 2 t) ∙ ap (ontoFirst 50) (pieces-cons 46 (drop 2 t))
+
+  under-two : (p : List ℕ) (ps : List (List ℕ)) → both (everyNumber ((50 ∷ []) ∷ p ∷ ps)) (rooted (map (decimalFrom 0) ((50 ∷ []) ∷ p ∷ ps))) ≡ everyNumber (p ∷ ps)
+  unfolding everyNumber isNumber isDigit every decimalFrom
+  under-two p ps = go (both (isNumber p) (everyNumber ps))
+    where
+      go : (x : Bool) → both x true ≡ x
+      go true = refl
+      go false = refl
+
+  pub dotted-joint : (u r : Bool) → u ≡ isJoint t → u ≡ true → r ≡ everyNumber (pieces (drop 2 t)) → r ≡ isDotted t
+  dotted-joint u r told e q =
+      let c = cut (drop 2 t) in
+      let z : pieces t ≡ (50 ∷ []) ∷ c .piece ∷ c .others = joint-pieces (sym told ∙ e) ∙ ap (λ (l : List (List ℕ)). (50 ∷ []) ∷ l) (c .is) in
+      q ∙ ap everyNumber (c .is) ∙ sym (dotted-pieces t ∙ ap (λ (x : List (List ℕ)). both (everyNumber x) (rooted (map (decimalFrom 0) x))) z ∙ under-two (c .piece) (c .others))
 
 -- ---- the whole text
 module _ (t : List ℕ) (arc : Arc) (read : arc ≡ arcAt t 0) where

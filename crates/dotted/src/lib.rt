@@ -170,17 +170,21 @@ fn all_numbers(t: &[u8], at: usize) -> bool
     ensures { λ r. ⌜ r ≡ everyNumber (pieces (drop at (now (t .entry)))) ⌝ }
 {
     let mut i = at;
-    loop {
-        let arc = read_arc(t, i);
-        if !arc.formed {
-            return false;
+    let mut form = Form::Empty;
+    while i < t.len() {
+        let b = t[i];
+        if b == 46 {
+            if !is_formed(form) {
+                return false;
+            }
+            form = Form::Empty;
+            i += 1;
+        } else {
+            form = after_digit(form, b);
+            i += 1;
         }
-        let next = arc.next;
-        let Dots::At(p) = next else {
-            return true;
-        };
-        i = p;
     }
+    is_formed(form)
 }
 
 // Whether the arcs from a place on are numbers and the first of them may stand under the root a.
@@ -202,10 +206,26 @@ fn dotted_under(t: &[u8], a: Size, at: usize) -> bool
     all_numbers(t, p)
 }
 
+// Whether a text begins with the arc 2: any number may stand under it.
+fn is_joint(t: &[u8]) -> bool
+    ensures { λ r. ⌜ r ≡ arcs.isJoint (now (t .entry)) ⌝ }
+{
+    if t.len() < 2 {
+        return false;
+    }
+    if t[0] != 50 {
+        return false;
+    }
+    t[1] == 46
+}
+
 // Whether a text is an OBJECT IDENTIFIER in dotted form.
 pub fn is_dotted(t: &[u8]) -> bool
     ensures { λ r. ⌜ r ≡ isDotted (now (t .entry)) ⌝ }
 {
+    if is_joint(t) {
+        return all_numbers(t, 2);
+    }
     let arc = read_arc(t, 0);
     if !arc.formed {
         return false;

@@ -3,8 +3,9 @@ use Prim.Native.Nat.{ℕ, _+_, _-_}
 use mathlib.Core.Bool.{Bool, true, false}
 use mathlib.Core.List.{List, [], _∷_}
 use lib.Dec.{ltb, leb, eqb}
-use lib.ListN.{drop}
+use lib.ListN.{length, drop}
 use Rattle.octets.specs.Pick.{pick, both, either}
+use Rattle.octets.specs.Octets.{octet}
 use Rattle.octets.specs.Text.{isDigit, decimalFrom, pieces}
 use Rattle.octets.specs.inner.Answers.{clip, growOf}
 use Rattle.octets.specs.declared.Size.{Size}
@@ -35,6 +36,18 @@ isFormed Form.Broken = false
 
 abbrev pub addDigit : Digits → ℕ → Digits
 addDigit d b = record { size = growOf (d .size) (b - 48); form = afterDigit (d .form) b }
+
+-- the arcs of a text are numbers, after digits of the first of them of form f
+unfoldable pub numbersAfter : Form → List ℕ → Bool
+numbersAfter f [] = isFormed f
+numbersAfter f (b ∷ s) =
+    let next = numbersAfter Form.Empty s in
+    let longer = numbersAfter (afterDigit f b) s in
+    pick (eqb b 46) (both (isFormed f) next) longer
+
+-- the first arc is 2
+unfoldable pub isJoint : List ℕ → Bool
+isJoint t = both (leb 2 (length t)) (both (eqb (octet t 0) 50) (eqb (octet t 1) 46))
 
 -- ---- the arc that starts at a place, after digits d
 abbrev pub arcOf : Digits → Dots → Arc
