@@ -4,7 +4,7 @@ from workloads import LONGEST_FILTER, LONGEST_VALUE, Question, samples
 
 choice, item, member, of, sequence, tlv = samples.choice, samples.item, samples.member, samples.of, samples.sequence, samples.tlv
 
-NULL_ROW, INTEGER_ROW, OID_ROW, OCTETS_ROW, UTF8_ROW = (bytes([kind]) for kind in (4, 2, 5, 6, 8))
+NULL_ROW, INTEGER_ROW, OID_ROW, OCTETS_ROW, BITS_ROW, UTF8_ROW = (bytes([kind]) for kind in (4, 2, 5, 6, 7, 8))
 NULL = tlv(5)
 PRESENT = item(None, "presentMatch", "NULL")
 DEEPEST = 16
@@ -77,22 +77,61 @@ def values():
     yield asks("choices-15-deep", nested_choices(), tlv(0x30, contents(b"\x04\x01a")))
 
 
+def fills(name, row, element, rule, before, fill, after):
+    """An item over a list of one element many times, whose value text is filled up to the longest filter."""
+    start, end = 'item:{component "*",rule %s,value %s' % (rule, before), after + "}"
+    room = LONGEST_FILTER - len(start) - len(end)
+    return asks(name, of(14, 1) + row, tlv(0x30, contents(element)), start + fill * (room // len(fill)) + end)
+
+
 def questions_of_strings():
-    """Strings against long texts of spaces."""
-    strings = of(14, 1) + UTF8_ROW
-    one, two = tlv(0x30, contents(b"\x0c\x01a")), tlv(0x30, contents(b"\x0c\x03a b"))
-    for name, value, before, after in (("spaces-last", one, '"a', 'b"}'), ("spaces-between", two, '"a', 'c"}'), ("spaces-first", two, '"', 'c"}')):
-        yield asks(name, strings, value, longest('item:{component "*",rule caseExactMatch,value ' + before, " ", after))
+    """Strings against long texts of spaces, quotes and letters; a long string of spaces against many texts."""
+    one, two, quote = tlv(12, b"a"), tlv(12, b"a b"), tlv(12, b'"')
+    for name, element, before, after in (("spaces-last", one, '"a', 'b"'), ("spaces-between", two, '"a', 'c"'), ("spaces-first", two, '"', 'c"'),
+                                         ("spaces-at-end", two, '"a c', '"'), ("spaces-alone", one, '"', '"')):
+        yield fills(name, UTF8_ROW, element, "caseExactMatch", before, " ", after)
+    yield fills("spaces-folded", UTF8_ROW, two, "caseIgnoreMatch", '"A', " ", 'C"')
+    yield fills("spaces-in-pairs", UTF8_ROW, one, "caseIgnoreMatch", '"A', " b", '"')
+    yield fills("doubled-quotes", UTF8_ROW, quote, "caseIgnoreMatch", '"', '""', '"')
+    yield fills("long-text", UTF8_ROW, one, "caseExactMatch", '"', "a", '"')
+    stored = tlv(12, b"a" + b" " * (LONGEST_VALUE - 6) + b"b")
+    yield asks("stored-spaces", UTF8_ROW, stored, items(item(None, "caseIgnoreMatch", '"A c"')))
 
 
 def questions_of_numbers():
     """Integers and OIDs against long numbers."""
-    integers, oids = of(14, 1) + INTEGER_ROW, of(14, 1) + OID_ROW
-    of_integers, of_oids = tlv(0x30, contents(b"\x02\x01\x01")), tlv(0x30, contents(b"\x06\x02\x2a\x03"))
-    yield asks("long-number", integers, of_integers, longest('item:{component "*",rule integerMatch,value 1', "0", "}"))
-    yield asks("numbers-in-items", integers, of_integers, items(item("*", "integerMatch", 2)))
-    yield asks("long-oid", oids, of_oids, longest('item:{component "*",rule objectIdentifierMatch,value 1.2.3', ".1", "}")[:LONGEST_FILTER - 2] + "1}")
-    yield asks("long-arc", oids, of_oids, longest('item:{component "*",rule objectIdentifierMatch,value 1.2.', "3", "}"))
+    integer, oid = tlv(2, b"\1"), tlv(6, b"\x2a\3")
+    yield fills("long-number", INTEGER_ROW, integer, "integerMatch", "1", "0", "")
+    yield fills("long-number-below", INTEGER_ROW, integer, "integerOrderingMatch", "-1", "0", "")
+    yield asks("numbers-in-items", of(14, 1) + INTEGER_ROW, tlv(0x30, contents(integer)), items(item("*", "integerMatch", 2)))
+    yield fills("long-oid", OID_ROW, oid, "objectIdentifierMatch", "1.2.3", ".1", "")
+    yield fills("long-arc", OID_ROW, oid, "objectIdentifierMatch", "1.2.", "3", "")
+    arcs = tlv(6, b"\x2a" + b"\1" * 31)
+    yield asks("last-arc", of(14, 1) + OID_ROW, tlv(0x30, contents(arcs)), items(item("*", "objectIdentifierMatch", "1.2" + ".1" * 30 + ".2")))
+
+
+def questions_of_digits():
+    """Octets and bits against long texts of digits."""
+    octets, bits = tlv(4, b"\xaa"), tlv(3, b"\0\xaa")
+    yield fills("long-octets", OCTETS_ROW, octets, "octetStringMatch", "'", "AA", "'H")
+    yield fills("long-octets-below", OCTETS_ROW, tlv(4, b"\xab"), "octetStringOrderingMatch", "'", "AA", "'H")
+    yield fills("long-bits-in-hex", BITS_ROW, bits, "bitStringMatch", "'", "A", "'H")
+    yield fills("long-bits", BITS_ROW, bits, "bitStringMatch", "'", "10", "'B")
+    long = b"\0" + b"\xaa" * 990
+    yield asks("all-bits", of(14, 1) + BITS_ROW, tlv(0x30, contents(tlv(3, long))), item("*", "bitStringMatch", "'%s'H" % ("AA" * 989 + "AB")))
+
+
+def questions_of_names():
+    """References of long names, and one that no type allows."""
+    names = ["m" * 23 + last for last in "abcdefghijklmnop"]
+    table = of(14, 1) + sequence(*(member(name, 18, 1, at, 1) for at, name in enumerate(names))) + NULL_ROW
+    yield asks("long-names", table, tlv(0x30, contents(b"\x30\0")), items(item("*." + names[-1], "presentMatch", "NULL")))
+    rows = b"".join(sequence(member("m" * 24, 2 * level + 2)) for level in range(DEEPEST - 1)) + NULL_ROW
+    value = NULL
+    for _ in range(DEEPEST - 1):
+        value = tlv(0x30, value)
+    yield asks("names-16-deep", rows, value, items("not:" + item(".".join(["m" * 24] * (DEEPEST - 1)), "presentMatch", "NULL")))
+    yield asks("long-reference", rows, value, longest('item:{component "m', "m", '",rule presentMatch,value NULL}'))
 
 
 def questions_of_lists():
@@ -106,9 +145,25 @@ def questions_of_lists():
     nulls = of(14, 1) + NULL_ROW, tlv(0x30, contents(NULL))
     yield asks("count-in-items", *nulls, items(item("0", "integerMatch", 2)))
     yield asks("position-in-items", *nulls, items(item("-2047", "presentMatch", "NULL")))
+    for name, position in (("last-in-items", "-1"), ("first-from-end", "-2046"), ("far-position", "2046")):
+        yield asks(name, *nulls, items("not:" + item(position, "presentMatch", "NULL")))
     yield asks("along-choices", nested_choices(), tlv(0x30, contents(b"\x04\x01a")), item("*" + ".z" * 14, "octetStringMatch", "'62'H"))
+
+
+def questions_of_nested_lists():
+    """References with `*` in lists of lists."""
+    table, one = of(14, 1) + of(14, 2) + INTEGER_ROW, tlv(2, b"\1")
+    for name, element, reference in (("all-in-empty", b"", "*.*"), ("all-in-short", one, "*.*"), ("last-in-short", one, "*.-1"),
+                                     ("last-in-long", one * 672, "*.-1"), ("counts", b"", "*.0")):
+        yield asks(name, table, tlv(0x30, contents(tlv(0x30, element))), items(item(reference, "integerMatch", 2)))
+    rows = b"".join(of(14, row + 1) for row in range(DEEPEST - 1)) + INTEGER_ROW
+    value = one * 1340
+    for _ in range(DEEPEST - 1):
+        value = tlv(0x30, value)
+    yield asks("all-16-deep", rows, value, items(item(".".join("*" * (DEEPEST - 1)), "integerMatch", 2)))
 
 
 def questions():
     """All of them."""
-    return [*tables(), *values(), *questions_of_strings(), *questions_of_numbers(), *questions_of_lists()]
+    return [*tables(), *values(), *questions_of_strings(), *questions_of_numbers(), *questions_of_digits(), *questions_of_names(), *questions_of_lists(),
+            *questions_of_nested_lists()]
