@@ -8,14 +8,11 @@ use native.Mathlib.Numerals.{add-one}
 use borrow.Author.Tests.{ltb-true, ltb-false, leb-true, leb-false, le-leb, lt-leb}
 use lib.Dec.{ltb, leb, leb·suc-suc}
 use Rattle.octets.specs.Pick.{pick, both, all}
-use Rattle.octets.specs.Octets.{two, larger}
+use Rattle.octets.specs.Octets.{larger}
 use Rattle.octets.proofs.Laws.{all-cong}
 use Rattle.rows.specs.Row.{kindAt, rowAt, isList, elementAt, membersAt}
-use Rattle.clauses.specs.Clauses.{memberPlace, ofMember, chainFits}
+use Rattle.clauses.specs.Clauses.{ofMember, chainFits}
 use Rattle.clauses.specs.inner.Work.{memberType, tallest}
-
-pub type-row-is : (t s : List ℕ) (i j p r : ℕ) → p ≡ memberPlace s i j → r ≡ two t (p + 25) → r ≡ memberType t s i j
-type-row-is t s i j p r e f = rw e at f
 
 -- ---- the largest of some numbers
 pub tallest-none : (f : ℕ → ℕ) → 0 ≡ tallest f 0

@@ -14,7 +14,7 @@ use Rattle.octets.specs.Octets.{octet, two, part, every}
 use Rattle.octets.specs.Text.{within, isLower, isLetter, isAlnum, mayFollow}
 use Rattle.octets.proofs.Laws.{octet-past, rest-none, part-rest, both-true, all-at, all-is, all-more, all-bad}
 use Rattle.octets.proofs.TextLaws.{every-is, every-at}
-use Rattle.rows.specs.Row.{nameOctetAt, typeRowAt, defaultAt, isGroup, isList, rowSize, rowAt, membersAt}
+use Rattle.rows.specs.Row.{nameOctetAt, typeRowAt, defaultAt, isGroup, isList, rowSize, membersAt}
 use Rattle.rows.specs.Body.{countFormed, follows, followed, nameFormed, taggingFormed, tagFormed, presenceFormed, isZero, defaultFilled, memberFormed}
 use Rattle.rows.specs.inner.Sizes.{typeSize}
 use Rattle.rows.specs.Paper.{tableLimits}
@@ -37,9 +37,6 @@ pub number-is : (t : List ℕ) (p k a b r : ℕ) → a ≡ octet t (p + k) → b
 number-is t p k a b r e f g =
     let next : p + (k + 1) ≡ p + k + 1 = omega arith in
     g ∙ ap₂ (λ (x y : ℕ). x * 256 + y) e (f ∙ ap (octet t) next)
-
-pub row-past : (s : List ℕ) (i : ℕ) → length s ≤ i → 0 ≡ rowAt s i
-row-past s i h = octet-past s i h
 
 pub default-is : (t a : List ℕ) (p n w : ℕ) → n ≡ octet t (p + 30) → w ≡ n → a ≡ part t (p + 31) w → a ≡ defaultAt t p
 default-is t a p n w e f g = g ∙ ap (part t (p + 31)) (f ∙ e)

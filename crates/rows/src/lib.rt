@@ -84,16 +84,6 @@ fn number_after(t: &[u8], p: usize, k: usize) -> usize
     octets::wide_two(field(t, p, k), field(t, p, k + 1))
 }
 
-// The place of row i.
-pub fn row_at(s: &[usize], i: usize) -> usize
-    ensures { λ r. ⌜ r ≡ row.rowAt (now (s .entry)) i ⌝ }
-{
-    if s.len() <= i {
-        return 0;
-    }
-    s[i]
-}
-
 // ---- the parts of the row at p
 pub fn kind_at(t: &[u8], p: usize) -> u8
     ensures { λ r. ⌜ r ≡ row.kindAt (now (t .entry)) p ⌝ }
@@ -115,29 +105,10 @@ pub fn name_at(t: &[u8], p: usize) -> &[u8]
     fields(t, p, 1, Table::MAX_NAME)
 }
 
-// The row of a member's type.
-pub fn type_row_at(t: &[u8], p: usize) -> usize
-    ensures { λ r. ⌜ r ≡ row.typeRowAt (now (t .entry)) p ⌝ }
-{
-    number_after(t, p, 25)
-}
-
 pub fn mode_at(t: &[u8], p: usize) -> u8
     ensures { λ r. ⌜ r ≡ row.modeAt (now (t .entry)) p ⌝ }
 {
     field(t, p, 27)
-}
-
-pub fn number_at(t: &[u8], p: usize) -> u8
-    ensures { λ r. ⌜ r ≡ row.numberAt (now (t .entry)) p ⌝ }
-{
-    field(t, p, 28)
-}
-
-pub fn presence_at(t: &[u8], p: usize) -> u8
-    ensures { λ r. ⌜ r ≡ row.presenceAt (now (t .entry)) p ⌝ }
-{
-    field(t, p, 29)
 }
 
 pub fn default_length_at(t: &[u8], p: usize) -> u8

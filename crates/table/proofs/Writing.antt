@@ -30,7 +30,7 @@ use Rattle.rows.specs.declared.Table.{Table}
 use Rattle.table.specs.declared.Made.{Made}
 use Rattle.table.specs.inner.Rows.{tableRows, placeAt, MemberRow, TypeRow}
 use Rattle.table.specs.inner.Words.{secondOf, Worded}
-use Rattle.table.specs.inner.Pass.{firstAt, secondAt, memberSecond, isMade, RowWords, Going, Next, Says, Leaves, rowSet}
+use Rattle.table.specs.inner.Pass.{firstAt, secondAt, memberSecond, isMade, RowWords, Going, Next, Says, Leaves}
 use Rattle.table.proofs.PassLaws.{Named, some-rows, few-rows, is-named, fits-points, fits-chain, points-member}
 use Rattle.table.proofs.Reading.{ready}
 
@@ -121,20 +121,20 @@ listed-at f zero j h = absurd (omega arith)
 listed-at f (suc n) zero h = refl
 listed-at f (suc n) (suc j) h = listed-at (λ j. f (suc j)) n j (omega arith)
 
--- the set of tags of each row
-abbrev pub setOf : List ℕ → List ℕ → ℕ → ℕ
-setOf t w j = rowSet (kindAt t (placeAt t j)) (secondAt w j)
+-- the set of tags of row j: of a type row its second word; a member row's is not asked for
+unfoldable setOf : List ℕ → List ℕ → ℕ → ℕ
+setOf t w j = pick (eqb (kindAt t (placeAt t j)) 16) (2 ^ universal (kindAt t (placeAt t j))) (secondAt w j)
 
-pub set-of-member : (t w : List ℕ) (j : ℕ) → MemberRow t j → setOf t w j ≡ 2 ^ universal (kindAt t (placeAt t j))
-unfolding rowSet
+set-of-member : (t w : List ℕ) (j : ℕ) → MemberRow t j → setOf t w j ≡ 2 ^ universal (kindAt t (placeAt t j))
+unfolding setOf
 set-of-member t w j h = rw (eq-eqb (kindAt t (placeAt t j)) 16 h)
 
-pub set-of-type : (t w : List ℕ) (j : ℕ) → TypeRow t j → setOf t w j ≡ secondAt w j
-unfolding rowSet
+set-of-type : (t w : List ℕ) (j : ℕ) → TypeRow t j → setOf t w j ≡ secondAt w j
+unfolding setOf
 set-of-type t w j h = rw (ne-eqb (kindAt t (placeAt t j)) 16 h)
 
 -- where the sets of type rows are right, all are
-pub all-masked : (t w m : List ℕ) → ((j : ℕ) → j < length (tableRows t) → getD m j 0 ≡ setOf t w j)
+all-masked : (t w m : List ℕ) → ((j : ℕ) → j < length (tableRows t) → getD m j 0 ≡ setOf t w j)
     → ((j : ℕ) → j < length (tableRows t) → TypeRow t j → (g : ℕ) → g < 64 → bitOf (secondAt w j) g ≡ begins (typeFrom 16 t (tableRows t) j) g)
     → Masked 16 t (tableRows t) m
 all-masked t w m is typed = record { says = λ j l g b. go j l g b (eqb (kindAt t (placeAt t j)) 16) refl }

@@ -17,7 +17,7 @@ ghost use Rattle.clauses.specs.Clauses.{laterType};
 ghost use Rattle.clauses.specs.inner.Work.{tallest};
 ghost use Rattle.types.specs.Types.{untagged, taggingOf};
 ghost use Rattle.types.specs.Check.{tableReport};
-ghost use Rattle.types.specs.inner.Work.{apartFrom, unionFrom, never, secondPass, rowCount, Admits};
+ghost use Rattle.types.specs.inner.Work.{apartFrom, unionFrom, never, secondPass, rowCount};
 ghost use Rattle.table.specs.Check.{report};
 ghost use Rattle.table.specs.declared.Tags.{Tags};
 ghost use Rattle.table.specs.inner.Rows.{tableRows, MemberRow, TypeRow, placeAt, taggingAt, memberKindAt};
@@ -711,31 +711,4 @@ pub fn default_number(t: &[u8], w: &[u64; 256], i: usize) -> u64
     ensures { λ r. ⌜ r ≡ baseFrom 0 (row.defaultAt (now (t .entry)) (placeAt (now (t .entry)) i)) ⌝ }
 {
     second_word(w, i)
-}
-
-// ---- for the layers that go by places and sets of tags
-// The set of tags of a row of a kind, whose second word is y; of a member row that of a type of its kind.
-fn row_set(kind: u8, y: u64) -> u64
-    ensures { λ r. ⌜ r ≡ pass.rowSet kind y ⌝ }
-{
-    if kind == Kind::MEMBER {
-        return types::bit(der::universal(kind));
-    }
-    y
-}
-
-// Writes the places of an admitted table's rows and their sets of tags.
-pub fn unpack(t: &[u8], w: &[u64; 256], n: usize, starts: &mut [usize], masks: &mut [u64])
-    requires worded { ⌜ Worded (now t) (now w) ⌝ }
-    requires count { ⌜ n ≡ length (tableRows (now t)) ⌝ }
-    requires places { ⌜ length (now starts) ≡ tableLimits .rows ⌝ }
-    requires sets { ⌜ length (now masks) ≡ tableLimits .rows ⌝ }
-    ensures { λ r. ⌜ Admits (tableLimits .rows) (tableLimits .chain) (now (t .entry)) n (now (starts .exit)) (now (masks .exit)) ⌝ }
-{
-    let mut i = 0;
-    while i < n {
-        starts[i] = place(t, w, i);
-        masks[i] = row_set(kind(t, w, i), second_word(w, i));
-        i += 1;
-    }
 }

@@ -7,14 +7,12 @@ use Prim.Native.Nat.{ℕ, suc, _≤_, _<_, _+_, _-_, _*_}
 use native.Mathlib.Omega.{arith}
 use borrow.Author.Tests.{not-true, not-false, eq-eqb, ne-eqb, eqb-true, eqb-false, leb-true}
 use lib.ListN.{length}
-use lib.Dec.{ltb, leb, eqb}
+use lib.Dec.{leb, eqb}
 use Rattle.octets.specs.Pick.{pick, both, bind, isSome}
-use Rattle.octets.specs.Octets.{octet, part, same}
+use Rattle.octets.specs.Octets.{part, same}
 use Rattle.octets.proofs.Laws.{both-true}
-use Rattle.der.specs.Tag.{tagOf}
 use Rattle.der.specs.Header.{insideAt}
 use Rattle.der.specs.declared.Inside.{Inside}
-use Rattle.der.proofs.Laws.{tag-small}
 use Rattle.rows.specs.Row.{rowAt, kindAt, typeRowAt, membersAt, modeAt, numberAt, presenceAt, defaultAt}
 use Rattle.clauses.specs.Clauses.{typeKind, defaultAllowed, defaultLegal}
 use Rattle.types.specs.Types.{Tagging, untagged, explicit, implicit, mandatory, optional, default, taggingOf, presenceOf, Member, memberOf, Ty, basic, Members, more, membersFrom, typed, typeFrom}
@@ -22,10 +20,9 @@ use Rattle.types.specs.Begins.{isMandatory}
 use Rattle.types.specs.inner.Work.{Sound}
 use Rattle.table.specs.inner.Words.{how, Ready}
 use Rattle.types.proofs.TagLaws.{mandatory-as}
-use Rattle.types.proofs.SoundLaws.{member-tags}
 use Rattle.value.specs.Value.{spotAt, spotOf, Fields, endFields, present, absent}
 use Rattle.value.specs.Decode.{Decoded, afterOf, tagOctet, inWrapper, startsHere, isDefault, unlessDefault, presentThen, absentThen, unwrapped, fieldsFrom, decode}
-use Rattle.value.specs.inner.Work.{checked, upTo, marked, within, contentsAt, holds, storedDefault, plainChecked, absentChecked, memberChecked, fieldsChecked}
+use Rattle.value.specs.inner.Work.{checked, upTo, within, contentsAt, holds, storedDefault, plainChecked, absentChecked, memberChecked, fieldsChecked}
 use Rattle.value.specs.declared.Checked.{Checked}
 use Rattle.value.proofs.Views.{leaf-view, wrapper-view}
 use Rattle.value.proofs.CheckSteps.{typed-small}
@@ -47,12 +44,6 @@ few n h a b c = omega arith
 -- where a default is one of BOOLEAN, INTEGER, ENUMERATED, its type is basic
 small-basic : (k : ℕ) (e : Ty) (ms : Members) → leb 1 k ≡ true → leb k 3 ≡ true → typed k e ms ≡ basic k
 small-basic k e ms a b = let l = leb-true k 3 b in typed-small k e ms (omega arith)
-
--- a member can begin at a place, as its set says
-pub starts-as : (chain : ℕ) (t s m : List ℕ) (row : ℕ) → Sound chain t s m → typeRowAt t (rowAt s row) < length s → (v : List ℕ) (i stop : ℕ)
-    → marked m t (rowAt s row) v stop i ≡ startsHere (memberOf t row (rowAt s row)) (typeFrom chain t s (typeRowAt t (rowAt s row))) v stop i
-unfolding marked startsHere
-starts-as chain t s m row ok target v i stop = ap (both (ltb i stop)) (member-tags chain t s m row ok target (tagOf (octet v i)) (tag-small (octet v i)))
 
 -- ---- numbers of rows
 module _ (chain : ℕ) (t s m : List ℕ) (row : ℕ) (ok : Ready chain t s m) (here : row < length s) where

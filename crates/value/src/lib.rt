@@ -13,11 +13,10 @@ ghost use Rattle.der.specs.Kind.{generalizedTime};
 ghost use Rattle.der.specs.Tag.{number, tagOf};
 ghost use Rattle.der.specs.Contents.{legal};
 ghost use Rattle.rows.specs.Row.{kindAt, elementAt, membersAt, isList, modeAt, presenceAt, defaultAt};
-ghost use Rattle.types.specs.Types.{taggingOf};
 ghost use Rattle.types.specs.Begins.{memberBegins};
 ghost use Rattle.table.specs.inner.Rows.{tableRows, MemberRow, TypeRow, placeAt, typeAt, membersAfter, memberAt, taggingAt, memberTypeAt, memberKindAt};
 ghost use Rattle.table.specs.inner.Words.{firstOctet, how, Worded};
-ghost use Rattle.value.specs.Decode.{tagOctet, startsHere, alternativeFrom, decode, storedValue};
+ghost use Rattle.value.specs.Decode.{startsHere, alternativeFrom, decode, storedValue};
 ghost use Rattle.value.specs.Paper.{valueLimits};
 ghost use Rattle.value.specs.Check.{report, valueFits, storage, valueReport};
 ghost use Rattle.value.specs.Part as parts;
@@ -59,20 +58,6 @@ pub enum Checked {
 pub enum Alternative {
     Of(usize),
     Missing,
-}
-
-// ---- tags
-// The tag octet of a value of a kind under a tag mode.
-pub fn tag_octet(mode: u8, number: u8, kind: u8) -> usize
-    ensures { λ r. ⌜ r ≡ tagOctet (taggingOf mode number) kind ⌝ }
-{
-    if mode == 0 {
-        return der::own_octet(kind);
-    }
-    if mode == 1 {
-        return der::own_octet(kind);
-    }
-    der::implicit_octet(number, kind)
 }
 
 // ---- octets that can begin a value

@@ -8,7 +8,6 @@ use lib.Dec.{ltb, leb, eqb}
 use Rattle.octets.specs.Pick.{pick, both, no}
 use Rattle.octets.specs.Octets.{baseFrom}
 use Rattle.der.specs.Kind as kind
-use Rattle.der.specs.Tag.{universal}
 use Rattle.rows.specs.Paper.{tableLimits}
 use Rattle.rows.specs.Row.{isList, typeRowAt, modeAt, presenceAt, defaultLengthAt, defaultAt}
 use Rattle.clauses.specs.Clauses.{defaultAllowed, chainFits}
@@ -104,7 +103,3 @@ pub record Says (t w : List ℕ) (i : ℕ) (r : Made) : Type 0 where
 -- what admission leaves where a table has n rows
 pub record Leaves (t w : List ℕ) (n : ℕ) : Type 0 where
   pub worded : 0 < n → Worded t w
-
--- the set of tags of a row of kind k, whose second word is y; a member row's is not asked for
-unfoldable pub rowSet : ℕ → ℕ → ℕ
-rowSet k y = pick (eqb k kind.member) (2 ^ universal k) y

@@ -1,7 +1,7 @@
 -- Sets of tags, as the bits of a number: those that the type of a row can begin with.
 use Prim.Native.Nat.{ℕ, zero, suc, _+_, _/_, _%_, _^_, _<_, _≤_}
 use mathlib.Core.Path.{_≡_}
-use lib.ListN.{length, take}
+use lib.ListN.{length}
 use mathlib.Core.Bool.{Bool, true, false}
 use mathlib.Core.List.{List}
 use lib.Dec.{ltb, eqb}
@@ -24,11 +24,7 @@ bitOf n (suc g) = bitOf (n / 2) g
 unfoldable pub contextBit : ℕ → ℕ
 contextBit n = pick (ltb n 32) (2 ^ (32 + n)) 0
 
--- the tags of the member row at p
-unfoldable pub memberMask : List ℕ → List ℕ → ℕ → ℕ
-memberMask m t p = pick (eqb (modeAt t p) 0) (rowAt m (typeRowAt t p)) (contextBit (numberAt t p))
-
--- the same where m gives the sets of type rows
+-- the tags of the member row at p, where m gives the sets of type rows
 unfoldable pub memberSet : (ℕ → ℕ) → List ℕ → ℕ → ℕ
 memberSet m t p = pick (eqb (modeAt t p) 0) (m (typeRowAt t p)) (contextBit (numberAt t p))
 
@@ -76,11 +72,6 @@ pub record Sound (chain : ℕ) (t s m : List ℕ) : Type 0 where
   pub presence : (i : ℕ) → i < length s → kindAt t (rowAt s i) ≡ kind.member → presenceAt t (rowAt s i) ≤ 2
   pub defaults : (i : ℕ) → i < length s → defaultLegal t s i ≡ true
   pub masked : Masked chain t s m
-
--- the places of the n rows of a table, and their sets of tags, for the layers that go by them
-pub record Admits (most chain : ℕ) (t : List ℕ) (n : ℕ) (starts masks : List ℕ) : Type 0 where
-  pub places : 0 < n → take n starts ≡ rows most t
-  pub sets : 0 < n → Masked chain t (rows most t) masks
 
 -- how many rows an admitted table has; 0 where it is not admitted
 unfoldable pub rowCount : Limits → List ℕ → ℕ

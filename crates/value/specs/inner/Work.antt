@@ -5,9 +5,9 @@ use mathlib.Core.Bool.{Bool, true, false}
 use mathlib.Core.Option.{Option, none, some}
 use mathlib.Core.List.{List, []}
 use lib.ListN.{length}
-use lib.Dec.{ltb, eqb}
+use lib.Dec.{eqb}
 use Rattle.octets.specs.Pick.{pick, both, either, no, bind, isSome}
-use Rattle.octets.specs.Octets.{octet, part, same}
+use Rattle.octets.specs.Octets.{part, same}
 use Rattle.der.specs.Kind as kind
 use Rattle.der.specs.Tag.{class, number, tagOf, wrapperOctet}
 use Rattle.der.specs.Header.{insideAt}
@@ -15,10 +15,9 @@ use Rattle.der.specs.Contents.{legal}
 use Rattle.der.specs.Order.{notAbove}
 use Rattle.der.specs.declared.Inside.{Inside}
 use Rattle.rows.specs.Row.{rowAt, kindAt, typeRowAt, modeAt, numberAt, presenceAt, defaultAt}
-use Rattle.clauses.specs.Clauses.{memberPlace}
 use Rattle.types.specs.Types.{Tagging, untagged, explicit, implicit, taggingOf, Member, memberOf, Ty, typeFrom, Members}
 use Rattle.types.specs.Begins.{isMandatory}
-use Rattle.types.specs.inner.Work.{bitOf, memberMask}
+use Rattle.types.specs.inner.Work.{bitOf}
 use Rattle.table.specs.inner.Rows.{tableRows, placeAt, MemberRow, membersAfter, taggingAt, memberTypeAt}
 use Rattle.value.specs.Value.{Values, endValues, next, encoding}
 use Rattle.value.specs.Order.{rising}
@@ -39,13 +38,6 @@ upTo stop ok = pick ok (Checked.At stop) Checked.Bad
 unfoldable pub first : (ℕ → Bool) → ℕ → ℕ → ℕ
 first f zero a = a
 first f (suc k) a = let r = first f k (a + 1) in pick (f a) a r
-
--- the set of the member row at p has the tag of the octet at i, which lies before stop
-unfoldable pub marked : List ℕ → List ℕ → ℕ → List ℕ → ℕ → ℕ → Bool
-marked m t p v stop i = both (ltb i stop) (bitOf (memberMask m t p) (tagOf (octet v i)))
-
-unfoldable pub markedOf : List ℕ → List ℕ → List ℕ → ℕ → List ℕ → ℕ → ℕ → ℕ → Bool
-markedOf m t s row v stop i j = marked m t (memberPlace s row j) v stop i
 
 -- ---- octets that can begin a value
 -- tag octets of one class and number
