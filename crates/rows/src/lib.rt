@@ -1,6 +1,7 @@
 // The rows of a type table: where they start, their parts, and what their bodies are like. Reads past the end give 0.
 use der::Kind;
 ghost use mathlib.Core.Path.{_≡_};
+ghost use mathlib.Core.Bool.{true};
 ghost use Prim.Native.Nat.{_≤_, _<_, _+_, _-_, _*_};
 ghost use lib.ListN.{length, drop};
 ghost use Rattle.octets.specs.Pick.{all};
@@ -93,7 +94,8 @@ pub fn kind_at(t: &[u8], p: usize) -> u8
 
 // The row of a list's element.
 pub fn element_at(t: &[u8], p: usize) -> usize
-    ensures { λ r. ⌜ r ≡ row.elementAt (now (t .entry)) p ⌝ }
+    requires { ⌜ row.isList (row.kindAt (now t) p) ≡ true ⌝ }
+    ensures { λ r. ⌜ r ≡ row.namedAt (now (t .entry)) p ⌝ }
 {
     number_after(t, p, 1)
 }
@@ -155,7 +157,7 @@ pub fn member_default_length(t: &[u8], p: usize) -> u8
 
 pub fn member_type_row(t: &[u8], p: usize) -> usize
     requires { ⌜ WholeMember (now t) p ⌝ }
-    ensures { λ r. ⌜ r ≡ row.typeRowAt (now (t .entry)) p ⌝ }
+    ensures { λ r. ⌜ r ≡ row.namedAt (now (t .entry)) p ⌝ }
 {
     octets::wide_two(t[p + 25], t[p + 26])
 }

@@ -9,7 +9,7 @@ use lib.ListN.{length}
 use lib.Dec.{eqb}
 use Rattle.octets.specs.Pick.{pick}
 use Rattle.octets.specs.Octets.{part, same}
-use Rattle.rows.specs.Row.{rowAt, typeRowAt, presenceAt}
+use Rattle.rows.specs.Row.{rowAt, namedAt, presenceAt}
 use Rattle.der.specs.Tag.{ownOctet, implicitOctet, wrapperOctet}
 use Rattle.der.specs.Header.{insideAt}
 use Rattle.der.specs.Order.{notAbove}
@@ -161,7 +161,7 @@ module _ (f : ℕ → Bool) (n j : ℕ) (inv : first f n 0 ≡ first f (n - j) j
   first-done h = let q : n - j ≡ 0 = omega arith in first-none f j ∙ ap (λ (x : ℕ). first f x j) (sym q) ∙ sym inv
 
 pub starts-here : (chain : ℕ) (t s : List ℕ) (row : ℕ) (v : List ℕ) (stop i j : ℕ) (r : Bool)
-    → r ≡ startsHere (memberOf t (row + 1 + j) (rowAt s (row + 1 + j))) (typeFrom chain t s (typeRowAt t (rowAt s (row + 1 + j)))) v stop i
+    → r ≡ startsHere (memberOf t (row + 1 + j) (rowAt s (row + 1 + j))) (typeFrom chain t s (namedAt t (rowAt s (row + 1 + j)))) v stop i
     → r ≡ startsOf chain t s row v stop i j
 unfolding startsOf
 starts-here chain t s row v stop i j r told = told

@@ -9,7 +9,7 @@ use Rattle.octets.specs.Pick.{pick, both, no}
 use Rattle.octets.specs.Octets.{baseFrom}
 use Rattle.der.specs.Kind as kind
 use Rattle.rows.specs.Paper.{tableLimits}
-use Rattle.rows.specs.Row.{isList, typeRowAt, modeAt, presenceAt, defaultLengthAt, defaultAt}
+use Rattle.rows.specs.Row.{isList, namedAt, modeAt, presenceAt, defaultLengthAt, defaultAt}
 use Rattle.clauses.specs.Clauses.{defaultAllowed, chainFits}
 use Rattle.clauses.specs.inner.Work.{firstPass}
 use Rattle.types.specs.Types.{typeFrom}
@@ -74,7 +74,7 @@ pub record RowWords (t w : List ℕ) (i x y : ℕ) : Type 0 where
   pub chain : TypeRow t i → (k : ℕ) → chainFits k t (tableRows t) i ≡ leb (chainOf x) k
   pub small : TypeRow t i → y < 2 ^ 64
   pub tags : TypeRow t i → (k : ℕ) → chainFits k t (tableRows t) i ≡ true → (g : ℕ) → g < 64 → bitOf y g ≡ begins (typeFrom k t (tableRows t) i) g
-  pub stored : MemberRow t i → y ≡ memberSecond t (placeAt t i) (secondAt w (typeRowAt t (placeAt t i)))
+  pub stored : MemberRow t i → y ≡ memberSecond t (placeAt t i) (secondAt w (namedAt t (placeAt t i)))
 
 -- the rows from i on are done: their clauses hold, and w has their words; of each row before them w has the place
 pub record Going (t w : List ℕ) (i : ℕ) : Type 0 where

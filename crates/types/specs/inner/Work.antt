@@ -8,7 +8,7 @@ use lib.Dec.{ltb, eqb}
 use lib.Bits.{bitAnd, bitOr}
 use Rattle.octets.specs.Pick.{pick, both}
 use Rattle.der.specs.Kind as kind
-use Rattle.rows.specs.Row.{kindAt, elementAt, presenceAt, modeAt, numberAt, typeRowAt, rows, rowAt, membersAt}
+use Rattle.rows.specs.Row.{kindAt, namedAt, presenceAt, modeAt, numberAt, rows, rowAt, membersAt}
 use Rattle.clauses.specs.Clauses.{everyRow, pointsLater, memberPlace, alternativesMandatory, noImplicitChoice, defaultLegal, chainFits}
 use Rattle.clauses.specs.inner.Work.{Later}
 use Rattle.types.specs.Types.{membersFrom, typed, typeFrom}
@@ -26,7 +26,7 @@ contextBit n = pick (ltb n 32) (2 ^ (32 + n)) 0
 
 -- the tags of the member row at p, where m gives the sets of type rows
 unfoldable pub memberSet : (ℕ → ℕ) → List ℕ → ℕ → ℕ
-memberSet m t p = pick (eqb (modeAt t p) 0) (m (typeRowAt t p)) (contextBit (numberAt t p))
+memberSet m t p = pick (eqb (modeAt t p) 0) (m (namedAt t p)) (contextBit (numberAt t p))
 
 -- ---- the sets of k rows from j on, gathered from the first on; f gives a row's set
 -- none has a tag in common with those gathered before it, x among them; behind a row where `ends` holds they are gathered anew
@@ -66,7 +66,7 @@ pub record Masked (chain : ℕ) (t s m : List ℕ) : Type 0 where
 -- members after their rows, defaults, and the sets of tags
 pub record Sound (chain : ℕ) (t s m : List ℕ) : Type 0 where
   pub later : Later t s
-  pub step : (i : ℕ) → i < length s → typeFrom chain t s i ≡ typed (kindAt t (rowAt s i)) (typeFrom chain t s (elementAt t (rowAt s i))) (membersFrom (typeFrom chain t s) t s (i + 1) (membersAt t (rowAt s i)))
+  pub step : (i : ℕ) → i < length s → typeFrom chain t s i ≡ typed t s i (typeFrom chain t s (namedAt t (rowAt s i))) (membersFrom (typeFrom chain t s) t s (i + 1) (membersAt t (rowAt s i)))
   pub stands : (i : ℕ) → i < length s → (j : ℕ) → j < membersAt t (rowAt s i) → i + 1 + j < length s
   pub members : (i : ℕ) → i < length s → (j : ℕ) → j < membersAt t (rowAt s i) → kindAt t (memberPlace s i j) ≡ kind.member
   pub presence : (i : ℕ) → i < length s → kindAt t (rowAt s i) ≡ kind.member → presenceAt t (rowAt s i) ≤ 2

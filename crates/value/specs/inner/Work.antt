@@ -14,7 +14,7 @@ use Rattle.der.specs.Header.{insideAt}
 use Rattle.der.specs.Contents.{legal}
 use Rattle.der.specs.Order.{notAbove}
 use Rattle.der.specs.declared.Inside.{Inside}
-use Rattle.rows.specs.Row.{rowAt, kindAt, typeRowAt, modeAt, numberAt, presenceAt, defaultAt}
+use Rattle.rows.specs.Row.{rowAt, kindAt, namedAt, modeAt, numberAt, presenceAt, defaultAt}
 use Rattle.types.specs.Types.{Tagging, untagged, explicit, implicit, taggingOf, Member, memberOf, Ty, typeFrom, Members}
 use Rattle.types.specs.Begins.{isMandatory}
 use Rattle.types.specs.inner.Work.{bitOf}
@@ -51,7 +51,7 @@ opensBy u set o = pick (eqb u 0) (bitOf set (tagOf o)) (sameTag u o)
 -- member j of a row can begin at a place
 unfoldable pub startsOf : ℕ → List ℕ → List ℕ → ℕ → List ℕ → ℕ → ℕ → ℕ → Bool
 startsOf chain t s row v stop at j =
-    startsHere (memberOf t (row + 1 + j) (rowAt s (row + 1 + j))) (typeFrom chain t s (typeRowAt t (rowAt s (row + 1 + j)))) v stop at
+    startsHere (memberOf t (row + 1 + j) (rowAt s (row + 1 + j))) (typeFrom chain t s (namedAt t (rowAt s (row + 1 + j)))) v stop at
 
 -- ---- a default that is stored: the contents of a basic value under a tag mode
 abbrev pub within : (ℕ → ℕ → Inside) → Inside → Inside
@@ -69,7 +69,7 @@ holds v c (Inside.Of start n) = same (part v start n) c
 
 -- the member row at p has a default, and its contents stand at a place
 unfoldable pub storedDefault : List ℕ → List ℕ → ℕ → List ℕ → ℕ → ℕ → Bool
-storedDefault t s p v at end = both (eqb (presenceAt t p) 2) (holds v (defaultAt t p) (contentsAt (taggingOf (modeAt t p) (numberAt t p)) (kindAt t (rowAt s (typeRowAt t p))) v at end))
+storedDefault t s p v at end = both (eqb (presenceAt t p) 2) (holds v (defaultAt t p) (contentsAt (taggingOf (modeAt t p) (numberAt t p)) (kindAt t (rowAt s (namedAt t p))) v at end))
 
 -- ---- plain members: of a basic type, under no tag or an implicit one
 -- the n octets from start on are the contents of the default of the member row at p
@@ -131,7 +131,7 @@ isNested k mode = both (eqb k kind.choice) (no (eqb mode 1))
 pub record ChosenRow (t v : List ℕ) (row at end r : ℕ) : Type 0 where
   pub here : r < length (tableRows t)
   pub member : MemberRow t r
-  pub later : row < typeRowAt t (placeAt t r)
+  pub later : row < namedAt t (placeAt t r)
   pub same : checked (decode (memberTypeAt t r) (taggingAt t r) v at end) ≡ checked (alternativeFrom (membersAfter t row) v at end)
 
 unfoldable pub Chooses : List ℕ → List ℕ → ℕ → ℕ → ℕ → Alternative → Type 0
