@@ -5,17 +5,15 @@ use mathlib.Core.List.{List}
 use Prim.Native.Nat.{ℕ, zero, suc, _≤_, _<_, _+_}
 use native.Mathlib.Omega.{arith}
 use native.Mathlib.Numerals.{add-one}
-use borrow.Author.Tests.{ltb-true, ltb-false, leb-true, leb-false, le-leb, lt-leb}
-use lib.Dec.{ltb, leb, leb·suc-suc}
-use Rattle.octets.specs.Pick.{pick, both, all}
-use Rattle.octets.specs.Octets.{two, larger}
+use borrow.Author.Tests.{eqb-true, eqb-false, ltb-true, ltb-false, leb-true, leb-false, le-leb, lt-leb}
+use lib.Dec.{ltb, leb, eqb, leb·suc-suc}
+use Rattle.octets.specs.Pick.{pick, both, either, no, all}
+use Rattle.octets.specs.Octets.{larger}
 use Rattle.octets.proofs.Laws.{all-cong}
-use Rattle.rows.specs.Row.{kindAt, rowAt, isList, elementAt, membersAt}
-use Rattle.clauses.specs.Clauses.{memberPlace, ofMember, chainFits}
+use Rattle.rows.specs.Row.{kindAt, rowAt, isTypeKind, isGroup, isList, namedAt, membersAt}
+use Rattle.rows.proofs.KindLaws.{member-no-type, member-no-group, list-type, list-no-group, group-type, list-names, names-none}
+use Rattle.clauses.specs.Clauses.{ofMember, chainFits}
 use Rattle.clauses.specs.inner.Work.{memberType, tallest}
-
-pub type-row-is : (t s : List ℕ) (i j p r : ℕ) → p ≡ memberPlace s i j → r ≡ two t (p + 25) → r ≡ memberType t s i j
-type-row-is t s i j p r e f = rw e at f
 
 -- ---- the largest of some numbers
 pub tallest-none : (f : ℕ → ℕ) → 0 ≡ tallest f 0
@@ -53,24 +51,59 @@ all-leb f k zero = sym (le-leb 0 k (omega arith))
 all-leb f k (suc n) = rw (all-leb f k n) (both-leb (f n) (tallest f n) k)
 
 -- ---- the chains from row i on
+no-group : (t : List ℕ) (p : ℕ) → isGroup (kindAt t p) ≡ false → membersAt t p ≡ 0
+unfolding membersAt
+no-group t p e = rw e
+
+either-true : (a : Bool) → either a true ≡ true
+either-true true = refl
+either-true false = refl
+
+pub chain-none : (t s : List ℕ) (i : ℕ) → chainFits 0 t s i ≡ false
+unfolding chainFits
+chain-none t s i = refl
+
+both-end : (a : Bool) → both a true ≡ a
+both-end true = refl
+both-end false = refl
+
 module _ (t s : List ℕ) (i : ℕ) where
+  -- one step: of a list by its element, of any other row by its members
+  pub chain-step : (n : ℕ) → chainFits (suc n) t s i
+      ≡ pick (isList (kindAt t (rowAt s i))) (chainFits n t s (namedAt t (rowAt s i))) (all (ofMember (chainFits n t s) t s i) (membersAt t (rowAt s i)))
+  unfolding chainFits all
+  chain-step n = go (isList (kindAt t (rowAt s i))) refl (eqb (kindAt t (rowAt s i)) 16) refl (isGroup (kindAt t (rowAt s i))) refl
+    where
+      go : (x : Bool) → isList (kindAt t (rowAt s i)) ≡ x → (y : Bool) → eqb (kindAt t (rowAt s i)) 16 ≡ y → (z : Bool) → isGroup (kindAt t (rowAt s i)) ≡ z
+          → chainFits (suc n) t s i ≡ pick x (chainFits n t s (namedAt t (rowAt s i))) (all (ofMember (chainFits n t s) t s i) (membersAt t (rowAt s i)))
+      go true l y m z g =
+          rw (list-type (kindAt t (rowAt s i)) l, list-names t (rowAt s i) l, no-group t (rowAt s i) (list-no-group (kindAt t (rowAt s i)) l))
+          (both-end (chainFits n t s (namedAt t (rowAt s i))))
+      go false l true m z g =
+          let h = eqb-true (kindAt t (rowAt s i)) 16 m in
+          rw (member-no-type (kindAt t (rowAt s i)) h, no-group t (rowAt s i) (member-no-group (kindAt t (rowAt s i)) h))
+      go false l false m true g =
+          rw (group-type (kindAt t (rowAt s i)) g, names-none t (rowAt s i) l (eqb-false (kindAt t (rowAt s i)) 16 m))
+      go false l false m false g =
+          rw (names-none t (rowAt s i) l (eqb-false (kindAt t (rowAt s i)) 16 m), no-group t (rowAt s i) g) (either-true (no (isTypeKind (kindAt t (rowAt s i)))))
+
   one-more : (d k : ℕ) → leb d k ≡ leb (d + 1) (suc k)
   one-more d k = sym (leb·suc-suc d k) ∙ ap (λ (x : ℕ). leb x (suc k)) (sym (add-one d))
 
   -- of a list by those from its element's row on
-  pub chain-list : (d : ℕ) → isList (kindAt t (rowAt s i)) ≡ true → ((k : ℕ) → chainFits k t s (elementAt t (rowAt s i)) ≡ leb d k)
+  pub chain-list : (d : ℕ) → isList (kindAt t (rowAt s i)) ≡ true → ((k : ℕ) → chainFits k t s (namedAt t (rowAt s i)) ≡ leb d k)
       → (k : ℕ) → chainFits k t s i ≡ leb (d + 1) k
-  unfolding chainFits
-  chain-list d e below zero = sym (lt-leb (d + 1) 0 (omega arith))
-  chain-list d e below (suc k) = rw e (below k ∙ one-more d k)
+  chain-list d e below zero = chain-none t s i ∙ sym (lt-leb (d + 1) 0 (omega arith))
+  chain-list d e below (suc k) = chain-step k ∙ rw e (below k ∙ one-more d k)
 
   -- of any other row by those from its members' types on
   pub chain-members : (f : ℕ → ℕ) → isList (kindAt t (rowAt s i)) ≡ false
       → ((j : ℕ) → j < membersAt t (rowAt s i) → (k : ℕ) → chainFits k t s (memberType t s i j) ≡ leb (f j) k)
       → (k : ℕ) → chainFits k t s i ≡ leb (tallest f (membersAt t (rowAt s i)) + 1) k
-  unfolding chainFits ofMember
-  chain-members f e below zero = sym (lt-leb (tallest f (membersAt t (rowAt s i)) + 1) 0 (omega arith))
+  unfolding ofMember
+  chain-members f e below zero = chain-none t s i ∙ sym (lt-leb (tallest f (membersAt t (rowAt s i)) + 1) 0 (omega arith))
   chain-members f e below (suc k) =
-      rw e (all-cong (ofMember (chainFits k t s) t s i) (λ j. leb (f j) k) (membersAt t (rowAt s i)) (λ j l. below j l k)
+      chain-step k
+      ∙ rw e (all-cong (ofMember (chainFits k t s) t s i) (λ j. leb (f j) k) (membersAt t (rowAt s i)) (λ j l. below j l k)
       ∙ all-leb f k (membersAt t (rowAt s i))
       ∙ one-more (tallest f (membersAt t (rowAt s i))) k)

@@ -11,8 +11,8 @@ use lib.Seq.{drop-cons, getD-drop}
 use lib.Dec.{ltb, eqb}
 use Rattle.octets.specs.Pick.{pick}
 use Rattle.octets.proofs.Laws.{both-true, all-at}
-use Rattle.rows.proofs.KindLaws.{type-no-member}
-use Rattle.rows.specs.Row.{kindAt, countAt, rowAt, isTypeKind, followerKind, isGroup, isList, elementAt, typeRowAt, membersAt}
+use Rattle.rows.proofs.KindLaws.{type-no-member, member-names}
+use Rattle.rows.specs.Row.{kindAt, countAt, rowAt, isTypeKind, namesRow, namedAt, followerKind, isGroup, membersAt}
 use Rattle.clauses.specs.Clauses.{everyRow, isType, laterType, pointsLater, standing, membersStand, memberPlace}
 use Rattle.clauses.specs.inner.Work.{memberType, Later}
 
@@ -33,6 +33,11 @@ later-row t s i j e = let w = both-true (ltb i j) (isType t s j) e in (ltb-true 
 
 later : (t s : List ℕ) (i c : ℕ) → laterType t s i c ≡ true → (i < c) × (c < length s)
 later t s i c e = let w = later-row t s i c e in (w .0, type-row t s c (w .1) .0)
+
+-- a row that names one names a later row of a type
+pub points-named : (t s : List ℕ) (i : ℕ) → namesRow t (rowAt s i) ≡ true → pointsLater t s i ≡ true → laterType t s i (namedAt t (rowAt s i)) ≡ true
+unfolding pointsLater
+points-named t s i k e = rw k at e
 
 -- as many rows follow as are due
 stand-due : (t : List ℕ) (ps : List ℕ) (k due j : ℕ) → standing t k due ps ≡ true → j < due → (j < length ps) × (kindAt t (rowAt ps j) ≡ k)
@@ -102,19 +107,14 @@ module _ (t s : List ℕ) (stands : membersStand t s ≡ true) where
       (omega arith, ap (λ (x : ℕ). kindAt t (getD s x 0)) (sym q) ∙ ap (kindAt t) (sym (getD-drop (suc i) s j 0)) ∙ w .1)
 
 module _ (t s : List ℕ) (points : everyRow (pointsLater t s) s ≡ true) (stands : membersStand t s ≡ true) where
-  list-row : (i : ℕ) → i < length s → isList (kindAt t (rowAt s i)) ≡ true → laterType t s i (elementAt t (rowAt s i)) ≡ true
-  unfolding pointsLater
-  list-row i h k = rw k at (all-at (pointsLater t s) (length s) i points h)
-
-  member-row : (i : ℕ) → i < length s → kindAt t (rowAt s i) ≡ 16 → laterType t s i (typeRowAt t (rowAt s i)) ≡ true
-  unfolding pointsLater isList
-  member-row i h k = rw k at (all-at (pointsLater t s) (length s) i points h)
+  named-row : (i : ℕ) → i < length s → namesRow t (rowAt s i) ≡ true → laterType t s i (namedAt t (rowAt s i)) ≡ true
+  named-row i h k = points-named t s i k (all-at (pointsLater t s) (length s) i points h)
 
   pub is-later : Later t s
   is-later = record {
-    of-list = λ i h k. later t s i (elementAt t (rowAt s i)) (list-row i h k);
+    of-row = λ i h k. later t s i (namedAt t (rowAt s i)) (named-row i h k);
     of-member = λ i h j l.
         let f = member-follows t s stands i h j l in
-        let w = later t s (i + 1 + j) (memberType t s i j) (member-row (i + 1 + j) (f .0) (f .1)) in
+        let w = later t s (i + 1 + j) (memberType t s i j) (named-row (i + 1 + j) (f .0) (member-names t (memberPlace s i j) (f .1))) in
         (omega arith, w .1);
   }

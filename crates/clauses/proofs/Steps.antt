@@ -3,13 +3,10 @@ use mathlib.Core.Path.{_≡_, sym, _∙_}
 use mathlib.Core.Bool.{Bool, true, false, not}
 use mathlib.Core.List.{List, _∷_}
 use Prim.Native.Nat.{ℕ, _≤_, _<_, _+_, _-_, _*_}
-use native.Mathlib.Omega.{arith}
 use borrow.Author.Tests.{not-true, not-false}
-use lib.ListN.{length}
 use Rattle.octets.specs.Text.{within}
-use Rattle.octets.proofs.Laws.{octet-past}
 use Rattle.der.specs.Contents.{legal}
-use Rattle.clauses.specs.Clauses.{memberPlace, defaultAllowed}
+use Rattle.clauses.specs.Clauses.{defaultAllowed}
 
 pub allowed-not : (k : ℕ) (c : List ℕ) (r : Bool) → r ≡ within 1 3 k → not r ≡ true → false ≡ defaultAllowed k c
 unfolding defaultAllowed
@@ -18,10 +15,3 @@ allowed-not k c r e h = rw (sym e ∙ not-true r h)
 pub allowed-is : (k : ℕ) (c : List ℕ) (r u : Bool) → r ≡ within 1 3 k → not r ≡ false → u ≡ legal k c → u ≡ defaultAllowed k c
 unfolding defaultAllowed
 allowed-is k c r u e h q = rw (sym e ∙ not-false r h) q
-
--- ---- members
-pub member-past : (s : List ℕ) (i j : ℕ) → length s ≤ i → 0 ≡ memberPlace s i j
-member-past s i j h = octet-past s (i + 1 + j) (omega arith)
-
-pub member-end : (s : List ℕ) (i j : ℕ) → length s - i ≤ j → 0 ≡ memberPlace s i j
-member-end s i j h = octet-past s (i + 1 + j) (omega arith)

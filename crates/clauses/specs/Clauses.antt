@@ -1,6 +1,6 @@
 -- Type table: "Admitted", a test for each of its clauses but the one on tags. t is the table, s its rows.
 use Prim.Native.Nat.{ℕ, zero, suc, _+_, _-_}
-use mathlib.Core.Bool.{Bool, true, false}
+use mathlib.Core.Bool.{Bool, false}
 use mathlib.Core.List.{List, [], _∷_}
 use lib.ListN.{length}
 use lib.Dec.{ltb, eqb}
@@ -9,7 +9,7 @@ use Rattle.octets.specs.Octets.{same}
 use Rattle.octets.specs.Text.{within}
 use Rattle.der.specs.Kind as kind
 use Rattle.der.specs.Contents.{legal}
-use Rattle.rows.specs.Row.{nameAt, kindAt, elementAt, typeRowAt, modeAt, presenceAt, defaultLengthAt, defaultAt, isTypeKind, isList, rowAt, followerKind, membersAt}
+use Rattle.rows.specs.Row.{nameAt, kindAt, modeAt, presenceAt, defaultLengthAt, defaultAt, isTypeKind, namesRow, namedAt, rowAt, followerKind, membersAt}
 use Rattle.rows.specs.Body.{rowFormed}
 
 -- a test of every row, by its number
@@ -31,15 +31,12 @@ isType t s i = both (ltb i (length s)) (isTypeKind (kindAt t (rowAt s i)))
 unfoldable pub firstIsType : List ℕ → List ℕ → Bool
 firstIsType t s = isType t s 0
 
--- "row numbers point to later rows of types": row i names row j
+-- "row numbers point to later rows of types": row j is a type's, and later than row i
 unfoldable pub laterType : List ℕ → List ℕ → ℕ → ℕ → Bool
 laterType t s i j = both (ltb i j) (isType t s j)
 
 unfoldable pub pointsLater : List ℕ → List ℕ → ℕ → Bool
-pointsLater t s i =
-    pick (isList (kindAt t (rowAt s i))) (laterType t s i (elementAt t (rowAt s i)))
-    (pick (eqb (kindAt t (rowAt s i)) kind.member) (laterType t s i (typeRowAt t (rowAt s i)))
-    true)
+pointsLater t s i = either (no (namesRow t (rowAt s i))) (laterType t s i (namedAt t (rowAt s i)))
 
 -- "member rows stand directly after their SEQUENCE or CHOICE and nowhere else": so many rows of kind k are still due before these rows;
 -- where none is due, a row is a type's, and the rows that follow it are due
@@ -78,7 +75,7 @@ alternativesMandatory t s i = either (no (eqb (kindAt t (rowAt s i)) kind.choice
 
 -- "no implicit tag on a CHOICE": `typeKind` is the kind of member row i's type
 abbrev pub typeKind : List ℕ → List ℕ → ℕ → ℕ
-typeKind t s i = kindAt t (rowAt s (typeRowAt t (rowAt s i)))
+typeKind t s i = kindAt t (rowAt s (namedAt t (rowAt s i)))
 
 unfoldable pub noImplicitChoice : List ℕ → List ℕ → ℕ → Bool
 noImplicitChoice t s i =
@@ -95,13 +92,13 @@ defaultLegal t s i =
     (pick (eqb (presenceAt t (rowAt s i)) 2) (defaultAllowed (typeKind t s i) (defaultAt t (rowAt s i))) (eqb (defaultLengthAt t (rowAt s i)) 0))
 
 -- "A chain of rows, each naming the next as its element or as its member's type, has at most 16 type rows (member rows not counted)."
--- Each chain from row i on has at most n type rows
+-- Each chain from row i on has at most n type rows: from the row that it names on, and from those that its members name; a row that is no type's begins none
 unfoldable pub ofMember : (ℕ → Bool) → List ℕ → List ℕ → ℕ → ℕ → Bool
-ofMember f t s i j = f (typeRowAt t (memberPlace s i j))
+ofMember f t s i j = f (namedAt t (memberPlace s i j))
 
 unfoldable pub chainFits : ℕ → List ℕ → List ℕ → ℕ → Bool
 chainFits zero t s i = false
 chainFits (suc n) t s i =
-    let element = chainFits n t s (elementAt t (rowAt s i)) in
-    pick (isList (kindAt t (rowAt s i))) element
-    (all (ofMember (chainFits n t s) t s i) (membersAt t (rowAt s i)))
+    let own = chainFits n t s (namedAt t (rowAt s i)) in
+    let members = all (ofMember (chainFits n t s) t s i) (membersAt t (rowAt s i)) in
+    either (no (isTypeKind (kindAt t (rowAt s i)))) (both (either (no (namesRow t (rowAt s i))) own) members)

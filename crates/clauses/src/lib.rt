@@ -121,27 +121,7 @@ pub fn scan(t: &[u8], w: &mut [u64; 256]) -> usize
     n
 }
 
-// ---- members
-// The place of member j of row i.
-pub fn member_place(s: &[usize], i: usize, j: usize) -> usize
-    ensures { λ r. ⌜ r ≡ clause.memberPlace (now (s .entry)) i j ⌝ }
-{
-    if s.len() <= i {
-        return 0;
-    }
-    if s.len() - i <= j {
-        return 0;
-    }
-    rows::row_at(s, i + 1 + j)
-}
-
-// The row of member j's type.
-pub fn member_type(t: &[u8], s: &[usize], i: usize, j: usize) -> usize
-    ensures { λ r. ⌜ r ≡ work.memberType (now (t .entry)) (now (s .entry)) i j ⌝ }
-{
-    rows::type_row_at(t, member_place(s, i, j))
-}
-
+// ---- defaults
 // Whether a default of these contents is allowed on a kind.
 pub fn default_allowed(k: u8, c: &[u8]) -> bool
     ensures { λ r. ⌜ r ≡ clause.defaultAllowed k (now (c .entry)) ⌝ }

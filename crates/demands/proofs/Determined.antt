@@ -8,7 +8,8 @@ use lib.Dec.{leb, eqb}
 use Rattle.octets.specs.Pick.{pick, either}
 use Rattle.octets.specs.Octets.{same}
 use Rattle.rows.specs.Limits.{Limits}
-use Rattle.rows.specs.Row.{kindAt, elementAt, typeRowAt, isList, rows, rowAt, membersAt}
+use Rattle.rows.specs.Row.{namedAt, rows, rowAt, membersAt}
+use Rattle.types.proofs.TypeCases.{typed-cases}
 use Rattle.types.specs.Types.{Tagging, Presence, mandatory, optional, default, Member, Ty, basic, sequence, choice, listOf}
 use Rattle.types.specs.Types.{Members, noMore, more, memberOf, membersFrom, typed, typeFrom, typeAt}
 use Rattle.value.specs.Value.{spotOf, Value, leaf, fields, chosen, elements, Fields, endFields, present, absent, Values, endValues, next}
@@ -47,23 +48,17 @@ unfoldable mutual
 members-rowed : (t s : List ℕ) (f : ℕ → Ty) → ((i : ℕ) → Rowed t s (f i)) → (n i : ℕ) → RowedIn t s (membersFrom f t s i n)
 unfolding Rowed membersFrom memberOf
 members-rowed t s f types zero i = tt
-members-rowed t s f types (suc n) i = (refl, (types (typeRowAt t (rowAt s i)), members-rowed t s f types n (i + 1)))
+members-rowed t s f types (suc n) i = (refl, (types (namedAt t (rowAt s i)), members-rowed t s f types n (i + 1)))
 
-typed-rowed : (t s : List ℕ) (k : ℕ) (ty : Ty) (ms : Members) → Rowed t s ty → RowedIn t s ms → Rowed t s (typed k ty ms)
+typed-rowed : (t s : List ℕ) (i : ℕ) (ty : Ty) (ms : Members) → Rowed t s ty → RowedIn t s ms → Rowed t s (typed t s i ty ms)
 unfolding Rowed
-typed-rowed t s k ty ms element parts = go (eqb k 12) (eqb k 13) (isList k)
-  where
-    go : (x y z : Bool) → Rowed t s (pick x (sequence ms) (pick y (choice ms) (pick z (listOf k ty) (basic k))))
-    go true y z = parts
-    go false true z = parts
-    go false false true = element
-    go false false false = tt
+typed-rowed t s i ty ms element parts = typed-cases t s i ty ms (λ (y : Ty). Rowed t s y) (λ _. parts) (λ _. parts) (λ _. element) (λ _ _ _. tt)
 
 type-rowed : (t s : List ℕ) (n i : ℕ) → Rowed t s (typeFrom n t s i)
 unfolding Rowed typeFrom
 type-rowed t s zero i = tt
 type-rowed t s (suc n) i =
-    typed-rowed t s (kindAt t (rowAt s i)) _ _ (type-rowed t s n (elementAt t (rowAt s i)))
+    typed-rowed t s i _ _ (type-rowed t s n (namedAt t (rowAt s i)))
     (members-rowed t s (typeFrom n t s) (λ j. type-rowed t s n j) (membersAt t (rowAt s i)) (i + 1))
 
 -- ---- each member that a decoded value lacks, at any depth, is that of its own row

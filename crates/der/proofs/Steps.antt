@@ -10,7 +10,7 @@ use lib.Bits.{bitAnd, and-mask}
 use Rattle.octets.specs.Pick.{pick}
 use Rattle.octets.specs.Octets.{octet, two}
 use Rattle.der.specs.Tag.{class, constructed, number, split, tagOf, context, universalText, universal}
-use Rattle.der.specs.Header.{longLength, lengthAt, sized, headerAt, tagged, insideAt, anyTag}
+use Rattle.der.specs.Header.{longLength, lengthAt, sized, headerAt, tagged, insideAt}
 use Rattle.der.specs.inner.Answers.{behind}
 use Rattle.der.specs.declared.Tag.{Tag}
 use Rattle.der.specs.declared.Length.{Length}
@@ -184,23 +184,3 @@ module _ (g : ℕ) (s : List ℕ) (at end u : ℕ) (wide : u ≡ octet s at) whe
 
   pub within-usable : u ≡ g → number g < 31 → number (octet s at) < 31
   within-usable h l = rw (sym wide ∙ h) l
-
-module _ (s : List ℕ) (at end : ℕ) (h : Header) (read : h ≡ headerAt s at end) where
-  pub body-misfit : (g : ℕ) → h ≡ Header.Misfit → Inside.Misfit ≡ insideAt g s at end
-  unfolding insideAt
-  body-misfit g e = sym (ap (tagged g) (sym read ∙ e))
-
-  pub any-misfit : h ≡ Header.Misfit → Inside.Misfit ≡ anyTag (headerAt s at end)
-  any-misfit e = sym (ap anyTag (sym read ∙ e))
-
-  module _ (o start n : ℕ) (e : h ≡ Header.Found o start n) where
-    pub body-other : (g w : ℕ) → w ≡ o → (w ≡ g → ⊥) → Inside.Misfit ≡ insideAt g s at end
-    unfolding insideAt
-    body-other g w q f = sym (ap (tagged g) (sym read ∙ e) ∙ rw (ne-eqb o g (λ z. f (q ∙ z))))
-
-    pub body-is : (g w : ℕ) → w ≡ o → w ≡ g → Inside.Of start n ≡ insideAt g s at end
-    unfolding insideAt
-    body-is g w q f = sym (ap (tagged g) (sym read ∙ e) ∙ rw (eq-eqb o g (sym q ∙ f)))
-
-    pub any-is : Inside.Of start n ≡ anyTag (headerAt s at end)
-    any-is = sym (ap anyTag (sym read ∙ e))

@@ -336,29 +336,6 @@ pub fn open_within(tag: usize, s: &[u8], at: usize, end: usize) -> Inside
     open_seen(s, at, end)
 }
 
-// The contents at a place behind a tag octet, before end.
-pub fn open(tag: usize, s: &[u8], at: usize, end: usize) -> Inside
-    ensures { λ r. ⌜ r ≡ header.insideAt tag (now (s .entry)) at end ⌝ }
-{
-    let Header::Found(first, start, n) = read_header(s, at, end) else {
-        return Inside::Misfit;
-    };
-    if octets::wide(first) != tag {
-        return Inside::Misfit;
-    }
-    Inside::Of(start, n)
-}
-
-// The same behind any tag octet.
-pub fn open_any(s: &[u8], at: usize, end: usize) -> Inside
-    ensures { λ r. ⌜ r ≡ header.anyTag (header.headerAt (now (s .entry)) at end) ⌝ }
-{
-    let Header::Found(_, start, n) = read_header(s, at, end) else {
-        return Inside::Misfit;
-    };
-    Inside::Of(start, n)
-}
-
 // ---- contents of the basic kinds
 fn legal_boolean(c: &[u8]) -> bool
     ensures { λ r. ⌜ r ≡ contents.legalBoolean (now (c .entry)) ⌝ }

@@ -14,9 +14,11 @@ use Rattle.octets.proofs.Laws.{both-true}
 use Rattle.der.specs.Contents.{legal, legalBoolean}
 use Rattle.der.proofs.Laws.{integer-octets, legal-boolean, legal-integer, legal-enumerated}
 use Rattle.rows.specs.Paper.{tableLimits}
-use Rattle.rows.specs.Row.{nameAt, kindAt, elementAt, typeRowAt, presenceAt, defaultLengthAt, defaultAt, isList, rowAt, membersAt}
+use Rattle.rows.specs.Row.{nameAt, kindAt, namedAt, presenceAt, defaultLengthAt, defaultAt, rowAt, membersAt}
 use Rattle.clauses.specs.Clauses.{memberPlace, defaultAllowed, defaultLegal}
-use Rattle.types.specs.Types.{mandatory, optional, default, Ty, basic, sequence, choice, listOf, Members, noMore, more, unfilled, presenceOf, memberOf, membersFrom, typeFrom}
+use Rattle.rows.proofs.KindLaws.{list-names}
+use Rattle.types.proofs.TypeCases.{typed-cases}
+use Rattle.types.specs.Types.{typed, mandatory, optional, default, Ty, basic, sequence, choice, listOf, Members, noMore, more, unfilled, presenceOf, memberOf, membersFrom, typeFrom}
 use Rattle.types.specs.Admitted.{admitted}
 use Rattle.types.specs.inner.Work.{Sound}
 use Rattle.types.proofs.NameLaws.{unfilled-differ}
@@ -95,7 +97,7 @@ module _ (chain : ℕ) (t s m : List ℕ) (ok : Sound chain t s m) (names : Name
 
       allowed : eqb (presenceAt t (rowAt s i)) 2 ≡ true → length (defaultAt t (rowAt s i)) ≤ 8
       allowed e =
-          let k = kindAt t (rowAt s (typeRowAt t (rowAt s i))) in
+          let k = kindAt t (rowAt s (namedAt t (rowAt s i))) in
           default-short k (defaultAt t (rowAt s i)) (legal-default (defaultAllowed k (defaultAt t (rowAt s i))) (eqb (defaultLengthAt t (rowAt s i)) 0) e (ok .defaults i h))
 
       go : (x : Bool) → eqb (presenceAt t (rowAt s i)) 0 ≡ x → (y : Bool) → eqb (presenceAt t (rowAt s i)) 1 ≡ y → length (contentsOf (pick x mandatory (pick y optional (default (defaultAt t (rowAt s i)))))) ≤ 8
@@ -118,19 +120,19 @@ module _ (chain : ℕ) (t s m : List ℕ) (ok : Sound chain t s m) (names : Name
 
   -- k members from row a on
   fine-rows : (f : ℕ → Ty) → ((i : ℕ) → i < length s → Fine (f i)) → (k a : ℕ)
-      → ((j : ℕ) → j < k → (a + j < length s) × (kindAt t (rowAt s (a + j)) ≡ 16) × (typeRowAt t (rowAt s (a + j)) < length s))
+      → ((j : ℕ) → j < k → (a + j < length s) × (kindAt t (rowAt s (a + j)) ≡ 16) × (namedAt t (rowAt s (a + j)) < length s))
       → ((i j : ℕ) → i < j → j < k → same (unfilled (nameAt t (rowAt s (a + j)))) (unfilled (nameAt t (rowAt s (a + i)))) ≡ false) → FineIn (membersFrom f t s a k)
   unfolding Fine membersFrom memberOf
   fine-rows f fine zero a rows apart = tt
   fine-rows f fine (suc k) a rows apart =
       let z : a + 0 ≡ a = omega arith in
-      let first = subst (λ (y : ℕ). (y < length s) × (kindAt t (rowAt s y) ≡ 16) × (typeRowAt t (rowAt s y) < length s)) z (rows 0 (omega arith)) in (
+      let first = subst (λ (y : ℕ). (y < length s) × (kindAt t (rowAt s y) ≡ 16) × (namedAt t (rowAt s y) < length s)) z (rows 0 (omega arith)) in (
         row-short a (first .0) (first .1),
         (
           fresh-rows f _ k (a + 1) (λ j d. shift (λ (y : ℕ). same (unfilled (nameAt t (rowAt s y))) (unfilled (nameAt t (rowAt s a))) ≡ false) j (subst (λ (y : ℕ). same (unfilled (nameAt t (rowAt s (a + suc j)))) (unfilled (nameAt t (rowAt s y))) ≡ false) z (apart 0 (suc j) (omega arith) (omega arith)))),
           (
-            fine (typeRowAt t (rowAt s a)) (first .2),
-            fine-rows f fine k (a + 1) (λ j d. shift (λ (y : ℕ). (y < length s) × (kindAt t (rowAt s y) ≡ 16) × (typeRowAt t (rowAt s y) < length s)) j (rows (suc j) (omega arith)))
+            fine (namedAt t (rowAt s a)) (first .2),
+            fine-rows f fine k (a + 1) (λ j d. shift (λ (y : ℕ). (y < length s) × (kindAt t (rowAt s y) ≡ 16) × (namedAt t (rowAt s y) < length s)) j (rows (suc j) (omega arith)))
                 (λ i j l d. shift (λ (y : ℕ). same (unfilled (nameAt t (rowAt s y))) (unfilled (nameAt t (rowAt s (a + 1 + i)))) ≡ false) j (shift (λ (y : ℕ). same (unfilled (nameAt t (rowAt s (a + suc j)))) (unfilled (nameAt t (rowAt s y))) ≡ false) i (apart (suc i) (suc j) (omega arith) (omega arith)))),
           ),
         ),
@@ -140,17 +142,20 @@ module _ (chain : ℕ) (t s m : List ℕ) (ok : Sound chain t s m) (names : Name
       shift P j w = let e : a + suc j ≡ a + 1 + j = omega arith in subst P e w
 
   -- the type of a row
+  fine-typed : (n i : ℕ) → i < length s → ((j : ℕ) → j < length s → Fine (typeFrom n t s j))
+      → Fine (typed t s i (typeFrom n t s (namedAt t (rowAt s i))) (membersFrom (typeFrom n t s) t s (i + 1) (membersAt t (rowAt s i))))
+  unfolding Fine
+  fine-typed n i h f =
+      typed-cases t s i (typeFrom n t s (namedAt t (rowAt s i))) (membersFrom (typeFrom n t s) t s (i + 1) (membersAt t (rowAt s i))) (λ (y : Ty). Fine y)
+      (λ _. members) (λ _. members) (λ e. f (namedAt t (rowAt s i)) (ok .later .of-row i h (list-names t (rowAt s i) e) .1)) (λ _ _ _. tt)
+    where
+      members : FineIn (membersFrom (typeFrom n t s) t s (i + 1) (membersAt t (rowAt s i)))
+      members = fine-rows (typeFrom n t s) f (membersAt t (rowAt s i)) (i + 1) (λ j d. (ok .stands i h j d, ok .members i h j d, ok .later .of-member i h j d .1)) (λ a b l d. names .differ i h a b l d)
+
   pub fine-type : (n i : ℕ) → i < length s → Fine (typeFrom n t s i)
   unfolding Fine typeFrom
   fine-type zero i h = tt
-  fine-type (suc n) i h = go (eqb (kindAt t (rowAt s i)) 12) (eqb (kindAt t (rowAt s i)) 13) (isList (kindAt t (rowAt s i))) refl (λ j d. fine-type n j d)
-    where
-      go : (x y z : Bool) → isList (kindAt t (rowAt s i)) ≡ z → ((j : ℕ) → j < length s → Fine (typeFrom n t s j))
-          → Fine (pick x (sequence (membersFrom (typeFrom n t s) t s (i + 1) (membersAt t (rowAt s i)))) (pick y (choice (membersFrom (typeFrom n t s) t s (i + 1) (membersAt t (rowAt s i)))) (pick z (listOf (kindAt t (rowAt s i)) (typeFrom n t s (elementAt t (rowAt s i)))) (basic (kindAt t (rowAt s i))))))
-      go true y z e f = fine-rows (typeFrom n t s) f (membersAt t (rowAt s i)) (i + 1) (λ j d. (ok .stands i h j d, ok .members i h j d, ok .later .of-member i h j d .1)) (λ a b l d. names .differ i h a b l d)
-      go false true z e f = fine-rows (typeFrom n t s) f (membersAt t (rowAt s i)) (i + 1) (λ j d. (ok .stands i h j d, ok .members i h j d, ok .later .of-member i h j d .1)) (λ a b l d. names .differ i h a b l d)
-      go false false true e f = f (elementAt t (rowAt s i)) (ok .later .of-list i h e .1)
-      go false false false e f = tt
+  fine-type (suc n) i h = fine-typed n i h (λ j d. fine-type n j d)
 
 -- the type of row 0 of an admitted table
 pub fine-first : (t w : List ℕ) → Worded t w → admitted tableLimits t ≡ true → Fine (typeAt t 0)

@@ -4,7 +4,7 @@ use mathlib.Core.Bool.{Bool, true, false}
 use mathlib.Core.List.{List, [], _∷_}
 use Prim.Native.Nat.{ℕ, zero, suc, _≤_, _<_, _+_, _-_, _*_}
 use native.Mathlib.Omega.{arith}
-use borrow.Author.Tests.{leb-true, ltb-true, ltb-false, ne-eqb}
+use borrow.Author.Tests.{leb-true, ltb-true, ltb-false}
 use lib.Dec.{ltb, leb, eqb}
 use lib.ListN.{length}
 use Rattle.octets.specs.Pick.{pick, both, all}
@@ -126,16 +126,6 @@ highest-least n (b ∷ s) = let r = highest-least (larger n b) s in omega (arith
 pub highest-cons : (n b : ℕ) (s : List ℕ) → (highestFrom n (b ∷ s) ≡ highestFrom (larger n b) s) × (b ≤ highestFrom n (b ∷ s))
 unfolding highestFrom
 highest-cons n b s = let r = highest-least (larger n b) s in (refl, omega (arith, larger-least n b .1))
-
--- no octet is above 0
-pub highest-nought : (s : List ℕ) → eqb (highestFrom 0 s) 0 ≡ every (λ b. eqb b 0) s
-unfolding highestFrom every larger
-highest-nought [] = refl
-highest-nought (zero ∷ s) = highest-nought s
-highest-nought (suc b ∷ s) =
-    let most : highestFrom 0 (suc b ∷ s) ≡ 0 → ⊥ = λ e. omega (arith, highest-cons 0 (suc b) s .1) in
-    let here : suc b ≡ 0 → ⊥ = λ e. omega arith in
-    ne-eqb _ _ most ∙ rw (ne-eqb (suc b) 0 here)
 
 -- ---- a test of every octet, by places
 pub every-is : (f : ℕ → Bool) (s : List ℕ) → ((i : ℕ) → i < length s → f (octet s i) ≡ true) → every f s ≡ true

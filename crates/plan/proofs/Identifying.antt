@@ -12,10 +12,11 @@ use Rattle.octets.specs.Pick.{pick, both, consed}
 use Rattle.octets.specs.Octets.{part}
 use Rattle.der.specs.Kind as kind
 use Rattle.rows.specs.Paper.{tableLimits}
-use Rattle.rows.specs.Row.{kindAt, elementAt, typeRowAt, membersAt, isList, rowAt}
+use Rattle.rows.specs.Row.{kindAt, namedAt, membersAt, isList, rowAt}
 use Rattle.types.specs.Types.{Member, memberOf, Ty, more, membersFrom, typeFrom}
 use Rattle.types.specs.Admitted.{admitted}
-use Rattle.types.proofs.TypeLaws.{member-fits, element-fits}
+use Rattle.rows.proofs.KindLaws.{list-type, list-names}
+use Rattle.types.proofs.TypeLaws.{member-fits, named-fits}
 use Rattle.table.specs.inner.Rows.{tableRows, placeAt, typeAt, membersAfter, memberAt, memberTypeAt}
 use Rattle.table.specs.inner.Words.{Worded}
 use Rattle.value.specs.inner.Work.{first}
@@ -47,7 +48,7 @@ module _ (f : ℕ → Ty) (t s : List ℕ) (row : ℕ) (x : List ℕ) where
   member-of j = memberOf t (row + 1 + j) (rowAt s (row + 1 + j))
 
   abbrev type-of : ℕ → Ty
-  type-of j = f (typeRowAt t (rowAt s (row + 1 + j)))
+  type-of j = f (namedAt t (rowAt s (row + 1 + j)))
 
   names-from : (k a j : ℕ) → a ≤ j → j < a + k → namedOf t s row x j ≡ true → ((i : ℕ) → a ≤ i → i < a + k → (i ≡ j → ⊥) → namedOf t s row x i ≡ false)
       → Names x (membersFrom f t s (row + 1 + a) k) (j - a) (member-of j) (type-of j)
@@ -151,14 +152,14 @@ module _ (t w : List ℕ) (ok : Worded t w) (ad : admitted tableLimits t ≡ tru
       none-under : membersAt t (placeAt t row) ≤ i₀ → underMembers (name x) (membersAfter t row) ≡ none
       none-under h = sym (under-steps.name-none (tableLimits .chain) t (tableRows t) row r a b (placeAt t row) (membersAt t (placeAt t row)) i₀ refl refl refl h)
 
-      some-under : i₀ < membersAt t (placeAt t row) → underMembers (name x) (membersAfter t row) ≡ some (ofType (typeAt t (typeRowAt t (placeAt t (row + 1 + i₀)))))
-      some-under h = sym (under-steps.name-found (tableLimits .chain) t (tableRows t) row r a b (placeAt t row) (membersAt t (placeAt t row)) i₀ refl refl refl h (typeRowAt t (placeAt t (row + 1 + i₀))) refl)
+      some-under : i₀ < membersAt t (placeAt t row) → underMembers (name x) (membersAfter t row) ≡ some (ofType (typeAt t (namedAt t (placeAt t (row + 1 + i₀)))))
+      some-under h = sym (under-steps.name-found (tableLimits .chain) t (tableRows t) row r a b (placeAt t row) (membersAt t (placeAt t row)) i₀ refl refl refl h (namedAt t (placeAt t (row + 1 + i₀))) refl)
 
-      begins-name : (s : ℕ) → Fits t row s row i₀ (name x) (typeRowAt t (placeAt t (row + 1 + i₀))) → (is : List Id) → idsAt r k ≡ some is → Found t r row s row i₀ (typeRowAt t (placeAt t (row + 1 + i₀))) next is
+      begins-name : (s : ℕ) → Fits t row s row i₀ (name x) (namedAt t (placeAt t (row + 1 + i₀))) → (is : List Id) → idsAt r k ≡ some is → Found t r row s row i₀ (namedAt t (placeAt t (row + 1 + i₀))) next is
       begins-name s fits is e = let z = name-step r k step told is e a b next is-name in record { i = name x; js = z .0; whole = z .1; rest = z .2; fits = fits }
 
-      onward-name : (s : ℕ) → i₀ < membersAt t (placeAt t row) → under (name x) (ofType (typeAt t row)) ≡ underMembers (name x) (membersAfter t row) → Fits t row s row i₀ (name x) (typeRowAt t (placeAt t (row + 1 + i₀)))
-          → Onward t r k row s row i₀ (typeRowAt t (placeAt t (row + 1 + i₀))) next
+      onward-name : (s : ℕ) → i₀ < membersAt t (placeAt t row) → under (name x) (ofType (typeAt t row)) ≡ underMembers (name x) (membersAfter t row) → Fits t row s row i₀ (name x) (namedAt t (placeAt t (row + 1 + i₀)))
+          → Onward t r k row s row i₀ (namedAt t (placeAt t (row + 1 + i₀))) next
       unfolding NamesMember
       onward-name s low u fits =
           let z = name-rises r k step rising a b next is-name in
@@ -168,7 +169,7 @@ module _ (t w : List ℕ) (ok : Worded t w) (ad : admitted tableLimits t ≡ tru
             rises = z .0;
             ends = z .1;
             chain = λ c f. member-fits t (tableRows t) row c f i₀ low;
-            leads = leads-some r k step told (ofType (typeAt t row)) (name x) next read-name (ofType (typeAt t (typeRowAt t (placeAt t (row + 1 + i₀))))) (u ∙ some-under low);
+            leads = leads-some r k step told (ofType (typeAt t row)) (name x) next read-name (ofType (typeAt t (namedAt t (placeAt t (row + 1 + i₀))))) (u ∙ some-under low);
             begins = found-begins t r k row s row i₀ _ next step told (name x) read-name (begins-name s fits);
           }
 
@@ -177,14 +178,14 @@ module _ (t w : List ℕ) (ok : Worded t w) (ad : admitted tableLimits t ≡ tru
       name-plans p e = subst (PlannedAs t r k row) (sym e) (go (leb (membersAt t (placeAt t row)) i₀) refl (eqb (kindAt t (placeAt t row)) kind.sequence) refl (eqb (kindAt t (placeAt t row)) kind.choice) refl)
         where
           to : ℕ
-          to = typeRowAt t (placeAt t (row + 1 + i₀))
+          to = namedAt t (placeAt t (row + 1 + i₀))
 
           nothing : (u v : Bool) → eqb (kindAt t (placeAt t row)) kind.sequence ≡ u → eqb (kindAt t (placeAt t row)) kind.choice ≡ v → pick u (underMembers (name x) (membersAfter t row)) (pick v (underMembers (name x) (membersAfter t row)) none) ≡ none
               → along (idsAt r k) (some (ofType (typeAt t row))) ≡ none
           nothing u v p q f = leads-none r k step told (ofType (typeAt t row)) (name x) next read-name (under-name t w row ok at x u v p q ∙ f)
 
           go : (m : Bool) → leb (membersAt t (placeAt t row)) i₀ ≡ m → (u : Bool) → eqb (kindAt t (placeAt t row)) kind.sequence ≡ u → (v : Bool) → eqb (kindAt t (placeAt t row)) kind.choice ≡ v
-              → PlannedAs t r k row (pick m Planning.No (pick u (Planning.To sort.member row i₀ (typeRowAt t (placeAt t (row + 1 + i₀))) next) (pick v (Planning.To sort.alternative row i₀ (typeRowAt t (placeAt t (row + 1 + i₀))) next) Planning.No)))
+              → PlannedAs t r k row (pick m Planning.No (pick u (Planning.To sort.member row i₀ (namedAt t (placeAt t (row + 1 + i₀))) next) (pick v (Planning.To sort.alternative row i₀ (namedAt t (placeAt t (row + 1 + i₀))) next) Planning.No)))
           go true h u p v q = nothing u v p q (none-of u v (none-under (leb-true _ _ h)))
             where
               none-of : (u v : Bool) → underMembers (name x) (membersAfter t row) ≡ none → pick u (underMembers (name x) (membersAfter t row)) (pick v (underMembers (name x) (membersAfter t row)) none) ≡ none
@@ -202,21 +203,21 @@ module _ (t w : List ℕ) (ok : Worded t w) (ad : admitted tableLimits t ≡ tru
 
     -- ---- an index of a list
     abbrev element : ℕ
-    element = elementAt t (placeAt t row)
+    element = namedAt t (placeAt t row)
 
-    module _ (s n : ℕ) (i : Index) (next : ℕ) (read : reportIdStep r step ≡ consed (index i) (idsAt r next)) (leads-to : indexed i (typeAt t (elementAt t (placeAt t row))) ≡ ofType (typeAt t (elementAt t (placeAt t row)))) (up : k < next) (ends : next ≤ length r + 1)
-        (begins : isList (kindAt t (placeAt t row)) ≡ true → (is : List Id) → idsAt r k ≡ some is → Found t r row s n 0 (elementAt t (placeAt t row)) next is) (other : s ≡ sort.member → ⊥) where
+    module _ (s n : ℕ) (i : Index) (next : ℕ) (read : reportIdStep r step ≡ consed (index i) (idsAt r next)) (leads-to : indexed i (typeAt t (namedAt t (placeAt t row))) ≡ ofType (typeAt t (namedAt t (placeAt t row)))) (up : k < next) (ends : next ≤ length r + 1)
+        (begins : isList (kindAt t (placeAt t row)) ≡ true → (is : List Id) → idsAt r k ≡ some is → Found t r row s n 0 (namedAt t (placeAt t row)) next is) (other : s ≡ sort.member → ⊥) where
       index-plans : (p : Planning) → p ≡ listPlan t row s n next → Plans t r k row p
       unfolding Plans listPlan NamesMember
       index-plans p e = subst (PlannedAs t r k row) (sym e) (go (isList (kindAt t (placeAt t row))) refl)
         where
-          go : (u : Bool) → isList (kindAt t (placeAt t row)) ≡ u → PlannedAs t r k row (pick u (Planning.To s n 0 (elementAt t (placeAt t row)) next) Planning.No)
+          go : (u : Bool) → isList (kindAt t (placeAt t row)) ≡ u → PlannedAs t r k row (pick u (Planning.To s n 0 (namedAt t (placeAt t row)) next) Planning.No)
           go true q = record {
             here = list-here t w row ok at q;
             member = λ z. absurd (other z);
             rises = up;
             ends = ends;
-            chain = λ c f. element-fits t (tableRows t) row c f q;
+            chain = λ c f. named-fits t (tableRows t) row c f (list-type (kindAt t (placeAt t row)) q) (list-names t (placeAt t row) q);
             leads = leads-some r k step told (ofType (typeAt t row)) (index i) next read (ofType (typeAt t element)) (under-list t w row ok at i q ∙ ap some leads-to);
             begins = found-begins t r k row s n 0 _ next step told (index i) read (begins q);
           }
@@ -227,14 +228,14 @@ module _ (t w : List ℕ) (ok : Worded t w) (ad : admitted tableLimits t ≡ tru
         let z = position-rises r k step rising n next e in
         index-plans sort.position n (position n) next (ap (reportIdStep r) e) refl (z .0) (z .1)
         (λ q is f. let u = position-step r k step told is f n next e in
-        record { i = index (position (u .0)); js = u .1; whole = u .2; rest = u .4; fits = subst (λ (y : ℕ). Fits t row sort.position y 0 (index (position (u .0))) (elementAt t (placeAt t row))) (sym (u .3)) (as-position q) }) (λ y. absurd (omega arith))
+        record { i = index (position (u .0)); js = u .1; whole = u .2; rest = u .4; fits = subst (λ (y : ℕ). Fits t row sort.position y 0 (index (position (u .0))) (namedAt t (placeAt t row))) (sym (u .3)) (as-position q) }) (λ y. absurd (omega arith))
 
     pub last-plans : (n next : ℕ) → step ≡ Step.FromEnd n next → (p : Planning) → p ≡ listPlan t row sort.fromEnd n next → Plans t r k row p
     last-plans n next e =
         let z = from-end-rises r k step rising n next e in
         index-plans sort.fromEnd n (fromEnd n) next (ap (reportIdStep r) e) refl (z .0) (z .1)
         (λ q is f. let u = from-end-step r k step told is f n next e in
-        record { i = index (fromEnd (u .0)); js = u .1; whole = u .2; rest = u .4; fits = subst (λ (y : ℕ). Fits t row sort.fromEnd y 0 (index (fromEnd (u .0))) (elementAt t (placeAt t row))) (sym (u .3)) (as-last q) }) (λ y. absurd (omega arith))
+        record { i = index (fromEnd (u .0)); js = u .1; whole = u .2; rest = u .4; fits = subst (λ (y : ℕ). Fits t row sort.fromEnd y 0 (index (fromEnd (u .0))) (namedAt t (placeAt t row))) (sym (u .3)) (as-last q) }) (λ y. absurd (omega arith))
 
     pub all-plans : (next : ℕ) → step ≡ Step.All next → (p : Planning) → p ≡ listPlan t row sort.all 0 next → Plans t r k row p
     all-plans next e =

@@ -9,7 +9,7 @@ use lib.ListN.{length}
 use lib.Dec.{leb}
 use Rattle.octets.specs.Pick.{pick}
 use Rattle.der.specs.Kind as kind
-use Rattle.rows.specs.Row.{kindAt, elementAt, typeRowAt, membersAt, isList}
+use Rattle.rows.specs.Row.{kindAt, namedAt, membersAt, isList}
 use Rattle.table.specs.inner.Rows.{tableRows, placeAt}
 use Rattle.table.specs.inner.Words.{Worded}
 use Rattle.reference.specs.inner.Work.{firstNamed}
@@ -30,7 +30,7 @@ module _ (t : List ℕ) (row k : ℕ) (kind-is : k ≡ kindAt t (placeAt t row))
   unfolding listPlan
   list-none s n next e = rw (listed false (not-true u e))
 
-  pub list-some : (s n next to : ℕ) → not u ≡ false → to ≡ elementAt t (placeAt t row) → Planning.To s n 0 to next ≡ listPlan t row s n next
+  pub list-some : (s n next to : ℕ) → not u ≡ false → to ≡ namedAt t (placeAt t row) → Planning.To s n 0 to next ≡ listPlan t row s n next
   unfolding listPlan
   list-some s n next to e f = rw (list-told e) (ap (λ (y : ℕ). Planning.To s n 0 y next) f)
 
@@ -57,7 +57,7 @@ module _ (t w : List ℕ) (row n : ℕ) (ok : Worded t w) (here : row < length (
   pub find-one : j < membersAt t (placeAt t row)
   find-one = omega arith
 
-module _ (t : List ℕ) (row j next k to : ℕ) (kind-is : k ≡ kindAt t (placeAt t row)) (leads : to ≡ typeRowAt t (placeAt t (row + 1 + j))) where
+module _ (t : List ℕ) (row j next k to : ℕ) (kind-is : k ≡ kindAt t (placeAt t row)) (leads : to ≡ namedAt t (placeAt t (row + 1 + j))) where
   pub member-sequence : k ≡ kind.sequence → Planning.To sort.member row j to next ≡ memberPlan t row j next
   unfolding memberPlan
   member-sequence e = rw (← kind-is, eq-eqb k kind.sequence e) (ap (λ (y : ℕ). Planning.To sort.member row j y next) leads)

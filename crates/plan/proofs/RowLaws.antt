@@ -1,11 +1,11 @@
 -- What the rows of an admitted table say: members after their row, the type of a row by its kind, what an identifier leads to on it.
 use mathlib.Core.Path.{_≡_, refl, sym, ap, _∙_}
-use mathlib.Core.Bool.{Bool, true, false}
+use mathlib.Core.Bool.{Bool, true, false, false≢true}
 use mathlib.Core.Option.{none, some}
 use mathlib.Core.List.{List, [], _∷_}
 use Prim.Native.Nat.{ℕ, _≤_, _<_, _+_}
 use native.Mathlib.Omega.{arith}
-use borrow.Author.Tests.{eqb-true, eq-eqb, ltb-true, ltb-false}
+use borrow.Author.Tests.{eqb-true, eq-eqb, ne-eqb, ltb-true, ltb-false}
 use lib.ListN.{length}
 use lib.Dec.{ltb, eqb}
 use Rattle.octets.specs.Pick.{pick}
@@ -14,8 +14,10 @@ use Rattle.octets.proofs.Laws.{both-true, all-at}
 use Rattle.octets.proofs.TextLaws.{same-nil, same-shorter, same-longer, same-cons}
 use Rattle.der.specs.Kind as kind
 use Rattle.rows.specs.Paper.{tableLimits}
-use Rattle.rows.specs.Row.{nameAt, kindAt, elementAt, typeRowAt, membersAt, isList}
+use Rattle.rows.specs.Row.{nameAt, kindAt, namedAt, membersAt, isList}
 use Rattle.clauses.specs.Clauses.{everyRow, memberPlace, chainFits}
+use Rattle.rows.proofs.KindLaws.{list-names}
+use Rattle.types.proofs.TypeCases.{typed-cases, typed-sequence, typed-choice, typed-list}
 use Rattle.types.specs.Types.{Ty, sequence, choice, listOf, typed, unfilled}
 use Rattle.types.specs.Begins.{alternativesDiffer, tagsApart}
 use Rattle.types.specs.Admitted.{tagsDiffer, rowsFormed, rowsNamed, membersAgree, typesFit, admittedRows, admitted}
@@ -29,11 +31,11 @@ pub use Rattle.rules.proofs.MemberRows.{row-fits, member-here, member-kind, mem
 
 -- ---- members after their row
 module _ (t w : List ℕ) (row : ℕ) (ok : Worded t w) (here : row < length (tableRows t)) where
-  pub list-here : isList (kindAt t (placeAt t row)) ≡ true → elementAt t (placeAt t row) < length (tableRows t)
-  list-here e = ok .ready .sound .later .of-list row here e .1
+  pub list-here : isList (kindAt t (placeAt t row)) ≡ true → namedAt t (placeAt t row) < length (tableRows t)
+  list-here e = ok .ready .sound .later .of-row row here (list-names t (placeAt t row) e) .1
 
   module _ (j : ℕ) (one : j < membersAt t (placeAt t row)) where
-    pub type-here : typeRowAt t (placeAt t (row + 1 + j)) < length (tableRows t)
+    pub type-here : namedAt t (placeAt t (row + 1 + j)) < length (tableRows t)
     type-here = ok .ready .sound .later .of-member row here j one .1
 
 -- ---- the type of a row
@@ -50,43 +52,41 @@ module _ (t w : List ℕ) (row : ℕ) (ok : Worded t w) (here : row < length (ta
   abbrev k : ℕ
   k = kindAt t (placeAt t row)
 
-  whole : typeAt t row ≡ typed (kindAt t (placeAt t row)) (typeAt t (elementAt t (placeAt t row))) (membersAfter t row)
+  whole : typeAt t row ≡ typed t (tableRows t) row (typeAt t (namedAt t (placeAt t row))) (membersAfter t row)
   whole = ok .ready .sound .step row here
 
   pub sequence-at : kindAt t (placeAt t row) ≡ kind.sequence → typeAt t row ≡ sequence (membersAfter t row)
-  sequence-at e = whole ∙ ap (λ (y : ℕ). typed y (typeAt t (elementAt t (placeAt t row))) (membersAfter t row)) e
+  sequence-at e = whole ∙ typed-sequence t (tableRows t) row _ _ e
 
   pub choice-at : kindAt t (placeAt t row) ≡ kind.choice → typeAt t row ≡ choice (membersAfter t row)
-  choice-at e = whole ∙ ap (λ (y : ℕ). typed y (typeAt t (elementAt t (placeAt t row))) (membersAfter t row)) e
+  choice-at e = whole ∙ typed-choice t (tableRows t) row _ _ e
 
-  pub list-at : isList (kindAt t (placeAt t row)) ≡ true → typeAt t row ≡ listOf (kindAt t (placeAt t row)) (typeAt t (elementAt t (placeAt t row)))
-  list-at e = whole ∙ (let q = list-kind k e in rw (q .0, q .1, e))
+  pub list-at : isList (kindAt t (placeAt t row)) ≡ true → typeAt t row ≡ listOf (kindAt t (placeAt t row)) (typeAt t (namedAt t (placeAt t row)))
+  list-at e = whole ∙ typed-list t (tableRows t) row _ _ e
 
   -- ---- what an identifier leads to on it
   pub under-name : (x : List ℕ) → (a b : Bool) → eqb (kindAt t (placeAt t row)) kind.sequence ≡ a → eqb (kindAt t (placeAt t row)) kind.choice ≡ b
       → under (name x) (ofType (typeAt t row)) ≡ pick a (underMembers (name x) (membersAfter t row)) (pick b (underMembers (name x) (membersAfter t row)) none)
   unfolding under
-  under-name x a b e f = ap (λ (y : Ty). under (name x) (ofType y)) whole ∙ rw (e, f) (go a b (isList k))
+  under-name x a b e f = ap (λ (y : Ty). under (name x) (ofType y)) whole ∙ by-kind ∙ rw (e, f)
     where
-      go : (a b c : Bool) → under (name x) (ofType (pick a (sequence (membersAfter t row)) (pick b (choice (membersAfter t row)) (pick c (listOf k (typeAt t (elementAt t (placeAt t row)))) (Ty.basic k)))))
-          ≡ pick a (underMembers (name x) (membersAfter t row)) (pick b (underMembers (name x) (membersAfter t row)) none)
-      go true b c = refl
-      go false true c = refl
-      go false false true = refl
-      go false false false = refl
+      by-kind : under (name x) (ofType (typed t (tableRows t) row (typeAt t (namedAt t (placeAt t row))) (membersAfter t row)))
+          ≡ pick (eqb k kind.sequence) (underMembers (name x) (membersAfter t row)) (pick (eqb k kind.choice) (underMembers (name x) (membersAfter t row)) none)
+      by-kind =
+          typed-cases t (tableRows t) row (typeAt t (namedAt t (placeAt t row))) (membersAfter t row)
+          (λ (y : Ty). under (name x) (ofType y) ≡ pick (eqb k kind.sequence) (underMembers (name x) (membersAfter t row)) (pick (eqb k kind.choice) (underMembers (name x) (membersAfter t row)) none))
+          (λ h. rw (eq-eqb k 12 h)) (λ h. rw h) (λ h. let q = list-kind k h in rw (q .0, q .1)) (λ u v _. rw (ne-eqb k 12 u, ne-eqb k 13 v))
 
-  pub under-list : (i : Index) → isList (kindAt t (placeAt t row)) ≡ true → under (index i) (ofType (typeAt t row)) ≡ some (indexed i (typeAt t (elementAt t (placeAt t row))))
+  pub under-list : (i : Index) → isList (kindAt t (placeAt t row)) ≡ true → under (index i) (ofType (typeAt t row)) ≡ some (indexed i (typeAt t (namedAt t (placeAt t row))))
   unfolding under
   under-list i e = ap (λ (y : Ty). under (index i) (ofType y)) (list-at e)
 
   pub under-other : (i : Index) → isList (kindAt t (placeAt t row)) ≡ false → under (index i) (ofType (typeAt t row)) ≡ none
   unfolding under
-  under-other i e = ap (λ (y : Ty). under (index i) (ofType y)) whole ∙ rw e (go (eqb k kind.sequence) (eqb k kind.choice))
-    where
-      go : (a b : Bool) → under (index i) (ofType (pick a (sequence (membersAfter t row)) (pick b (choice (membersAfter t row)) (Ty.basic k)))) ≡ none
-      go true b = refl
-      go false true = refl
-      go false false = refl
+  under-other i e =
+      ap (λ (y : Ty). under (index i) (ofType y)) whole
+      ∙ typed-cases t (tableRows t) row (typeAt t (namedAt t (placeAt t row))) (membersAfter t row) (λ (y : Ty). under (index i) (ofType y) ≡ none)
+      (λ _. refl) (λ _. refl) (λ h. absurd (false≢true (sym e ∙ h))) (λ _ _ _. refl)
 
 -- ---- what an admitted table has besides
 same-equal : (a b : List ℕ) → same a b ≡ true → a ≡ b

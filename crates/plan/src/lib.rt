@@ -257,7 +257,7 @@ fn plan_member(t: &[u8], w: &[u64; 256], row: usize, j: usize, next: usize) -> P
     ensures { λ p. ⌜ p ≡ resolve.memberPlan (now (t .entry)) row j next ⌝ }
 {
     let kind = table::kind(t, w, row);
-    let to = table::type_row(t, w, row + 1 + j);
+    let to = table::named(t, w, row + 1 + j);
     if kind == Kind::SEQUENCE {
         return Planning::To(Sort::MEMBER, row, j, to, next);
     }
@@ -298,7 +298,7 @@ fn plan_list(t: &[u8], w: &[u64; 256], row: usize, sort: usize, n: usize, next: 
     if !rows::is_list(table::kind(t, w, row)) {
         return Planning::No;
     }
-    Planning::To(sort, n, 0, table::element(t, w, row), next)
+    Planning::To(sort, n, 0, table::named(t, w, row), next)
 }
 
 // The count, which has to be the last.

@@ -9,7 +9,7 @@ use borrow.Author.Tests.{lt-ltb, le-ltb}
 use lib.Dec.{ltb}
 use Rattle.octets.specs.Pick.{pick, bind}
 use Rattle.octets.specs.Octets.{part}
-use Rattle.rows.specs.Row.{typeRowAt, rowAt, membersAt}
+use Rattle.rows.specs.Row.{namedAt, rowAt, membersAt}
 use Rattle.types.specs.Types.{Ty, Members, memberOf, membersFrom, typeFrom}
 use Rattle.value.specs.inner.Work.{first}
 use Rattle.value.proofs.LeafSteps.{first-none, first-step}
@@ -31,7 +31,7 @@ module _ (chain : ℕ) (t s : List ℕ) (row : ℕ) where
     tests = namedOf t s row (part r a (b - a))
 
     abbrev taken : ℕ → Option Ty
-    taken j = some (typeFrom chain t s (typeRowAt t (rowAt s (row + 1 + j))))
+    taken j = some (typeFrom chain t s (namedAt t (rowAt s (row + 1 + j))))
 
     one : (j k : ℕ) → memberType x (membersFrom (typeFrom chain t s) t s (row + 1 + j) (suc k)) ≡ pick (tests j) (taken j) (memberType x (membersFrom (typeFrom chain t s) t s (row + 1 + (j + 1)) k))
     unfolding membersFrom memberOf memberType namedOf
@@ -72,7 +72,7 @@ module _ (chain : ℕ) (t s : List ℕ) (row : ℕ) where
       pub name-none : n ≤ j → reportTarget chain t s Target.No ≡ underMembers (name (part r a (b - a))) parts
       name-none h = sym (ap (λ (o : Option Ty). bind o (λ ty. some (ofType ty))) (whole ∙ ap (λ (y : Bool). pick y (taken j) none) (le-ltb j n h)))
 
-      module _ (l : j < n) (i : ℕ) (typed-by : i ≡ typeRowAt t (rowAt s (row + 1 + j))) where
+      module _ (l : j < n) (i : ℕ) (typed-by : i ≡ namedAt t (rowAt s (row + 1 + j))) where
         pub name-found : reportTarget chain t s (Target.Row i) ≡ underMembers (name (part r a (b - a))) parts
         name-found =
             ap (λ (y : ℕ). some (ofType (typeFrom chain t s y))) typed-by

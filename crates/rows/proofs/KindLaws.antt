@@ -1,14 +1,16 @@
 -- Kinds of rows, for the layers above.
 use mathlib.Core.Path.{_≡_, refl, ap₂}
-use mathlib.Core.Bool.{Bool, true, false}
+use mathlib.Core.List.{List}
+use mathlib.Core.Bool.{Bool, true, false, false≢true}
+use mathlib.Core.Logic.{_⊎_, ⊎-elim, inl, inr}
 use Prim.Native.Nat.{ℕ, _≤_}
 use native.Mathlib.Omega.{arith}
-use borrow.Author.Tests.{leb-true, le-leb, eqb-true, eqb-false}
+use borrow.Author.Tests.{leb-true, le-leb, ne-eqb, eqb-true, eqb-false}
 use lib.Dec.{leb, eqb}
 use Rattle.octets.specs.Pick.{pick, either, both}
 use Rattle.octets.specs.Text.{within}
 use Rattle.octets.proofs.Laws.{both-true}
-use Rattle.rows.specs.Row.{isTypeKind, isGroup, isList, rowSize}
+use Rattle.rows.specs.Row.{kindAt, elementAt, typeRowAt, isTypeKind, isGroup, isList, rowNamed, namesRow, namedAt, rowSize}
 
 pub list-kinds : (k : ℕ) → isList k ≡ either (eqb k 14) (eqb k 15)
 unfolding isList
@@ -22,6 +24,41 @@ type-no-member k e m = let l = leb-true k 15 (both-true (leb 1 k) (leb k 15) e .
 pub member-no-type : (k : ℕ) → k ≡ 16 → isTypeKind k ≡ false
 unfolding isTypeKind
 member-no-type k e = rw e
+
+pub member-no-group : (k : ℕ) → k ≡ 16 → isGroup k ≡ false
+unfolding isGroup
+member-no-group k e = rw e
+
+list-kind : (k : ℕ) → isList k ≡ true → (k ≡ 14) ⊎ (k ≡ 15)
+unfolding isList
+list-kind k e = go (eqb k 14) refl (eqb k 15) refl e
+  where
+    go : (x : Bool) → eqb k 14 ≡ x → (y : Bool) → eqb k 15 ≡ y → either x y ≡ true → (k ≡ 14) ⊎ (k ≡ 15)
+    go true q y r h = inl (eqb-true k 14 q)
+    go false q true r h = inr (eqb-true k 15 r)
+    go false q false r h = absurd (false≢true h)
+
+group-kind : (k : ℕ) → isGroup k ≡ true → (k ≡ 12) ⊎ (k ≡ 13)
+unfolding isGroup
+group-kind k e = go (eqb k 12) refl (eqb k 13) refl e
+  where
+    go : (x : Bool) → eqb k 12 ≡ x → (y : Bool) → eqb k 13 ≡ y → either x y ≡ true → (k ≡ 12) ⊎ (k ≡ 13)
+    go true q y r h = inl (eqb-true k 12 q)
+    go false q true r h = inr (eqb-true k 13 r)
+    go false q false r h = absurd (false≢true h)
+
+-- lists and groups are types, and no row is both
+pub list-type : (k : ℕ) → isList k ≡ true → isTypeKind k ≡ true
+unfolding isTypeKind
+list-type k e = ⊎-elim (λ (h : k ≡ 14). rw h) (λ (h : k ≡ 15). rw h) (list-kind k e)
+
+pub list-no-group : (k : ℕ) → isList k ≡ true → isGroup k ≡ false
+unfolding isGroup
+list-no-group k e = ⊎-elim (λ (h : k ≡ 14). rw h) (λ (h : k ≡ 15). rw h) (list-kind k e)
+
+pub group-type : (k : ℕ) → isGroup k ≡ true → isTypeKind k ≡ true
+unfolding isTypeKind
+group-type k e = ⊎-elim (λ (h : k ≡ 12). rw h) (λ (h : k ≡ 13). rw h) (group-kind k e)
 
 -- of a kind of rows: a type's or a member's
 kind-range : (k : ℕ) → (rowSize k ≡ 0 → ⊥) → (eqb k 16 ≡ true → ⊥) → (1 ≤ k) × (k ≤ 15)
@@ -43,3 +80,30 @@ unfolding isTypeKind
 kind-of-row k some other =
     let w = kind-range k some (λ e. eqb-false k 16 other (eqb-true k 16 e)) in
     ap₂ both (le-leb 1 k (w .0)) (le-leb k 15 (w .1))
+
+-- ---- the row that a row names
+module _ (t : List ℕ) (p : ℕ) where
+  pub list-names : isList (kindAt t p) ≡ true → namesRow t p ≡ true
+  unfolding namesRow rowNamed
+  list-names h = rw h
+
+  pub list-named : isList (kindAt t p) ≡ true → namedAt t p ≡ elementAt t p
+  unfolding namedAt rowNamed
+  list-named h = rw h
+
+  pub member-names : kindAt t p ≡ 16 → namesRow t p ≡ true
+  unfolding namesRow rowNamed isList
+  member-names h = rw h
+
+  pub member-named : kindAt t p ≡ 16 → namedAt t p ≡ typeRowAt t p
+  unfolding namedAt rowNamed isList
+  member-named h = rw h
+
+  module _ (h : isList (kindAt t p) ≡ false) (n : kindAt t p ≡ 16 → ⊥) where
+    pub names-none : namesRow t p ≡ false
+    unfolding namesRow rowNamed
+    names-none = rw (h, ne-eqb (kindAt t p) 16 n)
+
+    pub named-none : namedAt t p ≡ 0
+    unfolding namedAt rowNamed
+    named-none = rw (h, ne-eqb (kindAt t p) 16 n)

@@ -14,10 +14,11 @@ use Rattle.octets.specs.Octets.{octet, two, part, every}
 use Rattle.octets.specs.Text.{within, isLower, isLetter, isAlnum, mayFollow}
 use Rattle.octets.proofs.Laws.{octet-past, rest-none, part-rest, both-true, all-at, all-is, all-more, all-bad}
 use Rattle.octets.proofs.TextLaws.{every-is, every-at}
-use Rattle.rows.specs.Row.{nameOctetAt, typeRowAt, defaultAt, isGroup, isList, rowSize, rowAt, membersAt}
+use Rattle.rows.specs.Row.{kindAt, nameOctetAt, defaultAt, isGroup, isList, namedAt, rowSize, membersAt}
 use Rattle.rows.specs.Body.{countFormed, follows, followed, nameFormed, taggingFormed, tagFormed, presenceFormed, isZero, defaultFilled, memberFormed}
-use Rattle.rows.specs.inner.Sizes.{typeSize}
+use Rattle.rows.specs.inner.Sizes.{typeSize, WholeMember}
 use Rattle.rows.specs.Paper.{tableLimits}
+use Rattle.rows.proofs.KindLaws.{list-named, member-named}
 
 -- ---- reading
 pub from-past : (t : List ℕ) (p k : ℕ) → length t ≤ p → take k (drop (length t) t) ≡ drop p t
@@ -38,17 +39,18 @@ number-is t p k a b r e f g =
     let next : p + (k + 1) ≡ p + k + 1 = omega arith in
     g ∙ ap₂ (λ (x y : ℕ). x * 256 + y) e (f ∙ ap (octet t) next)
 
-pub row-past : (s : List ℕ) (i : ℕ) → length s ≤ i → 0 ≡ rowAt s i
-row-past s i h = octet-past s i h
-
 pub default-is : (t a : List ℕ) (p n w : ℕ) → n ≡ octet t (p + 30) → w ≡ n → a ≡ part t (p + 31) w → a ≡ defaultAt t p
 default-is t a p n w e f g = g ∙ ap (part t (p + 31)) (f ∙ e)
 
 pub default-whole : (t : List ℕ) (p n w : ℕ) → n ≡ octet t (p + 30) → w ≡ n → take (p + 31 + w - (p + 31)) (drop (p + 31) t) ≡ defaultAt t p
 default-whole t p n w e f = let size : p + 31 + w - (p + 31) ≡ w = omega arith in ap (part t (p + 31)) (size ∙ f ∙ e)
 
-pub type-row-whole : (t : List ℕ) (p r : ℕ) → r ≡ octet t (p + 25) * 256 + octet t (p + 26) → r ≡ typeRowAt t p
-type-row-whole t p r e = number-is t p 25 (octet t (p + 25)) (octet t (p + 26)) r refl refl e
+-- ---- the row that a row names
+pub element-named : (t : List ℕ) (p r : ℕ) → isList (kindAt t p) ≡ true → r ≡ two t (p + 1) → r ≡ namedAt t p
+element-named t p r h e = e ∙ sym (list-named t p h)
+
+pub type-row-whole : (t : List ℕ) (p r : ℕ) → WholeMember t p → r ≡ octet t (p + 25) * 256 + octet t (p + 26) → r ≡ namedAt t p
+type-row-whole t p r w e = number-is t p 25 (octet t (p + 25)) (octet t (p + 26)) r refl refl e ∙ sym (member-named t p (w .member))
 
 -- ---- the rows
 module _ (k : ℕ) (a : Bool) (basic : a ≡ within 1 11 k) where

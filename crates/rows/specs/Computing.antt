@@ -2,9 +2,9 @@
 use Prim.Native.Nat.{ℕ}
 use Rattle.der.specs.Computing.{derComputes}
 use Rattle.rows.specs.Limits.{tableFits}
-use Rattle.rows.specs.Row.{isTypeKind, isGroup, isList, rowSize, rowsFrom, rows, followerKind, membersAt}
+use Rattle.rows.specs.Row.{isTypeKind, isGroup, isList, rowNamed, namesRow, namedAt, rowSize, rowsFrom, rows, followerKind, membersAt}
 use Rattle.rows.specs.Body.{countFormed, follows, followed, nameFormed, taggingFormed, tagFormed, presenceFormed, defaultFilled, memberFormed, rowFormed}
 
 unfoldable pub rowsCompute : ℕ
-unfolding derComputes tableFits isTypeKind isGroup isList rowSize rowsFrom rows followerKind membersAt countFormed follows followed nameFormed taggingFormed tagFormed presenceFormed defaultFilled memberFormed rowFormed
+unfolding derComputes tableFits isTypeKind isGroup isList rowNamed namesRow namedAt rowSize rowsFrom rows followerKind membersAt countFormed follows followed nameFormed taggingFormed tagFormed presenceFormed defaultFilled memberFormed rowFormed
 rowsCompute = 0

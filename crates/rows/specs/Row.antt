@@ -6,7 +6,7 @@ use mathlib.Core.Option.{Option, none, some}
 use mathlib.Core.List.{List, []}
 use lib.ListN.{getD, length}
 use lib.Dec.{ltb, eqb}
-use Rattle.octets.specs.Pick.{pick, either, consed}
+use Rattle.octets.specs.Pick.{pick, either, consed, isSome}
 use Rattle.octets.specs.Octets.{octet, two, part}
 use Rattle.octets.specs.Text.{within}
 use Rattle.der.specs.Kind as kind
@@ -66,6 +66,24 @@ isGroup k = either (eqb k kind.sequence) (eqb k kind.choice)
 
 unfoldable pub isList : ℕ → Bool
 isList k = either (eqb k kind.sequenceOf) (eqb k kind.setOf)
+
+-- the row that the row at p names: of a list its element's, of a member its type's; rows of other kinds name none
+unfoldable pub rowNamed : List ℕ → ℕ → Option ℕ
+rowNamed t p =
+    pick (isList (kindAt t p)) (some (elementAt t p))
+    (pick (eqb (kindAt t p) kind.member) (some (typeRowAt t p))
+    none)
+
+-- whether it names one; the number of that row, 0 where there is none
+unfoldable pub namesRow : List ℕ → ℕ → Bool
+namesRow t p = isSome (rowNamed t p)
+
+abbrev pub orZero : Option ℕ → ℕ
+orZero none = 0
+orZero (some j) = j
+
+unfoldable pub namedAt : List ℕ → ℕ → ℕ
+namedAt t p = orZero (rowNamed t p)
 
 -- the octets of a row of kind k: one and its body; 0 where there is no such kind
 unfoldable pub rowSize : ℕ → ℕ

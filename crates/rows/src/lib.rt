@@ -1,6 +1,7 @@
 // The rows of a type table: where they start, their parts, and what their bodies are like. Reads past the end give 0.
 use der::Kind;
 ghost use mathlib.Core.Path.{_≡_};
+ghost use mathlib.Core.Bool.{true};
 ghost use Prim.Native.Nat.{_≤_, _<_, _+_, _-_, _*_};
 ghost use lib.ListN.{length, drop};
 ghost use Rattle.octets.specs.Pick.{all};
@@ -84,16 +85,6 @@ fn number_after(t: &[u8], p: usize, k: usize) -> usize
     octets::wide_two(field(t, p, k), field(t, p, k + 1))
 }
 
-// The place of row i.
-pub fn row_at(s: &[usize], i: usize) -> usize
-    ensures { λ r. ⌜ r ≡ row.rowAt (now (s .entry)) i ⌝ }
-{
-    if s.len() <= i {
-        return 0;
-    }
-    s[i]
-}
-
 // ---- the parts of the row at p
 pub fn kind_at(t: &[u8], p: usize) -> u8
     ensures { λ r. ⌜ r ≡ row.kindAt (now (t .entry)) p ⌝ }
@@ -103,7 +94,8 @@ pub fn kind_at(t: &[u8], p: usize) -> u8
 
 // The row of a list's element.
 pub fn element_at(t: &[u8], p: usize) -> usize
-    ensures { λ r. ⌜ r ≡ row.elementAt (now (t .entry)) p ⌝ }
+    requires { ⌜ row.isList (row.kindAt (now t) p) ≡ true ⌝ }
+    ensures { λ r. ⌜ r ≡ row.namedAt (now (t .entry)) p ⌝ }
 {
     number_after(t, p, 1)
 }
@@ -115,29 +107,10 @@ pub fn name_at(t: &[u8], p: usize) -> &[u8]
     fields(t, p, 1, Table::MAX_NAME)
 }
 
-// The row of a member's type.
-pub fn type_row_at(t: &[u8], p: usize) -> usize
-    ensures { λ r. ⌜ r ≡ row.typeRowAt (now (t .entry)) p ⌝ }
-{
-    number_after(t, p, 25)
-}
-
 pub fn mode_at(t: &[u8], p: usize) -> u8
     ensures { λ r. ⌜ r ≡ row.modeAt (now (t .entry)) p ⌝ }
 {
     field(t, p, 27)
-}
-
-pub fn number_at(t: &[u8], p: usize) -> u8
-    ensures { λ r. ⌜ r ≡ row.numberAt (now (t .entry)) p ⌝ }
-{
-    field(t, p, 28)
-}
-
-pub fn presence_at(t: &[u8], p: usize) -> u8
-    ensures { λ r. ⌜ r ≡ row.presenceAt (now (t .entry)) p ⌝ }
-{
-    field(t, p, 29)
 }
 
 pub fn default_length_at(t: &[u8], p: usize) -> u8
@@ -184,7 +157,7 @@ pub fn member_default_length(t: &[u8], p: usize) -> u8
 
 pub fn member_type_row(t: &[u8], p: usize) -> usize
     requires { ⌜ WholeMember (now t) p ⌝ }
-    ensures { λ r. ⌜ r ≡ row.typeRowAt (now (t .entry)) p ⌝ }
+    ensures { λ r. ⌜ r ≡ row.namedAt (now (t .entry)) p ⌝ }
 {
     octets::wide_two(t[p + 25], t[p + 26])
 }

@@ -6,7 +6,7 @@ use mathlib.Core.List.{List}
 use Prim.Native.Nat.{ℕ, zero, suc, _≤_, _<_, _+_}
 use native.Mathlib.Omega.{arith}
 use native.Mathlib.Nat.{add-zero}
-use borrow.Author.Tests.{eqb-true, le-leb}
+use borrow.Author.Tests.{ne-eqb, eqb-true, le-leb}
 use lib.Dec.{eqb}
 use lib.ListN.{length}
 use Rattle.octets.specs.Pick.{pick, both, either, all, bind, isSome}
@@ -17,10 +17,10 @@ use Rattle.der.specs.Contents.{legal}
 use Rattle.der.proofs.Laws.{integer-octets, legal-integer}
 use Rattle.der.proofs.MeaningLaws.{string-kinds}
 use Rattle.rows.specs.Paper.{tableLimits}
-use Rattle.rows.specs.Row.{kindAt, elementAt, typeRowAt, modeAt, numberAt, isList, membersAt}
+use Rattle.rows.specs.Row.{rowAt, kindAt, namedAt, modeAt, numberAt, isList, membersAt}
 use Rattle.rows.proofs.KindLaws.{list-kinds}
-use Rattle.types.specs.Types.{untagged, explicit, implicit, Ty, basic, sequence, choice, listOf, Members, taggingOf, membersFrom, typed, typeFrom}
-use Rattle.types.proofs.TypeCases.{tagging-cases, member-tagging, members-none, members-more}
+use Rattle.types.specs.Types.{untagged, explicit, implicit, Ty, basic, choice, Members, taggingOf, membersFrom, typed, typeFrom}
+use Rattle.types.proofs.TypeCases.{tagging-cases, member-tagging, members-none, members-more, typed-cases}
 use Rattle.table.specs.inner.Rows.{tableRows, placeAt, typeAt, membersAfter, memberKindAt}
 use Rattle.table.specs.inner.Words.{Worded}
 use Rattle.reference.specs.Allowed.{Target, ofType, ofCount}
@@ -77,14 +77,11 @@ lists k P e a b = go (eqb k 14) (eqb k 15) refl refl (sym (list-kinds k) ∙ e)
     go false true p q h = subst P (sym (eqb-true k 15 q)) b
     go false false p q h = absurd (false≢true h)
 
-typed-string : (k : ℕ) (e : Ty) (ms : Members) → isStringType (typed k e ms) ≡ isString k
-typed-string k e ms = go (eqb k 12) (eqb k 13) (isList k) refl refl refl
-  where
-    go : (x y z : Bool) → eqb k 12 ≡ x → eqb k 13 ≡ y → isList k ≡ z → isStringType (pick x (sequence ms) (pick y (choice ms) (pick z (listOf k e) (basic k)))) ≡ isString k
-    go true y z p q r = sym (ap isString (eqb-true k 12 p) ∙ no-string-12)
-    go false true z p q r = sym (ap isString (eqb-true k 13 q) ∙ no-string-13)
-    go false false true p q r = lists k (λ (x : ℕ). false ≡ isString x) r (sym no-string-14) (sym no-string-15)
-    go false false false p q r = refl
+typed-string : (t s : List ℕ) (i : ℕ) (e : Ty) (ms : Members) → isStringType (typed t s i e ms) ≡ isString (kindAt t (rowAt s i))
+typed-string t s i e ms =
+    typed-cases t s i e ms (λ (y : Ty). isStringType y ≡ isString (kindAt t (rowAt s i)))
+    (λ h. sym (ap isString h ∙ no-string-12)) (λ h. sym (ap isString h ∙ no-string-13))
+    (λ h. lists (kindAt t (rowAt s i)) (λ (x : ℕ). false ≡ isString x) h (sym no-string-14) (sym no-string-15)) (λ _ _ _. refl)
 
 suits-12 : (x : Syntax) → suitsKind x 12 ≡ false
 suits-12 booleans = refl
@@ -113,17 +110,14 @@ suits-15 bitStrings = refl
 suits-15 (strings fold) = no-string-15
 suits-15 times = refl
 
-typed-suits : (x : Syntax) (k : ℕ) (e : Ty) (ms : Members) → suitsTarget x (ofType (typed k e ms)) ≡ pick (eqb k 13) (both (suitsKind x 8) (allStrings ms)) (suitsKind x k)
+typed-suits : (x : Syntax) (t s : List ℕ) (i : ℕ) (e : Ty) (ms : Members)
+    → suitsTarget x (ofType (typed t s i e ms)) ≡ pick (eqb (kindAt t (rowAt s i)) 13) (both (suitsKind x 8) (allStrings ms)) (suitsKind x (kindAt t (rowAt s i)))
 unfolding suitsTarget
-typed-suits x k e ms = go (eqb k 12) (eqb k 13) (isList k) refl refl refl
-  where
-    go : (a b z : Bool) → eqb k 12 ≡ a → eqb k 13 ≡ b → isList k ≡ z
-        → suitsTarget x (ofType (pick a (sequence ms) (pick b (choice ms) (pick z (listOf k e) (basic k))))) ≡ pick b (both (suitsKind x 8) (allStrings ms)) (suitsKind x k)
-    go true true z p q r = absurd (let u : k ≡ 12 = eqb-true k 12 p in let v : k ≡ 13 = eqb-true k 13 q in omega arith)
-    go true false z p q r = sym (ap (suitsKind x) (eqb-true k 12 p) ∙ suits-12 x)
-    go false true z p q r = refl
-    go false false true p q r = lists k (λ (y : ℕ). false ≡ suitsKind x y) r (sym (suits-14 x)) (sym (suits-15 x))
-    go false false false p q r = refl
+typed-suits x t s i e ms =
+    typed-cases t s i e ms (λ (y : Ty). suitsTarget x (ofType y) ≡ pick (eqb (kindAt t (rowAt s i)) 13) (both (suitsKind x 8) (allStrings ms)) (suitsKind x (kindAt t (rowAt s i))))
+    (λ h. rw h (sym (suits-12 x))) (λ h. rw h)
+    (λ h. lists (kindAt t (rowAt s i)) (λ (y : ℕ). false ≡ pick (eqb y 13) (both (suitsKind x 8) (allStrings ms)) (suitsKind x y)) h (sym (suits-14 x)) (sym (suits-15 x)))
+    (λ _ n _. rw (ne-eqb (kindAt t (rowAt s i)) 13 n))
 
 untagged-mode : (mode n : ℕ) → isUntagged (taggingOf mode n) ≡ eqb mode 0
 untagged-mode mode n = ap isUntagged (tagging-cases mode n) ∙ go (eqb mode 0) (eqb mode 1)
@@ -139,18 +133,18 @@ module _ (t w : List ℕ) (ok : Worded t w) where
   stringAt a = both (eqb (modeAt t (placeAt t a)) 0) (isString (memberKindAt t a))
 
   string-type : (r : ℕ) → r < length (tableRows t) → isStringType (typeAt t r) ≡ isString (kindAt t (placeAt t r))
-  string-type r h = ap isStringType (ok .ready .sound .step r h) ∙ typed-string (kindAt t (placeAt t r)) (typeAt t (elementAt t (placeAt t r))) (membersAfter t r)
+  string-type r h = ap isStringType (ok .ready .sound .step r h) ∙ typed-string t (tableRows t) r (typeAt t (namedAt t (placeAt t r))) (membersAfter t r)
 
-  string-rows : (n a : ℕ) → ((j : ℕ) → j < n → typeRowAt t (placeAt t (a + j)) < length (tableRows t)) → allStrings (membersFrom (typeFrom (tableLimits .chain) t (tableRows t)) t (tableRows t) a n) ≡ front stringAt a n
+  string-rows : (n a : ℕ) → ((j : ℕ) → j < n → namedAt t (placeAt t (a + j)) < length (tableRows t)) → allStrings (membersFrom (typeFrom (tableLimits .chain) t (tableRows t)) t (tableRows t) a n) ≡ front stringAt a n
   unfolding allStrings front stringAt
   string-rows zero a h = ap allStrings (members-none (typeFrom (tableLimits .chain) t (tableRows t)) t (tableRows t) a)
   string-rows (suc n) a h =
       let z : a + 0 ≡ a = omega arith in
-      let first : typeRowAt t (placeAt t a) < length (tableRows t) = subst (λ (x : ℕ). typeRowAt t (placeAt t x) < length (tableRows t)) z (h 0 (omega arith)) in
+      let first : namedAt t (placeAt t a) < length (tableRows t) = subst (λ (x : ℕ). namedAt t (placeAt t x) < length (tableRows t)) z (h 0 (omega arith)) in
       ap allStrings (members-more (typeFrom (tableLimits .chain) t (tableRows t)) t (tableRows t) a n)
       ∙ ap₂ both
-      (ap₂ both (ap isUntagged (member-tagging t a (placeAt t a)) ∙ untagged-mode (modeAt t (placeAt t a)) (numberAt t (placeAt t a))) (string-type (typeRowAt t (placeAt t a)) first))
-      (string-rows n (a + 1) (λ j d. let e : a + suc j ≡ a + 1 + j = omega arith in subst (λ (x : ℕ). typeRowAt t (placeAt t x) < length (tableRows t)) e (h (suc j) (omega arith))))
+      (ap₂ both (ap isUntagged (member-tagging t a (placeAt t a)) ∙ untagged-mode (modeAt t (placeAt t a)) (numberAt t (placeAt t a))) (string-type (namedAt t (placeAt t a)) first))
+      (string-rows n (a + 1) (λ j d. let e : a + suc j ≡ a + 1 + j = omega arith in subst (λ (x : ℕ). namedAt t (placeAt t x) < length (tableRows t)) e (h (suc j) (omega arith))))
 
   module _ (i : ℕ) (here : i < length (tableRows t)) where
     alternatives : all (stringRow t i) (membersAt t (placeAt t i)) ≡ allStrings (membersAfter t i)
@@ -163,7 +157,7 @@ module _ (t w : List ℕ) (ok : Worded t w) where
         ≡ suitsTarget x (ofType (typeAt t i))
     suits-syntax x =
         ap (λ (y : Bool). pick (eqb (kindAt t (placeAt t i)) 13) (both (suitsKind x 8) y) (suitsKind x (kindAt t (placeAt t i)))) alternatives
-        ∙ sym (typed-suits x (kindAt t (placeAt t i)) (typeAt t (elementAt t (placeAt t i))) (membersAfter t i))
+        ∙ sym (typed-suits x t (tableRows t) i (typeAt t (namedAt t (placeAt t i))) (membersAfter t i))
         ∙ ap (λ (y : Ty). suitsTarget x (ofType y)) (sym (ok .ready .sound .step i here))
 
 -- ---- what the code reads to the end

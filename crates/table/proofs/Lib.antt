@@ -4,4 +4,3 @@ pub mod Reading
 pub mod PassLaws
 pub mod PassSteps
 pub mod Writing
-pub mod Unpacking

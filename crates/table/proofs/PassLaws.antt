@@ -12,8 +12,9 @@ use Rattle.octets.proofs.Laws.{both-true, all-at, all-cong}
 use Rattle.der.specs.Tag.{universal, ownOctet, implicitOctet, wrapperOctet}
 use Rattle.der.specs.Kind.{isConstructed}
 use Rattle.rows.specs.Paper.{tableLimits}
-use Rattle.rows.specs.Row.{rowAt, kindAt, elementAt, typeRowAt, membersAt, isGroup, isList, modeAt, numberAt, presenceAt, defaultLengthAt, defaultAt}
+use Rattle.rows.specs.Row.{rowAt, kindAt, namesRow, namedAt, membersAt, isGroup, isList, modeAt, numberAt, presenceAt, defaultLengthAt, defaultAt}
 use Rattle.rows.proofs.Laws.{MemberFacts, member-facts}
+use Rattle.rows.proofs.KindLaws.{member-names}
 use Rattle.clauses.specs.Clauses.{everyRow, wholeRows, bodyFormed, firstIsType, laterType, pointsLater, membersStand, namesDiffer, mandatoryAt, alternativesMandatory, typeKind, noImplicitChoice, defaultAllowed, defaultLegal, chainFits}
 use Rattle.clauses.specs.inner.Work.{firstPass, tallest}
 use Rattle.clauses.proofs.LaterSteps.{member-follows, type-row, later-row}
@@ -125,17 +126,13 @@ module _ (c : ℕ) (t s : List ℕ) (i : ℕ) where
   fit p a n d h g = ap₂ both p (ap₂ both a (ap₂ both n (ap₂ both d (ap₂ both h g))))
 
   -- by the row's kind
-  pub points-list : isList (kindAt t (rowAt s i)) ≡ true → pointsLater t s i ≡ laterType t s i (elementAt t (rowAt s i))
+  pub points-row : namesRow t (rowAt s i) ≡ true → pointsLater t s i ≡ laterType t s i (namedAt t (rowAt s i))
   unfolding pointsLater
-  points-list h = rw h
+  points-row h = rw h
 
-  pub points-member : kindAt t (rowAt s i) ≡ 16 → pointsLater t s i ≡ laterType t s i (typeRowAt t (rowAt s i))
-  unfolding pointsLater isList
-  points-member h = rw h
-
-  pub points-none : isList (kindAt t (rowAt s i)) ≡ false → (kindAt t (rowAt s i) ≡ 16 → ⊥) → pointsLater t s i ≡ true
+  pub points-none : namesRow t (rowAt s i) ≡ false → pointsLater t s i ≡ true
   unfolding pointsLater
-  points-none h n = rw (h, ne-eqb (kindAt t (rowAt s i)) 16 n)
+  points-none h = rw h
 
   pub alternatives-none : (kindAt t (rowAt s i) ≡ 13 → ⊥) → alternativesMandatory t s i ≡ true
   unfolding alternativesMandatory
@@ -248,28 +245,28 @@ module _ (t w : List ℕ) (i : ℕ) (going : Going t w (i + 1)) where
       member-word : MemberWord t (placeAt t j) (typeKind t (tableRows t) j) (firstAt w j)
       member-word = row-words .shape .of-member member
 
-      names : Named t j (typeRowAt t (placeAt t j))
-      names = is-named t j _ (sym (points-member 16 t (tableRows t) j member) ∙ fits-points 16 t (tableRows t) j (going .fits j (omega arith) there))
+      names : Named t j (namedAt t (placeAt t j))
+      names = is-named t j _ (sym (points-row 16 t (tableRows t) j (member-names t (placeAt t j) member)) ∙ fits-points 16 t (tableRows t) j (going .fits j (omega arith) there))
 
-      type-words : RowWords t w (typeRowAt t (placeAt t j)) (firstAt w (typeRowAt t (placeAt t j))) (secondAt w (typeRowAt t (placeAt t j)))
-      type-words = let a = names .0 in going .words (typeRowAt t (placeAt t j)) (omega arith) (names .1)
+      type-words : RowWords t w (namedAt t (placeAt t j)) (firstAt w (namedAt t (placeAt t j))) (secondAt w (namedAt t (placeAt t j)))
+      type-words = let a = names .0 in going .words (namedAt t (placeAt t j)) (omega arith) (names .1)
 
       set-as : setAt w j ≡ memberSet (secondAt w) t (placeAt t j)
       unfolding setAt memberSet
       set-as =
           ap₂ (λ (x y : ℕ). pick (ltb x 128) (secondAt w y) (contextBit (x % 32))) (member-word .opens) (member-word .leads)
-          ∙ by-class (modeAt t (placeAt t j)) (numberAt t (placeAt t j)) (typeKind t (tableRows t) j) (secondAt w (typeRowAt t (placeAt t j))) (member-formed t (going .first) j there member .number)
+          ∙ by-class (modeAt t (placeAt t j)) (numberAt t (placeAt t j)) (typeKind t (tableRows t) j) (secondAt w (namedAt t (placeAt t j))) (member-formed t (going .first) j there member .number)
 
       pub member-small : setAt w j < 2 ^ 64
       member-small = rw set-as (set-small (secondAt w) t (placeAt t j) (type-words .small (names .2)))
 
-      pub member-bits : (k : ℕ) → chainFits k t (tableRows t) (typeRowAt t (placeAt t j)) ≡ true → (g : ℕ) → g < 64
-          → bitOf (setAt w j) g ≡ memberBegins (memberOf t j (placeAt t j)) (typeFrom k t (tableRows t) (typeRowAt t (placeAt t j))) g
+      pub member-bits : (k : ℕ) → chainFits k t (tableRows t) (namedAt t (placeAt t j)) ≡ true → (g : ℕ) → g < 64
+          → bitOf (setAt w j) g ≡ memberBegins (memberOf t j (placeAt t j)) (typeFrom k t (tableRows t) (namedAt t (placeAt t j))) g
       member-bits k fits g l =
           ap (λ (x : ℕ). bitOf x g) set-as
-          ∙ set-bits (secondAt w) (typeFrom k t (tableRows t) (typeRowAt t (placeAt t j))) t j (placeAt t j) g l (type-words .tags (names .2) k fits g l)
+          ∙ set-bits (secondAt w) (typeFrom k t (tableRows t) (namedAt t (placeAt t j))) t j (placeAt t j) g l (type-words .tags (names .2) k fits g l)
 
-      pub member-chain : (k : ℕ) → chainFits k t (tableRows t) (typeRowAt t (placeAt t j)) ≡ leb (typeChain w j) k
+      pub member-chain : (k : ℕ) → chainFits k t (tableRows t) (namedAt t (placeAt t j)) ≡ leb (typeChain w j) k
       unfolding typeChain
       member-chain k = type-words .chain (names .2) k ∙ ap (λ (x : ℕ). leb (chainOf (firstAt w x)) k) (sym (member-word .leads))
 
@@ -286,11 +283,11 @@ module _ (t w : List ℕ) (i : ℕ) (going : Going t w (i + 1)) where
     group-small j l h = let c = in-group t (going .first) i here j l h in member-small j (omega arith) (c .0) (c .1)
 
     pub group-bits : (k : ℕ) → chainFits (suc k) t (tableRows t) i ≡ true → (j : ℕ) → i + 1 ≤ j → j < i + 1 + membersAt t (placeAt t i) → (g : ℕ) → g < 64
-        → bitOf (setAt w j) g ≡ memberBegins (memberOf t j (placeAt t j)) (typeFrom k t (tableRows t) (typeRowAt t (placeAt t j))) g
+        → bitOf (setAt w j) g ≡ memberBegins (memberOf t j (placeAt t j)) (typeFrom k t (tableRows t) (namedAt t (placeAt t j))) g
     group-bits k fits j l h g b =
         let c = in-group t (going .first) i here j l h in
         let q : i + 1 + (j - (i + 1)) ≡ j = omega arith in
-        let d : chainFits k t (tableRows t) (typeRowAt t (placeAt t j)) ≡ true = rw q at (member-fits t (tableRows t) i k fits (j - (i + 1)) (omega arith)) in
+        let d : chainFits k t (tableRows t) (namedAt t (placeAt t j)) ≡ true = rw q at (member-fits t (tableRows t) i k fits (j - (i + 1)) (omega arith)) in
         member-bits j (omega arith) (c .0) (c .1) k d g b
 
     pub group-mandatory : (j : ℕ) → i + 1 ≤ j → j < i + 1 + membersAt t (placeAt t i) → mandatoryIn w j ≡ isMandatory (memberOf t j (placeAt t j) .presence)
@@ -308,7 +305,7 @@ module _ (t w : List ℕ) (i : ℕ) (going : Going t w (i + 1)) where
         all-cong (mandatoryAfter w (i + 1)) (mandatoryAt t (tableRows t) i) (membersAt t (placeAt t i))
         (λ a l. let c = member-here t (going .first) i here a l in presence-is (i + 1 + a) (omega arith) (c .0) (c .1))
 
-  pub element-chain : (k : ℕ) → isList (kindAt t (placeAt t i)) ≡ true → Named t i (elementAt t (placeAt t i)) → chainFits k t (tableRows t) i ≡ leb (chainOf (firstAt w (elementAt t (placeAt t i))) + 1) k
+  pub element-chain : (k : ℕ) → isList (kindAt t (placeAt t i)) ≡ true → Named t i (namedAt t (placeAt t i)) → chainFits k t (tableRows t) i ≡ leb (chainOf (firstAt w (namedAt t (placeAt t i))) + 1) k
   element-chain k e n =
-      chain-list t (tableRows t) i (chainOf (firstAt w (elementAt t (placeAt t i)))) e
-      (λ k. row-words (elementAt t (placeAt t i)) (n .0) (n .1) .chain (n .2) k) k
+      chain-list t (tableRows t) i (chainOf (firstAt w (namedAt t (placeAt t i)))) e
+      (λ k. row-words (namedAt t (placeAt t i)) (n .0) (n .1) .chain (n .2) k) k

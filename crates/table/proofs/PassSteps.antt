@@ -14,7 +14,8 @@ use Rattle.octets.proofs.Laws.{octet-past, all-more, all-bad, both-true}
 use Rattle.der.specs.Tag.{universal}
 use Rattle.rows.specs.Paper.{tableLimits}
 use Rattle.rows.specs.inner.Sizes.{WholeMember}
-use Rattle.rows.specs.Row.{rowAt, kindAt, isTypeKind, elementAt, typeRowAt, membersAt, isList, modeAt, numberAt, presenceAt, defaultLengthAt, defaultAt}
+use Rattle.rows.proofs.KindLaws.{list-names, member-names, names-none, named-none}
+use Rattle.rows.specs.Row.{rowAt, kindAt, isTypeKind, namedAt, membersAt, isList, modeAt, numberAt, presenceAt, defaultLengthAt, defaultAt}
 use Rattle.clauses.specs.Clauses.{isType, laterType, pointsLater, typeKind, alternativesMandatory, noImplicitChoice, defaultLegal, defaultAllowed, chainFits}
 use Rattle.clauses.specs.inner.Work.{firstPass, tallest}
 use Rattle.clauses.proofs.PassLaws.{member-whole}
@@ -29,9 +30,9 @@ use Rattle.table.specs.declared.Made.{Made}
 use Rattle.table.specs.declared.Tags.{Tags}
 use Rattle.table.specs.inner.Rows.{tableRows, placeAt, MemberRow, TypeRow}
 use Rattle.table.specs.inner.Fields.{kindOf, firstOf, targetOf, chainOf, presenceOf, Packed}
-use Rattle.table.specs.inner.Words.{firstOctet, elementRow, TypeWord, MemberWord}
+use Rattle.table.specs.inner.Words.{firstOctet, TypeWord, MemberWord}
 use Rattle.table.specs.inner.Pass.{firstAt, secondAt, setAt, typeChain, mandatoryIn, chainAfter, mandatoryAfter, implicitChoice, memberAllowed, memberSecond, Basic, RowWords, Next, Says}
-use Rattle.table.proofs.PassLaws.{Named, is-named, few-rows, member-formed, place-small, group-ends, unfit, fit, fits-points, fits-alternatives, fits-implicit, fits-default, fits-chain, fits-tags, points-list, points-member, points-none, alternatives-none, alternatives-all, implicit-none, default-none, allowed-as, list-no-sequence, list-no-choice, list-no-member, sequence-no-list, choice-no-list, member-no-list, no-members, other-kind, later-kind, group-small, group-bits, group-mandatory, group-chain, alternatives-as, element-chain}
+use Rattle.table.proofs.PassLaws.{Named, is-named, few-rows, member-formed, place-small, group-ends, unfit, fit, fits-points, fits-alternatives, fits-implicit, fits-default, fits-chain, fits-tags, points-row, points-none, alternatives-none, alternatives-all, implicit-none, default-none, allowed-as, list-no-sequence, list-no-choice, list-no-member, sequence-no-list, choice-no-list, member-no-list, no-members, other-kind, later-kind, group-small, group-bits, group-mandatory, group-chain, alternatives-as, element-chain}
 
 -- ---- reading the words
 pub first-past : (w : List ℕ) (j : ℕ) → length w ≡ 256 → 128 ≤ j → 0 ≡ getD w (2 * j) 0
@@ -196,7 +197,7 @@ pub made-says : (t w : List ℕ) (i x y : ℕ) → rowFits 16 t (tableRows t) i 
 made-says t w i x y e v = record { fits = sym e; words = λ a b q. let k : x ≡ a = cc in let l : y ≡ b = cc in rw (← k, ← l) v }
 
 type-says : (t w : List ℕ) (i p d x y : ℕ) → p ≡ placeAt t i → rowFits 16 t (tableRows t) i ≡ true → TypeRow t i
-    → Packed x (kindAt t p) (firstOctet untagged (kindAt t p)) (membersAt t p) (elementRow t p) d 0 0 0 p
+    → Packed x (kindAt t p) (firstOctet untagged (kindAt t p)) (membersAt t p) (namedAt t p) d 0 0 0 p
     → ((k : ℕ) → chainFits k t (tableRows t) i ≡ leb d k) → y < 2 ^ 64
     → ((k : ℕ) → chainFits k t (tableRows t) i ≡ true → (g : ℕ) → g < 64 → bitOf y g ≡ begins (typeFrom k t (tableRows t) i) g)
     → Says t w i (Made.Words x y)
@@ -272,16 +273,17 @@ module _ (t w : List ℕ) (n i p : ℕ) (next : Next t w n i p) where
   pub next-whole : kindAt t p ≡ 16 → WholeMember t p
   next-whole member =
       record {
+        member = member;
         inside = rw (next .placed) (member-whole (tableLimits .rows) t i (next .here) (the-kind 16 member));
         short = rw (next .placed) (member-formed t first-ok i (next .here) (the-kind 16 member) .length);
       }
 
-  module _ (member : kindAt t p ≡ 16) (j : ℕ) (points : j ≡ typeRowAt t p) (r : Bool) (told : r ≡ laterType t (tableRows t) i j) where
+  module _ (member : kindAt t p ≡ 16) (j : ℕ) (points : j ≡ namedAt t p) (r : Bool) (told : r ≡ laterType t (tableRows t) i j) where
     is-member : MemberRow t i
     is-member = the-kind 16 member
 
     points-as : pointsLater t (tableRows t) i ≡ r
-    points-as = points-member 16 t (tableRows t) i is-member ∙ ap (laterType t (tableRows t) i) (sym (points ∙ ap (typeRowAt t) (next .placed))) ∙ sym told
+    points-as = points-row 16 t (tableRows t) i (member-names t (placeAt t i) is-member) ∙ ap (laterType t (tableRows t) i) (sym (points ∙ ap (namedAt t) (next .placed))) ∙ sym told
 
     pub member-unnamed : not r ≡ true → Says t w i Made.Refused
     member-unnamed e = refused-says t w i (unfit 16 t (tableRows t) i (pointsLater t (tableRows t) i) (fits-points 16 t (tableRows t) i) (points-as ∙ not-true r e))
@@ -293,7 +295,7 @@ module _ (t w : List ℕ) (n i p : ℕ) (next : Next t w n i p) where
       pub member-number : numberAt t p ≤ 30
       member-number = rw (next .placed) (member-formed t first-ok i (next .here) is-member .number)
 
-      pub member-target : typeRowAt t p < tableLimits .rows
+      pub member-target : namedAt t p < tableLimits .rows
       member-target = let a = named .1 in let b = few-rows t first-ok in rw (← points) (omega arith)
 
       pub member-size : length (defaultAt t p) ≤ 8
@@ -306,7 +308,7 @@ module _ (t w : List ℕ) (n i p : ℕ) (next : Next t w n i p) where
         the-type : k ≡ typeKind t (tableRows t) i
         the-type =
             kind ∙ ap (λ (z : ℕ). kindOf z) read ∙ sym (later-kind t w i (next .going) j (named .0) (named .1))
-            ∙ ap (λ (z : ℕ). kindAt t (placeAt t z)) (points ∙ ap (typeRowAt t) (next .placed))
+            ∙ ap (λ (z : ℕ). kindAt t (placeAt t z)) (points ∙ ap (namedAt t) (next .placed))
 
         allowed-is : both (noImplicitChoice t (tableRows t) i) (defaultLegal t (tableRows t) i) ≡ u
         allowed-is = allowed-as 16 t (tableRows t) i is-member ∙ sym (allowed ∙ ap₂ (memberAllowed t) (next .placed) the-type)
@@ -333,7 +335,7 @@ module _ (t w : List ℕ) (n i p : ℕ) (next : Next t w n i p) where
           chain = λ h. absurd (h is-member);
           small = λ h. absurd (h is-member);
           tags = λ h. absurd (h is-member);
-          stored = λ _. f ∙ ap₂ (memberSecond t) (next .placed) (q ∙ ap (secondAt w) (points ∙ ap (typeRowAt t) (next .placed)));
+          stored = λ _. f ∙ ap₂ (memberSecond t) (next .placed) (q ∙ ap (secondAt w) (points ∙ ap (namedAt t) (next .placed)));
         })
 
   own-small : (b : ℕ) → b ≡ 2 ^ universal (kindAt t p) → b < 2 ^ 64
@@ -343,12 +345,12 @@ module _ (t w : List ℕ) (n i p : ℕ) (next : Next t w n i p) where
   own-bits b q n k e g l = ap (λ (x : ℕ). bitOf x g) (q ∙ ap (λ (x : ℕ). 2 ^ universal (kindAt t x)) (next .placed)) ∙ one-tag t (tableRows t) i n k e g l
 
   -- ---- a list
-  module _ (list : isList (kindAt t p) ≡ true) (j : ℕ) (points : j ≡ elementAt t p) (r : Bool) (told : r ≡ laterType t (tableRows t) i j) where
+  module _ (list : isList (kindAt t p) ≡ true) (j : ℕ) (points : j ≡ namedAt t p) (r : Bool) (told : r ≡ laterType t (tableRows t) i j) where
     is-list : isList (kindAt t (placeAt t i)) ≡ true
     is-list = rw (← next .placed) list
 
     element-as : pointsLater t (tableRows t) i ≡ r
-    element-as = points-list 16 t (tableRows t) i is-list ∙ ap (laterType t (tableRows t) i) (sym (points ∙ ap (elementAt t) (next .placed))) ∙ sym told
+    element-as = points-row 16 t (tableRows t) i (list-names t (placeAt t i) is-list) ∙ ap (laterType t (tableRows t) i) (sym (points ∙ ap (namedAt t) (next .placed))) ∙ sym told
 
     pub list-unnamed : not r ≡ true → Says t w i Made.Refused
     list-unnamed e = refused-says t w i (unfit 16 t (tableRows t) i (pointsLater t (tableRows t) i) (fits-points 16 t (tableRows t) i) (element-as ∙ not-true r e))
@@ -357,21 +359,20 @@ module _ (t w : List ℕ) (n i p : ℕ) (next : Next t w n i p) where
       element-named : Named t i j
       element-named = is-named t i j (sym told ∙ not-false r later)
 
-      pub list-element : elementRow t p < 256
-      unfolding elementRow
-      list-element = let a = element-named .1 in let b = few-rows t first-ok in rw (list, ← points) (omega arith)
+      pub list-element : j < 256
+      list-element = let a = element-named .1 in let b = few-rows t first-ok in omega arith
 
       module _ (x d : ℕ) (read : x ≡ firstAt w j) (below : d ≡ chainOf x) where
         list-chain : (k : ℕ) → chainFits k t (tableRows t) i ≡ leb (d + 1) k
         list-chain k =
-            let e : j ≡ elementAt t (placeAt t i) = points ∙ ap (elementAt t) (next .placed) in
-            let h : Named t i (elementAt t (placeAt t i)) = rw e at element-named in
+            let e : j ≡ namedAt t (placeAt t i) = points ∙ ap (namedAt t) (next .placed) in
+            let h : Named t i (namedAt t (placeAt t i)) = rw e at element-named in
             element-chain t w i (next .going) k is-list h ∙ ap (λ (z : ℕ). leb (z + 1) k) (sym (below ∙ ap (λ (z : ℕ). chainOf z) (read ∙ ap (firstAt w) e)))
 
         pub list-long : 16 ≤ d → Says t w i Made.Refused
         list-long h = refused-says t w i (unfit 16 t (tableRows t) i (chainFits 16 t (tableRows t) i) (fits-chain 16 t (tableRows t) i) (list-chain 16 ∙ lt-leb (d + 1) 16 (omega arith)))
 
-        pub list-made : (a b : ℕ) → d < 16 → Packed a (kindAt t p) (firstOctet untagged (kindAt t p)) (membersAt t p) (elementRow t p) (d + 1) 0 0 0 p → b ≡ 2 ^ universal (kindAt t p)
+        pub list-made : (a b : ℕ) → d < 16 → Packed a (kindAt t p) (firstOctet untagged (kindAt t p)) (membersAt t p) (namedAt t p) (d + 1) 0 0 0 p → b ≡ 2 ^ universal (kindAt t p)
             → Says t w i (Made.Words a b)
         list-made a b h v q =
             let no-choice = list-no-choice (kindAt t (placeAt t i)) is-list in
@@ -382,11 +383,11 @@ module _ (t w : List ℕ) (n i p : ℕ) (next : Next t w n i p) where
             no-member v list-chain (own-small b q) (own-bits b q no-choice)
 
   -- ---- a row without members or element
-  pub basic-made : (a b : ℕ) → Basic (kindAt t p) → Packed a (kindAt t p) (firstOctet untagged (kindAt t p)) (membersAt t p) (elementRow t p) 1 0 0 0 p → b ≡ 2 ^ universal (kindAt t p)
+  pub basic-made : (a b : ℕ) → Basic (kindAt t p) → Packed a (kindAt t p) (firstOctet untagged (kindAt t p)) (membersAt t p) (namedAt t p) 1 0 0 0 p → b ≡ 2 ^ universal (kindAt t p)
       → Says t w i (Made.Words a b)
   basic-made a b basic v q =
       type-says t w i p 1 a b (next .placed)
-      (fit 16 t (tableRows t) i (points-none 16 t (tableRows t) i no-list no-member) (alternatives-none 16 t (tableRows t) i no-choice) (implicit-none 16 t (tableRows t) i no-member) (default-none 16 t (tableRows t) i no-member)
+      (fit 16 t (tableRows t) i (points-none 16 t (tableRows t) i (names-none t (placeAt t i) no-list no-member)) (alternatives-none 16 t (tableRows t) i no-choice) (implicit-none 16 t (tableRows t) i no-member) (default-none 16 t (tableRows t) i no-member)
       (chain 16 ∙ refl) (tags-none t (tableRows t) i no-sequence no-choice))
       no-member v chain (own-small b q) (own-bits b q no-choice)
     where
@@ -417,7 +418,7 @@ module _ (t w : List ℕ) (n i p : ℕ) (next : Next t w n i p) where
     long e h = refused-says t w i (unfit 16 t (tableRows t) i (chainFits 16 t (tableRows t) i) (fits-chain 16 t (tableRows t) i) (the-chain e 16 ∙ lt-leb (d + 1) 16 (omega arith)))
 
     right : (k : ℕ) → chainFits (suc k) t (tableRows t) i ≡ true → (j : ℕ) → i + 1 ≤ j → j < i + 1 + membersAt t (placeAt t i) → (g : ℕ) → g < 64
-        → bitOf (setAt w j) g ≡ memberBegins (memberOf t j (placeAt t j)) (typeFrom k t (tableRows t) (typeRowAt t (placeAt t j))) g
+        → bitOf (setAt w j) g ≡ memberBegins (memberOf t j (placeAt t j)) (typeFrom k t (tableRows t) (namedAt t (placeAt t j))) g
     right = group-bits t w i (next .going) (next .here)
 
     small : (j : ℕ) → i + 1 ≤ j → j < i + 1 + membersAt t (placeAt t i) → setAt w j < 2 ^ 64
@@ -446,13 +447,13 @@ module _ (t w : List ℕ) (n i p : ℕ) (next : Next t w n i p) where
         pub sequence-common : not r ≡ true → Says t w i Made.Refused
         sequence-common e = refused-says t w i (unfit 16 t (tableRows t) i (tagsDiffer 16 t (tableRows t) i) (fits-tags 16 t (tableRows t) i) (tags-as ∙ not-true r e))
 
-        pub sequence-made : (a b : ℕ) → not r ≡ false → Packed a (kindAt t p) (firstOctet untagged (kindAt t p)) (membersAt t p) (elementRow t p) (d + 1) 0 0 0 p → b ≡ 2 ^ universal (kindAt t p)
+        pub sequence-made : (a b : ℕ) → not r ≡ false → Packed a (kindAt t p) (firstOctet untagged (kindAt t p)) (membersAt t p) (namedAt t p) (d + 1) 0 0 0 p → b ≡ 2 ^ universal (kindAt t p)
             → Says t w i (Made.Words a b)
         sequence-made a b e v q =
             let no-choice = other-kind (kindAt t (placeAt t i)) 12 13 (the-kind 12 sequence) (λ z. omega arith) in
             let no-member = other-kind (kindAt t (placeAt t i)) 12 16 (the-kind 12 sequence) (λ z. omega arith) in
             type-says t w i p (d + 1) a b (next .placed)
-            (fit 16 t (tableRows t) i (points-none 16 t (tableRows t) i no-list no-member) (alternatives-none 16 t (tableRows t) i no-choice) (implicit-none 16 t (tableRows t) i no-member) (default-none 16 t (tableRows t) i no-member)
+            (fit 16 t (tableRows t) i (points-none 16 t (tableRows t) i (names-none t (placeAt t i) no-list no-member)) (alternatives-none 16 t (tableRows t) i no-choice) (implicit-none 16 t (tableRows t) i no-member) (default-none 16 t (tableRows t) i no-member)
             short-chain (tags-as ∙ not-false r e))
             no-member v (the-chain no-list) (own-small b q) (own-bits b q no-choice)
 
@@ -494,13 +495,13 @@ module _ (t w : List ℕ) (n i p : ℕ) (next : Next t w n i p) where
               go true q = absurd (let z : _≡_ {A = ℕ} 0 1 = cc in omega arith)
               go false q = refl
 
-          pub choice-made : (a b : ℕ) → not u ≡ false → g ≡ Tags.Of b → Packed a (kindAt t p) (firstOctet untagged (kindAt t p)) (membersAt t p) (elementRow t p) (d + 1) 0 0 0 p
+          pub choice-made : (a b : ℕ) → not u ≡ false → g ≡ Tags.Of b → Packed a (kindAt t p) (firstOctet untagged (kindAt t p)) (membersAt t p) (namedAt t p) (d + 1) 0 0 0 p
               → Says t w i (Made.Words a b)
           choice-made a b e f v =
               let found = go (apartFrom (setAt w) never m (i + 1) 0) (sym told ∙ f) in
               let no-member = other-kind (kindAt t (placeAt t i)) 13 16 is-choice (λ z. omega arith) in
               type-says t w i p (d + 1) a b (next .placed)
-              (fit 16 t (tableRows t) i (points-none 16 t (tableRows t) i choice-list no-member) (mandatory-as ∙ not-false u e) (implicit-none 16 t (tableRows t) i no-member) (default-none 16 t (tableRows t) i no-member)
+              (fit 16 t (tableRows t) i (points-none 16 t (tableRows t) i (names-none t (placeAt t i) choice-list no-member)) (mandatory-as ∙ not-false u e) (implicit-none 16 t (tableRows t) i no-member) (default-none 16 t (tableRows t) i no-member)
               choice-chain (choice-as ∙ found .0))
               no-member v (the-chain choice-list) (rw (the-set (found .1)) union-fits) (λ k c h l. ap (λ (x : ℕ). bitOf x h) (the-set (found .1)) ∙ bits k c h l)
             where
@@ -521,20 +522,16 @@ module _ (t w : List ℕ) (n i p : ℕ) (next : Next t w n i p) where
                   ∙ ap (λ (x : Bool). either x (someBegins (membersFrom (typeFrom k t (tableRows t)) t (tableRows t) (i + 1) (membersAt t (placeAt t i))) h)) (bit-none h)
                   ∙ sym (bits-choice t (tableRows t) i k is-choice h)
 
--- ---- no element
+-- ---- no row is named
 module _ (t : List ℕ) (p : ℕ) where
-  no-list-element : isList (kindAt t p) ≡ false → elementRow t p < 256
-  unfolding elementRow
-  no-list-element e = rw e (omega arith)
+  pub sequence-unnamed : kindAt t p ≡ 12 → 0 ≡ namedAt t p
+  sequence-unnamed e = sym (named-none t p (sequence-no-list (kindAt t p) e) (other-kind (kindAt t p) 12 16 e (λ z. omega arith)))
 
-  pub sequence-element : kindAt t p ≡ 12 → elementRow t p < 256
-  sequence-element e = no-list-element (sequence-no-list (kindAt t p) e)
+  pub choice-unnamed : kindAt t p ≡ 13 → 0 ≡ namedAt t p
+  choice-unnamed e = sym (named-none t p (choice-no-list (kindAt t p) e) (other-kind (kindAt t p) 13 16 e (λ z. omega arith)))
 
-  pub choice-element : kindAt t p ≡ 13 → elementRow t p < 256
-  choice-element e = no-list-element (choice-no-list (kindAt t p) e)
-
-  pub basic-element : Basic (kindAt t p) → elementRow t p < 256
-  basic-element b = no-list-element (b .list)
+  pub basic-unnamed : Basic (kindAt t p) → 0 ≡ namedAt t p
+  basic-unnamed b = sym (named-none t p (b .list) (b .member))
 
 -- ---- the kind of a row
 module _ (t : List ℕ) (p k : ℕ) (read : k ≡ kindAt t p) where

@@ -1,6 +1,6 @@
 -- What the words of an admitted table say, and that they are there.
 use mathlib.Core.Path.{_≡_, refl, sym, _∙_}
-use mathlib.Core.Bool.{Bool, true, false, false≢true}
+use mathlib.Core.Bool.{Bool, true, false}
 use mathlib.Core.List.{List}
 use Prim.Native.Nat.{ℕ, _≤_, _<_, _+_, _*_}
 use native.Mathlib.Omega.{arith}
@@ -9,9 +9,9 @@ use lib.ListN.{length, getD}
 use lib.Dec.{eqb}
 use Rattle.octets.specs.Octets.{baseFrom}
 use Rattle.rows.specs.Limits.{Limits}
-use Rattle.rows.specs.Row.{rows, rowAt, kindAt, elementAt, typeRowAt, membersAt, isGroup, isList, modeAt, presenceAt, defaultAt}
-use Rattle.clauses.specs.Clauses.{isType, laterType, pointsLater}
-use Rattle.clauses.proofs.LaterSteps.{type-row, later-row}
+use Rattle.rows.specs.Row.{rows, rowAt, kindAt, namedAt, membersAt, isGroup, modeAt, presenceAt, defaultAt}
+use Rattle.clauses.specs.Clauses.{isType, laterType}
+use Rattle.clauses.proofs.LaterSteps.{type-row, later-row, points-named}
 use Rattle.types.specs.Types.{untagged}
 use Rattle.types.specs.Admitted.{admitted}
 use Rattle.types.specs.inner.Work.{Masked}
@@ -20,7 +20,7 @@ use Rattle.types.proofs.SoundLaws.{sound}
 use Rattle.table.proofs.Places.{row-place}
 use Rattle.table.specs.inner.Rows.{tableRows, placeAt, taggingAt, memberKindAt}
 use Rattle.table.specs.inner.Fields.{kindOf, firstOf, countOf, targetOf, typeOf, howOf, presenceOf, lengthOf, placeOf}
-use Rattle.table.specs.inner.Words.{firstOctet, how, elementRow, secondOf, Shaped, Ready, Worded}
+use Rattle.table.specs.inner.Words.{firstOctet, how, secondOf, Shaped, Ready, Worded}
 use Rattle.rows.specs.Paper.{tableLimits}
 
 -- ---- an admitted table is ready for its words
@@ -29,15 +29,6 @@ is-type t s j e h = type-row t s j e .1 h
 
 later-type : (t s : List ℕ) (i j : ℕ) → laterType t s i j ≡ true → (j < length s) × (kindAt t (rowAt s j) ≡ 16 → ⊥)
 later-type t s i j e = type-row t s j (later-row t s i j e .1)
-
-module _ (t s : List ℕ) (i : ℕ) (points : pointsLater t s i ≡ true) where
-  of-list : isList (kindAt t (rowAt s i)) ≡ true → laterType t s i (elementAt t (rowAt s i)) ≡ true
-  unfolding pointsLater
-  of-list h = rw h at points
-
-  of-member : kindAt t (rowAt s i) ≡ 16 → laterType t s i (typeRowAt t (rowAt s i)) ≡ true
-  unfolding pointsLater isList
-  of-member h = rw h at points
 
 pub ready : (l : Limits) (t m : List ℕ) → admitted l t ≡ true → l .rows ≤ tableLimits .rows → Masked (l .chain) t (rows (l .rows) t) m
     → Ready (l .chain) t (rows (l .rows) t) m
@@ -49,9 +40,8 @@ ready l t m ok few masked = record {
   place = λ i h. let a = row-place (l .rows) t i h in let b = row-count l t ok .1 in omega arith;
   number = λ i h k. member-formed l t ok i h k .number;
   size = λ i h k. member-formed l t ok i h k .length;
-  target = λ i h k. later-type t _ i _ (of-member t _ i (points-later l t ok i h) k) .0;
-  of-element = λ i h k. later-type t _ i _ (of-list t _ i (points-later l t ok i h) k) .1;
-  of-member = λ i h k. later-type t _ i _ (of-member t _ i (points-later l t ok i h) k) .1;
+  target = λ i h k. later-type t _ i _ (points-named t _ i k (points-later l t ok i h)) .0;
+  typed = λ i h k. later-type t _ i _ (points-named t _ i k (points-later l t ok i h)) .1;
 }
 
 -- ---- reading
@@ -86,20 +76,12 @@ module _ (t w : List ℕ) (i : ℕ) (ok : Worded t w) (here : i < length (tableR
     pub read-own : (kindAt t (placeAt t i) ≡ 16 → ⊥) → r ≡ firstOf x → r ≡ firstOctet untagged (kindAt t (placeAt t i))
     read-own h e = e ∙ shaped .of-type h .opens
 
-    list-type : isList (kindAt t (placeAt t i)) ≡ true → kindAt t (placeAt t i) ≡ 16 → ⊥
-    unfolding isList
-    list-type h e = false≢true (rw e at h)
-
-    pub read-element : isList (kindAt t (placeAt t i)) ≡ true → r ≡ targetOf x → r ≡ elementAt t (placeAt t i)
-    unfolding elementRow
-    read-element h e = e ∙ shaped .of-type (list-type h) .leads ∙ rw h
+    pub read-named : r ≡ targetOf x → r ≡ namedAt t (placeAt t i)
+    read-named e = by-kind (λ r. r ≡ namedAt t (placeAt t i)) (λ h. e ∙ shaped .of-member h .leads) (λ h. e ∙ shaped .of-type h .leads)
 
     module _ (member : kindAt t (placeAt t i) ≡ 16) where
       pub read-first : r ≡ firstOf x → r ≡ firstOctet (taggingAt t i) (memberKindAt t i)
       read-first e = e ∙ shaped .of-member member .opens
-
-      pub read-type-row : r ≡ targetOf x → r ≡ typeRowAt t (placeAt t i)
-      read-type-row e = e ∙ shaped .of-member member .leads
 
       pub read-type-kind : r ≡ typeOf x → r ≡ memberKindAt t i
       read-type-kind e = e ∙ shaped .of-member member .typed

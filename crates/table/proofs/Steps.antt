@@ -10,11 +10,11 @@ use lib.Dec.{leb, eqb}
 use Rattle.octets.specs.Pick.{pick}
 use Rattle.der.specs.Tag.{universal, ownOctet, implicitOctet, wrapperOctet}
 use Rattle.der.specs.Kind.{isConstructed}
-use Rattle.rows.specs.Row.{kindAt, elementAt, typeRowAt, membersAt, isList, modeAt, numberAt, presenceAt, defaultAt}
+use Rattle.rows.specs.Row.{kindAt, namedAt, membersAt, modeAt, numberAt, presenceAt, defaultAt}
 use Rattle.types.specs.Types.{Tagging, untagged, explicit, implicit, taggingOf}
 use Rattle.types.proofs.TagLaws.{universal-fits}
 use Rattle.table.specs.inner.Fields.{Packed}
-use Rattle.table.specs.inner.Words.{firstOctet, how, elementRow, MemberWord}
+use Rattle.table.specs.inner.Words.{firstOctet, how, MemberWord}
 use Rattle.rows.specs.Paper.{tableLimits}
 
 -- ---- the first tag octet
@@ -65,21 +65,12 @@ pub type-first : (k f : ℕ) → f ≡ firstOctet (taggingOf 0 0) k → f < 256
 type-first k f e = first-small 0 0 k f e (omega arith)
 
 -- ---- the words of a row
-module _ (t : List ℕ) (p r k : ℕ) (b : Bool) (e : k ≡ kindAt t p) (q : b ≡ isList k) where
-  pub element-is : b ≡ true → r ≡ elementAt t p → r ≡ elementRow t p
-  unfolding elementRow
-  element-is h f = rw (← e, ← q, h) f
-
-pub element-none : (t : List ℕ) (p k : ℕ) (b : Bool) → k ≡ kindAt t p → b ≡ isList k → b ≡ false → 0 ≡ elementRow t p
-unfolding elementRow
-element-none t p k b e q h = rw (← e, ← q, h)
-
-pub type-packed : (t : List ℕ) (p k f n e d x : ℕ) → k ≡ kindAt t p → f ≡ firstOctet (taggingOf 0 0) k → n ≡ membersAt t p → e ≡ elementRow t p → Packed x k f n e d 0 0 0 p
-    → Packed x (kindAt t p) (firstOctet untagged (kindAt t p)) (membersAt t p) (elementRow t p) d 0 0 0 p
+pub type-packed : (t : List ℕ) (p k f n e d x : ℕ) → k ≡ kindAt t p → f ≡ firstOctet (taggingOf 0 0) k → n ≡ membersAt t p → e ≡ namedAt t p → Packed x k f n e d 0 0 0 p
+    → Packed x (kindAt t p) (firstOctet untagged (kindAt t p)) (membersAt t p) (namedAt t p) d 0 0 0 p
 unfolding taggingOf
 type-packed t p k f n e d x a b c g w = rw (← a, ← b, ← c, ← g) w
 
-pub pack-is : (t d : List ℕ) (p k mode n f j h pr x : ℕ) → mode ≡ modeAt t p → n ≡ numberAt t p → f ≡ firstOctet (taggingOf mode n) k → j ≡ typeRowAt t p
+pub pack-is : (t d : List ℕ) (p k mode n f j h pr x : ℕ) → mode ≡ modeAt t p → n ≡ numberAt t p → f ≡ firstOctet (taggingOf mode n) k → j ≡ namedAt t p
     → h ≡ how k mode → pr ≡ presenceAt t p → d ≡ defaultAt t p → Packed x 16 f 0 j k h pr (length d) p → MemberWord t p k x
 pack-is t d p k mode n f j h pr x a b c e g i l w = rw (← a, ← b, ← c, ← e, ← g, ← i, ← l) w
 
@@ -101,5 +92,5 @@ presence-fits t p pr e l = omega arith
 pub number-fits : (t : List ℕ) (p mode n k f : ℕ) → n ≡ numberAt t p → numberAt t p ≤ 30 → f ≡ firstOctet (taggingOf mode n) k → f < 256
 number-fits t p mode n k f e l q = first-small mode n k f q (rw e l)
 
-pub target-fits : (t : List ℕ) (p j : ℕ) → j ≡ typeRowAt t p → typeRowAt t p < tableLimits .rows → j < 256
+pub target-fits : (t : List ℕ) (p j : ℕ) → j ≡ namedAt t p → namedAt t p < tableLimits .rows → j < 256
 target-fits t p j e l = omega arith

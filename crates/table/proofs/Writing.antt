@@ -16,7 +16,8 @@ use Rattle.octets.proofs.Laws.{all-is, all-not}
 use Rattle.der.specs.Tag.{universal}
 use Rattle.rows.specs.Limits.{tableFits}
 use Rattle.rows.specs.Paper.{tableLimits}
-use Rattle.rows.specs.Row.{rows, kindAt, typeRowAt, presenceAt, defaultAt}
+use Rattle.rows.proofs.KindLaws.{member-names}
+use Rattle.rows.specs.Row.{rows, kindAt, namedAt, presenceAt, defaultAt}
 use Rattle.clauses.specs.inner.Work.{firstPass, Placed}
 use Rattle.types.specs.Types.{typeFrom}
 use Rattle.types.specs.Begins.{begins}
@@ -30,15 +31,15 @@ use Rattle.rows.specs.declared.Table.{Table}
 use Rattle.table.specs.declared.Made.{Made}
 use Rattle.table.specs.inner.Rows.{tableRows, placeAt, MemberRow, TypeRow}
 use Rattle.table.specs.inner.Words.{secondOf, Worded}
-use Rattle.table.specs.inner.Pass.{firstAt, secondAt, memberSecond, isMade, RowWords, Going, Next, Says, Leaves, rowSet}
-use Rattle.table.proofs.PassLaws.{Named, some-rows, few-rows, is-named, fits-points, fits-chain, points-member}
+use Rattle.table.specs.inner.Pass.{firstAt, secondAt, memberSecond, isMade, RowWords, Going, Next, Says, Leaves}
+use Rattle.table.proofs.PassLaws.{Named, some-rows, few-rows, is-named, fits-points, fits-chain, points-row}
 use Rattle.table.proofs.Reading.{ready}
 
 -- ---- one row more
 pub going-few : (t w : List ℕ) (n i : ℕ) → Going t w i → n ≡ length (tableRows t) → n ≤ 128
 going-few t w n i going e = let a = few-rows t (going .first) in omega arith
 
-keep : (t w v : List ℕ) (j x y : ℕ) → RowWords t w j x y → (MemberRow t j → secondAt v (typeRowAt t (placeAt t j)) ≡ secondAt w (typeRowAt t (placeAt t j))) → RowWords t v j x y
+keep : (t w v : List ℕ) (j x y : ℕ) → RowWords t w j x y → (MemberRow t j → secondAt v (namedAt t (placeAt t j)) ≡ secondAt w (namedAt t (placeAt t j))) → RowWords t v j x y
 keep t w v j x y k e = record {
   shape = k .shape;
   chain = k .chain;
@@ -47,8 +48,8 @@ keep t w v j x y k e = record {
   stored = λ h. k .stored h ∙ ap (memberSecond t (placeAt t j)) (sym (e h));
 }
 
-names-later : (t : List ℕ) (j : ℕ) → rowFits 16 t (tableRows t) j ≡ true → MemberRow t j → Named t j (typeRowAt t (placeAt t j))
-names-later t j e h = is-named t j _ (sym (points-member 16 t (tableRows t) j h) ∙ fits-points 16 t (tableRows t) j e)
+names-later : (t : List ℕ) (j : ℕ) → rowFits 16 t (tableRows t) j ≡ true → MemberRow t j → Named t j (namedAt t (placeAt t j))
+names-later t j e h = is-named t j _ (sym (points-row 16 t (tableRows t) j (member-names t (placeAt t j) h)) ∙ fits-points 16 t (tableRows t) j e)
 
 module _ (t w : List ℕ) (n i : ℕ) (going : Going t w i) (count : n ≡ length (tableRows t)) (inside : i ≤ n) (pos : 0 < i) where
   one-down : i - 1 + 1 ≡ i
@@ -121,20 +122,20 @@ listed-at f zero j h = absurd (omega arith)
 listed-at f (suc n) zero h = refl
 listed-at f (suc n) (suc j) h = listed-at (λ j. f (suc j)) n j (omega arith)
 
--- the set of tags of each row
-abbrev pub setOf : List ℕ → List ℕ → ℕ → ℕ
-setOf t w j = rowSet (kindAt t (placeAt t j)) (secondAt w j)
+-- the set of tags of row j: of a type row its second word; a member row's is not asked for
+unfoldable setOf : List ℕ → List ℕ → ℕ → ℕ
+setOf t w j = pick (eqb (kindAt t (placeAt t j)) 16) (2 ^ universal (kindAt t (placeAt t j))) (secondAt w j)
 
-pub set-of-member : (t w : List ℕ) (j : ℕ) → MemberRow t j → setOf t w j ≡ 2 ^ universal (kindAt t (placeAt t j))
-unfolding rowSet
+set-of-member : (t w : List ℕ) (j : ℕ) → MemberRow t j → setOf t w j ≡ 2 ^ universal (kindAt t (placeAt t j))
+unfolding setOf
 set-of-member t w j h = rw (eq-eqb (kindAt t (placeAt t j)) 16 h)
 
-pub set-of-type : (t w : List ℕ) (j : ℕ) → TypeRow t j → setOf t w j ≡ secondAt w j
-unfolding rowSet
+set-of-type : (t w : List ℕ) (j : ℕ) → TypeRow t j → setOf t w j ≡ secondAt w j
+unfolding setOf
 set-of-type t w j h = rw (ne-eqb (kindAt t (placeAt t j)) 16 h)
 
 -- where the sets of type rows are right, all are
-pub all-masked : (t w m : List ℕ) → ((j : ℕ) → j < length (tableRows t) → getD m j 0 ≡ setOf t w j)
+all-masked : (t w m : List ℕ) → ((j : ℕ) → j < length (tableRows t) → getD m j 0 ≡ setOf t w j)
     → ((j : ℕ) → j < length (tableRows t) → TypeRow t j → (g : ℕ) → g < 64 → bitOf (secondAt w j) g ≡ begins (typeFrom 16 t (tableRows t) j) g)
     → Masked 16 t (tableRows t) m
 all-masked t w m is typed = record { says = λ j l g b. go j l g b (eqb (kindAt t (placeAt t j)) 16) refl }
@@ -174,11 +175,11 @@ module _ (t w : List ℕ) (i : ℕ) (going : Going t w i) (z : i ≤ 0) where
       v = omega arith
 
       go : (x : Bool) → eqb (kindAt t (placeAt t j)) 16 ≡ x
-          → secondAt w j ≡ pick x (pick (eqb (presenceAt t (placeAt t j)) 2) (baseFrom 0 (defaultAt t (placeAt t j))) (getD sets (typeRowAt t (placeAt t j)) 0)) (getD sets j 0)
+          → secondAt w j ≡ pick x (pick (eqb (presenceAt t (placeAt t j)) 2) (baseFrom 0 (defaultAt t (placeAt t j))) (getD sets (namedAt t (placeAt t j)) 0)) (getD sets j 0)
       go true q =
           let h = eqb-true (kindAt t (placeAt t j)) 16 q in
           let k = names-later t j (going .fits j v l) h in
-          going .words j v l .stored h ∙ ap (pick (eqb (presenceAt t (placeAt t j)) 2) (baseFrom 0 (defaultAt t (placeAt t j)))) (sym (sets-at (typeRowAt t (placeAt t j)) (k .1) ∙ set-of-type t w (typeRowAt t (placeAt t j)) (k .2)))
+          going .words j v l .stored h ∙ ap (pick (eqb (presenceAt t (placeAt t j)) 2) (baseFrom 0 (defaultAt t (placeAt t j)))) (sym (sets-at (namedAt t (placeAt t j)) (k .1) ∙ set-of-type t w (namedAt t (placeAt t j)) (k .2)))
       go false q = sym (sets-at j l ∙ set-of-type t w j (eqb-false (kindAt t (placeAt t j)) 16 q))
 
   pub going-worded : Worded t w

@@ -17,7 +17,7 @@ ghost use Rattle.clauses.specs.Clauses.{laterType};
 ghost use Rattle.clauses.specs.inner.Work.{tallest};
 ghost use Rattle.types.specs.Types.{untagged, taggingOf};
 ghost use Rattle.types.specs.Check.{tableReport};
-ghost use Rattle.types.specs.inner.Work.{apartFrom, unionFrom, never, secondPass, rowCount, Admits};
+ghost use Rattle.types.specs.inner.Work.{apartFrom, unionFrom, never, secondPass, rowCount};
 ghost use Rattle.table.specs.Check.{report};
 ghost use Rattle.table.specs.declared.Tags.{Tags};
 ghost use Rattle.table.specs.inner.Rows.{tableRows, MemberRow, TypeRow, placeAt, taggingAt, memberKindAt};
@@ -176,30 +176,22 @@ fn how(kind: u8, mode: u8) -> u8
     2
 }
 
-fn element_row(t: &[u8], p: usize) -> usize
-    ensures { λ r. ⌜ r ≡ word.elementRow (now (t .entry)) p ⌝ }
-{
-    if rows::is_list(rows::kind_at(t, p)) {
-        return rows::element_at(t, p);
-    }
-    0
-}
-
-// The word of the type row at p, from which the longest chain has so many rows.
-fn type_word(t: &[u8], p: usize, chain: usize) -> u64
+// The word of the type row at p, which names the row `target`, and from which the longest chain has so many rows.
+fn type_word(t: &[u8], p: usize, target: usize, chain: usize) -> u64
     requires count { ⌜ row.membersAt (now t) p < 256 ⌝ }
-    requires element { ⌜ word.elementRow (now t) p < 256 ⌝ }
+    requires named { ⌜ target ≡ row.namedAt (now t) p ⌝ }
+    requires target { ⌜ target < 256 ⌝ }
     requires chain { ⌜ chain < 256 ⌝ }
     requires place { ⌜ p < 65536 ⌝ }
     ensures { λ r. ⌜ field.Packed r (row.kindAt (now (t .entry)) p) (word.firstOctet untagged (row.kindAt (now (t .entry)) p))
-        (row.membersAt (now (t .entry)) p) (word.elementRow (now (t .entry)) p) chain 0 0 0 p ⌝ }
+        (row.membersAt (now (t .entry)) p) (row.namedAt (now (t .entry)) p) chain 0 0 0 p ⌝ }
 {
     let kind = rows::kind_at(t, p);
     pack_type(
         kind,
         first_octet(0, 0, kind),
         rows::members_at(t, p),
-        element_row(t, p),
+        target,
         chain,
         p,
     )
@@ -209,7 +201,7 @@ fn type_word(t: &[u8], p: usize, chain: usize) -> u64
 fn member_word(t: &[u8], p: usize, kind: u8) -> u64
     requires whole { ⌜ WholeMember (now t) p ⌝ }
     requires number { ⌜ row.numberAt (now t) p ≤ 30 ⌝ }
-    requires target { ⌜ row.typeRowAt (now t) p < tableLimits .rows ⌝ }
+    requires target { ⌜ row.namedAt (now t) p < tableLimits .rows ⌝ }
     requires size { ⌜ length (row.defaultAt (now t) p) ≤ 8 ⌝ }
     requires presence { ⌜ row.presenceAt (now t) p ≤ 2 ⌝ }
     requires place { ⌜ p < 65536 ⌝ }
@@ -453,7 +445,7 @@ fn basic_row(t: &[u8], w: &[u64; 256], n: usize, i: usize, p: usize) -> Made
     requires basic { ⌜ pass.Basic (row.kindAt (now t) p) ⌝ }
     ensures { λ r. ⌜ Says (now (t .entry)) (now (w .entry)) i r ⌝ }
 {
-    Made::Words(type_word(t, p, 1), own_set(t, p))
+    Made::Words(type_word(t, p, 0, 1), own_set(t, p))
 }
 
 fn list_row(t: &[u8], w: &[u64; 256], n: usize, i: usize, p: usize) -> Made
@@ -469,7 +461,7 @@ fn list_row(t: &[u8], w: &[u64; 256], n: usize, i: usize, p: usize) -> Made
     if Table::MAX_CHAIN <= below {
         return Made::Refused;
     }
-    Made::Words(type_word(t, p, below + 1), own_set(t, p))
+    Made::Words(type_word(t, p, j, below + 1), own_set(t, p))
 }
 
 fn sequence_row(t: &[u8], w: &[u64; 256], n: usize, i: usize, p: usize) -> Made
@@ -485,7 +477,7 @@ fn sequence_row(t: &[u8], w: &[u64; 256], n: usize, i: usize, p: usize) -> Made
     if !runs_differ(w, i + 1, count) {
         return Made::Refused;
     }
-    Made::Words(type_word(t, p, below + 1), own_set(t, p))
+    Made::Words(type_word(t, p, 0, below + 1), own_set(t, p))
 }
 
 fn choice_row(t: &[u8], w: &[u64; 256], n: usize, i: usize, p: usize) -> Made
@@ -504,7 +496,7 @@ fn choice_row(t: &[u8], w: &[u64; 256], n: usize, i: usize, p: usize) -> Made
     let Tags::Of(set) = choice_tags(w, i + 1, count) else {
         return Made::Refused;
     };
-    Made::Words(type_word(t, p, below + 1), set)
+    Made::Words(type_word(t, p, 0, below + 1), set)
 }
 
 fn one_row(t: &[u8], w: &[u64; 256], n: usize, i: usize, p: usize) -> Made
@@ -622,12 +614,11 @@ pub fn members(t: &[u8], w: &[u64; 256], i: usize) -> usize
     count_of(first_word(w, i))
 }
 
-// The row of the element of list row i.
-pub fn element(t: &[u8], w: &[u64; 256], i: usize) -> usize
+// The row that row i names: of a list its element's, of a member its type's; 0 where it names none.
+pub fn named(t: &[u8], w: &[u64; 256], i: usize) -> usize
     requires worded { ⌜ Worded (now t) (now w) ⌝ }
     requires here { ⌜ i < length (tableRows (now t)) ⌝ }
-    requires list { ⌜ row.isList (row.kindAt (now t) (placeAt (now t) i)) ≡ true ⌝ }
-    ensures { λ r. ⌜ r ≡ row.elementAt (now (t .entry)) (placeAt (now (t .entry)) i) ⌝ }
+    ensures { λ r. ⌜ r ≡ row.namedAt (now (t .entry)) (placeAt (now (t .entry)) i) ⌝ }
 {
     target_of(first_word(w, i))
 }
@@ -650,16 +641,6 @@ pub fn first(t: &[u8], w: &[u64; 256], i: usize) -> usize
     ensures { λ r. ⌜ r ≡ word.firstOctet (taggingAt (now (t .entry)) i) (memberKindAt (now (t .entry)) i) ⌝ }
 {
     first_of(first_word(w, i))
-}
-
-// The row of the type of member row i.
-pub fn type_row(t: &[u8], w: &[u64; 256], i: usize) -> usize
-    requires worded { ⌜ Worded (now t) (now w) ⌝ }
-    requires here { ⌜ i < length (tableRows (now t)) ⌝ }
-    requires member { ⌜ MemberRow (now t) i ⌝ }
-    ensures { λ r. ⌜ r ≡ row.typeRowAt (now (t .entry)) (placeAt (now (t .entry)) i) ⌝ }
-{
-    target_of(first_word(w, i))
 }
 
 // The kind of the type of member row i.
@@ -711,31 +692,4 @@ pub fn default_number(t: &[u8], w: &[u64; 256], i: usize) -> u64
     ensures { λ r. ⌜ r ≡ baseFrom 0 (row.defaultAt (now (t .entry)) (placeAt (now (t .entry)) i)) ⌝ }
 {
     second_word(w, i)
-}
-
-// ---- for the layers that go by places and sets of tags
-// The set of tags of a row of a kind, whose second word is y; of a member row that of a type of its kind.
-fn row_set(kind: u8, y: u64) -> u64
-    ensures { λ r. ⌜ r ≡ pass.rowSet kind y ⌝ }
-{
-    if kind == Kind::MEMBER {
-        return types::bit(der::universal(kind));
-    }
-    y
-}
-
-// Writes the places of an admitted table's rows and their sets of tags.
-pub fn unpack(t: &[u8], w: &[u64; 256], n: usize, starts: &mut [usize], masks: &mut [u64])
-    requires worded { ⌜ Worded (now t) (now w) ⌝ }
-    requires count { ⌜ n ≡ length (tableRows (now t)) ⌝ }
-    requires places { ⌜ length (now starts) ≡ tableLimits .rows ⌝ }
-    requires sets { ⌜ length (now masks) ≡ tableLimits .rows ⌝ }
-    ensures { λ r. ⌜ Admits (tableLimits .rows) (tableLimits .chain) (now (t .entry)) n (now (starts .exit)) (now (masks .exit)) ⌝ }
-{
-    let mut i = 0;
-    while i < n {
-        starts[i] = place(t, w, i);
-        masks[i] = row_set(kind(t, w, i), second_word(w, i));
-        i += 1;
-    }
 }

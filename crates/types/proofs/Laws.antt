@@ -7,7 +7,7 @@ use borrow.Author.Tests.{leb-true}
 use lib.ListN.{length}
 use Rattle.octets.proofs.Laws.{both-true, all-at}
 use Rattle.rows.specs.Limits.{Limits}
-use Rattle.rows.specs.Row.{rows, rowAt, kindAt, elementAt, membersAt}
+use Rattle.rows.specs.Row.{rows, rowAt, kindAt, namedAt, membersAt}
 use Rattle.rows.proofs.Laws.{MemberFacts, member-facts}
 use Rattle.clauses.specs.Clauses.{everyRow, wholeRows, bodyFormed, pointsLater, membersStand, memberPlace, namesDiffer, alternativesMandatory, noImplicitChoice, defaultLegal, chainFits, isType, firstIsType}
 use Rattle.clauses.specs.inner.Work.{Later}
@@ -92,6 +92,6 @@ module _ (l : Limits) (t : List ℕ) (ok : admitted l t ≡ true) where
         all-at (defaultLegal t s) (length s) i (both-true (everyRow (noImplicitChoice t s) s) _ rest .1) here
 
     -- ---- the type of a row: by the types of the rows that it names, with no depth to speak of
-    pub type-step : typeAt l t i ≡ typed (kindAt t (rowAt s i)) (typeAt l t (elementAt t (rowAt s i))) (membersFrom (typeAt l t) t s (i + 1) (membersAt t (rowAt s i)))
+    pub type-step : typeAt l t i ≡ typed t s i (typeAt l t (namedAt t (rowAt s i))) (membersFrom (typeAt l t) t s (i + 1) (membersAt t (rowAt s i)))
     unfolding typeAt
     type-step = step t s (l .chain) names-later chains i here

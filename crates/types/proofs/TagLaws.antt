@@ -1,10 +1,10 @@
 -- Sets of tags that are gathered from a row's members are the definition's.
 use mathlib.Core.Path.{_≡_, refl, sym, ap, ap₂, _∙_}
-use mathlib.Core.Bool.{Bool, true, false, false≢true}
+use mathlib.Core.Bool.{Bool, true, false}
 use mathlib.Core.List.{List}
 use Prim.Native.Nat.{ℕ, zero, suc, _≤_, _<_, _+_, _^_}
 use native.Mathlib.Omega.{arith}
-use borrow.Author.Tests.{ltb-true, ltb-false, eqb-true, eq-eqb, ne-eqb}
+use borrow.Author.Tests.{ltb-true, ltb-false, eq-eqb, ne-eqb}
 use lib.Dec.{ltb, eqb}
 use lib.Pow.{pow-lt}
 use lib.Bits.{bitAnd, bitOr, or-lt, and-le-l}
@@ -12,10 +12,11 @@ use Rattle.octets.specs.Pick.{pick, both, either, no}
 use Rattle.octets.proofs.Laws.{all-cong}
 use Rattle.der.specs.Tag.{context, universal}
 use Rattle.der.proofs.Laws.{universal-most}
-use Rattle.rows.specs.Row.{kindAt, modeAt, numberAt, presenceAt, defaultAt, typeRowAt, rowAt, membersAt, isList}
-use Rattle.types.specs.Types.{untagged, explicit, implicit, mandatory, optional, default, Member, Ty, basic, sequence, choice, listOf, Members, taggingOf, presenceOf, memberOf, membersFrom, typeFrom}
+use Rattle.rows.specs.Row.{kindAt, modeAt, numberAt, presenceAt, defaultAt, namedAt, rowAt, membersAt}
+use Rattle.types.specs.Types.{untagged, explicit, implicit, mandatory, optional, default, Member, Ty, Members, taggingOf, presenceOf, memberOf, membersFrom, typed, typeFrom}
 use Rattle.types.specs.Begins.{asTagged, begins, someBegins, memberBegins, isMandatory, apartAt, apart, apartFromAll, alternativesDiffer, apartInRun, runsDiffer, tagsApart}
 use Rattle.types.specs.inner.Work.{bitOf, contextBit, memberSet, apartFrom, unionFrom, never}
+use Rattle.types.proofs.TypeCases.{typed-cases, typed-sequence, typed-choice}
 use Rattle.types.proofs.BitSets.{bit-none, bit-or, bit-one, sets-apart, all-both}
 
 pick-bit : (x : Bool) (g a b : ℕ) (c d : Bool) → (x ≡ true → bitOf a g ≡ c) → (x ≡ false → bitOf b g ≡ d) → bitOf (pick x a b) g ≡ pick x c d
@@ -62,11 +63,11 @@ unfolding memberOf
 presence-as t j p = mandatory-as (presenceAt t p) (defaultAt t p)
 
 -- a member's set, by the set of its type
-pub set-small : (m : ℕ → ℕ) (t : List ℕ) (p : ℕ) → m (typeRowAt t p) < 2 ^ 64 → memberSet m t p < 2 ^ 64
+pub set-small : (m : ℕ → ℕ) (t : List ℕ) (p : ℕ) → m (namedAt t p) < 2 ^ 64 → memberSet m t p < 2 ^ 64
 unfolding memberSet
 set-small m t p h = pick-small (eqb (modeAt t p) 0) _ _ (2 ^ 64) (λ _. h) (λ _. context-small (numberAt t p))
 
-pub set-bits : (m : ℕ → ℕ) (ty : Ty) (t : List ℕ) (j p g : ℕ) → g < 64 → bitOf (m (typeRowAt t p)) g ≡ begins ty g → bitOf (memberSet m t p) g ≡ memberBegins (memberOf t j p) ty g
+pub set-bits : (m : ℕ → ℕ) (ty : Ty) (t : List ℕ) (j p g : ℕ) → g < 64 → bitOf (m (namedAt t p)) g ≡ begins ty g → bitOf (memberSet m t p) g ≡ memberBegins (memberOf t j p) ty g
 unfolding memberSet memberBegins memberOf
 set-bits m ty t j p g b h =
     pick-bit (eqb (modeAt t p) 0) g _ _ _ _ (λ _. h) (λ _. context-bits (numberAt t p) g b)
@@ -158,14 +159,14 @@ gathered f e hi (suc k) b x l small h = go (λ y q. gathered f e hi k (b + 1) y 
 -- ---- the members in the rows lo to hi, where each one's set is right; ty gives a row's type
 module _ (t s : List ℕ) (lo hi : ℕ) (f : ℕ → ℕ) (ty : ℕ → Ty)
     (small : (j : ℕ) → lo ≤ j → j < hi → f j < 2 ^ 64)
-    (right : (j : ℕ) → lo ≤ j → j < hi → (g : ℕ) → g < 64 → bitOf (f j) g ≡ memberBegins (memberOf t j (rowAt s j)) (ty (typeRowAt t (rowAt s j))) g) where
+    (right : (j : ℕ) → lo ≤ j → j < hi → (g : ℕ) → g < 64 → bitOf (f j) g ≡ memberBegins (memberOf t j (rowAt s j)) (ty (namedAt t (rowAt s j))) g) where
   apart-same : (a b : ℕ) → lo ≤ a → a < hi → lo ≤ b → b < hi
-      → eqb (bitAnd (f a) (f b)) 0 ≡ apart (memberOf t a (rowAt s a)) (ty (typeRowAt t (rowAt s a))) (memberOf t b (rowAt s b)) (ty (typeRowAt t (rowAt s b)))
+      → eqb (bitAnd (f a) (f b)) 0 ≡ apart (memberOf t a (rowAt s a)) (ty (namedAt t (rowAt s a))) (memberOf t b (rowAt s b)) (ty (namedAt t (rowAt s b)))
   unfolding apart apartAt
   apart-same a b la ha lb hb =
       sets-apart 64 (f a) (f b) (small a la ha)
       ∙ all-cong (λ g. no (both (bitOf (f a) g) (bitOf (f b) g)))
-      (apartAt (memberOf t a (rowAt s a)) (ty (typeRowAt t (rowAt s a))) (memberOf t b (rowAt s b)) (ty (typeRowAt t (rowAt s b)))) 64
+      (apartAt (memberOf t a (rowAt s a)) (ty (namedAt t (rowAt s a))) (memberOf t b (rowAt s b)) (ty (namedAt t (rowAt s b)))) 64
       (λ g l. ap₂ (λ (x y : Bool). no (both x y)) (right a la ha g l) (right b lb hb g l))
 
   begins-is : (m : Member) (u : Ty) (g : ℕ) → memberBegins m u g ≡ asTagged (m .tagging) (begins u g) g
@@ -184,8 +185,8 @@ module _ (t s : List ℕ) (lo hi : ℕ) (f : ℕ → ℕ) (ty : ℕ → Ty)
       let r : b + 1 + k ≤ hi = omega arith in
       let d : lo ≤ b + 1 = omega arith in
       union-bits g l k (b + 1) (bitOr x (f b)) d r
-      ∙ ap (λ (u : Bool). either u (someBegins (membersFrom ty t s (b + 1) k) g)) (bit-or g x (f b) ∙ ap (either (bitOf x g)) (right b h hb g l ∙ begins-is (memberOf t b (rowAt s b)) (ty (typeRowAt t (rowAt s b))) g))
-      ∙ joined (bitOf x g) (asTagged (memberOf t b (rowAt s b) .tagging) (begins (ty (typeRowAt t (rowAt s b))) g) g) (someBegins (membersFrom ty t s (b + 1) k) g)
+      ∙ ap (λ (u : Bool). either u (someBegins (membersFrom ty t s (b + 1) k) g)) (bit-or g x (f b) ∙ ap (either (bitOf x g)) (right b h hb g l ∙ begins-is (memberOf t b (rowAt s b)) (ty (namedAt t (rowAt s b))) g))
+      ∙ joined (bitOf x g) (asTagged (memberOf t b (rowAt s b) .tagging) (begins (ty (namedAt t (rowAt s b))) g) g) (someBegins (membersFrom ty t s (b + 1) k) g)
     where
       joined : (a c d : Bool) → either (either a c) d ≡ either a (either c d)
       joined true c d = refl
@@ -205,7 +206,7 @@ module _ (t s : List ℕ) (lo hi : ℕ) (f : ℕ → ℕ) (ty : ℕ → Ty)
 
   -- of a CHOICE
   clear-choice : (a : ℕ) → lo ≤ a → a < hi → (k b : ℕ) → lo ≤ b → b + k ≤ hi
-      → clearFrom f never (f a) k b ≡ apartFromAll (memberOf t a (rowAt s a)) (ty (typeRowAt t (rowAt s a))) (membersFrom ty t s b k)
+      → clearFrom f never (f a) k b ≡ apartFromAll (memberOf t a (rowAt s a)) (ty (namedAt t (rowAt s a))) (membersFrom ty t s b k)
   unfolding clearFrom membersFrom apartFromAll
   clear-choice a la ha zero b l h = refl
   clear-choice a la ha (suc k) b l h =
@@ -229,7 +230,7 @@ module _ (t s : List ℕ) (lo hi : ℕ) (f : ℕ → ℕ) (ty : ℕ → Ty)
   -- of a SEQUENCE
   module _ (e : ℕ → Bool) (ends : (j : ℕ) → lo ≤ j → j < hi → e j ≡ isMandatory (memberOf t j (rowAt s j) .presence)) where
     clear-sequence : (a : ℕ) → lo ≤ a → a < hi → (k b : ℕ) → lo ≤ b → b + k ≤ hi
-        → clearFrom f e (f a) k b ≡ apartInRun (memberOf t a (rowAt s a)) (ty (typeRowAt t (rowAt s a))) (membersFrom ty t s b k)
+        → clearFrom f e (f a) k b ≡ apartInRun (memberOf t a (rowAt s a)) (ty (namedAt t (rowAt s a))) (membersFrom ty t s b k)
     unfolding clearFrom membersFrom apartInRun
     clear-sequence a la ha zero b l h = refl
     clear-sequence a la ha (suc k) b l h =
@@ -259,34 +260,40 @@ pub one-small : (k : ℕ) → 2 ^ universal k < 2 ^ 64
 one-small k = pow-lt (universal-fits k (universal k) refl)
 
 -- ---- the type of a row
+pub typed-begins : (t s : List ℕ) (i : ℕ) (e : Ty) (ms : Members) (g : ℕ) → (kindAt t (rowAt s i) ≡ 13 → ⊥) → begins (typed t s i e ms) g ≡ eqb g (universal (kindAt t (rowAt s i)))
+unfolding begins
+typed-begins t s i e ms g n =
+    typed-cases t s i e ms (λ (x : Ty). begins x g ≡ eqb g (universal (kindAt t (rowAt s i))))
+    (λ h. ap (λ (u : ℕ). eqb g (universal u)) (sym h)) (λ h. absurd (n h)) (λ _. refl) (λ _ _ _. refl)
+
 module _ (t s : List ℕ) (i k : ℕ) where
+  abbrev element : Ty
+  element = typeFrom k t s (namedAt t (rowAt s i))
+
+  abbrev parts : Members
+  parts = membersFrom (typeFrom k t s) t s (i + 1) (membersAt t (rowAt s i))
+
+  whole : typeFrom (suc k) t s i ≡ typed t s i element parts
+  unfolding typeFrom
+  whole = refl
+
   pub bits-one : (kindAt t (rowAt s i) ≡ 13 → ⊥) → (g : ℕ) → bitOf (2 ^ universal (kindAt t (rowAt s i))) g ≡ begins (typeFrom (suc k) t s i) g
-  unfolding begins typeFrom
-  bits-one n g = bit-one g (universal (kindAt t (rowAt s i))) ∙ sym (go (kindAt t (rowAt s i)) (eqb (kindAt t (rowAt s i)) 12) refl (eqb (kindAt t (rowAt s i)) 13) (ne-eqb (kindAt t (rowAt s i)) 13 n) (isList (kindAt t (rowAt s i))) _ _)
-    where
-      go : (c : ℕ) (x : Bool) → eqb c 12 ≡ x → (y : Bool) → y ≡ false → (z : Bool) (e : Ty) (ms : Members)
-          → begins (pick x (sequence ms) (pick y (choice ms) (pick z (listOf c e) (basic c)))) g ≡ eqb g (universal c)
-      go c true q y r z e ms = ap (λ (u : ℕ). eqb g (universal u)) (sym (eqb-true c 12 q))
-      go c false q true r z e ms = absurd (false≢true (sym r))
-      go c false q false r true e ms = refl
-      go c false q false r false e ms = refl
+  bits-one n g = bit-one g (universal (kindAt t (rowAt s i))) ∙ sym (ap (λ (x : Ty). begins x g) whole ∙ typed-begins t s i element parts g n)
 
   pub bits-choice : kindAt t (rowAt s i) ≡ 13 → (g : ℕ) → begins (typeFrom (suc k) t s i) g ≡ someBegins (membersFrom (typeFrom k t s) t s (i + 1) (membersAt t (rowAt s i))) g
-  unfolding begins typeFrom
-  bits-choice q g = rw q
+  unfolding begins
+  bits-choice q g = ap (λ (x : Ty). begins x g) (whole ∙ typed-choice t s i element parts q)
 
   pub apart-of-choice : kindAt t (rowAt s i) ≡ 13 → tagsApart (typeFrom (suc k) t s i) ≡ alternativesDiffer (membersFrom (typeFrom k t s) t s (i + 1) (membersAt t (rowAt s i)))
-  unfolding tagsApart typeFrom
-  apart-of-choice q = rw q
+  unfolding tagsApart
+  apart-of-choice q = ap tagsApart (whole ∙ typed-choice t s i element parts q)
 
   pub apart-of-sequence : kindAt t (rowAt s i) ≡ 12 → tagsApart (typeFrom (suc k) t s i) ≡ runsDiffer (membersFrom (typeFrom k t s) t s (i + 1) (membersAt t (rowAt s i)))
-  unfolding tagsApart typeFrom
-  apart-of-sequence q = rw q
+  unfolding tagsApart
+  apart-of-sequence q = ap tagsApart (whole ∙ typed-sequence t s i element parts q)
 
   pub apart-of-other : (kindAt t (rowAt s i) ≡ 12 → ⊥) → (kindAt t (rowAt s i) ≡ 13 → ⊥) → tagsApart (typeFrom (suc k) t s i) ≡ true
-  unfolding tagsApart typeFrom
-  apart-of-other a b = rw (ne-eqb (kindAt t (rowAt s i)) 12 a, ne-eqb (kindAt t (rowAt s i)) 13 b) (go (isList (kindAt t (rowAt s i))) _)
-    where
-      go : (z : Bool) (e : Ty) → tagsApart (pick z (listOf (kindAt t (rowAt s i)) e) (basic (kindAt t (rowAt s i)))) ≡ true
-      go true e = refl
-      go false e = refl
+  unfolding tagsApart
+  apart-of-other a b =
+      ap tagsApart whole
+      ∙ typed-cases t s i element parts (λ (x : Ty). tagsApart x ≡ true) (λ h. absurd (a h)) (λ h. absurd (b h)) (λ _. refl) (λ _ _ _. refl)

@@ -5,7 +5,7 @@ use lib.Dec.{eqb}
 use Rattle.octets.specs.Pick.{pick}
 use Rattle.der.specs.Kind as kind
 use Rattle.rows.specs.Limits.{Limits}
-use Rattle.rows.specs.Row.{nameAt, kindAt, elementAt, typeRowAt, modeAt, numberAt, presenceAt, defaultAt, isList, rows, rowAt, membersAt}
+use Rattle.rows.specs.Row.{nameAt, kindAt, namedAt, modeAt, numberAt, presenceAt, defaultAt, isList, rows, rowAt, membersAt}
 
 -- tag mode: none, explicit, implicit, with the context tag number
 pub data Tagging : Type 0 where
@@ -56,23 +56,23 @@ memberOf t i p = record { row = i; name = unfilled (nameAt t p); tagging = taggi
 -- n members from row i on; f gives a row's type
 unfoldable pub membersFrom : (ℕ → Ty) → List ℕ → List ℕ → ℕ → ℕ → Members
 membersFrom f t s i zero = noMore
-membersFrom f t s i (suc n) = more (memberOf t i (rowAt s i)) (f (typeRowAt t (rowAt s i))) (membersFrom f t s (i + 1) n)
+membersFrom f t s i (suc n) = more (memberOf t i (rowAt s i)) (f (namedAt t (rowAt s i))) (membersFrom f t s (i + 1) n)
 
--- the type of a row of kind k, with the type of its element and its members
-abbrev pub typed : ℕ → Ty → Members → Ty
-typed k e ms =
-    pick (eqb k kind.sequence) (sequence ms)
-    (pick (eqb k kind.choice) (choice ms)
-    (pick (isList k) (listOf k e)
-    (basic k)))
+-- the type of row i of the rows s, with the type of the row that it names and its members
+unfoldable pub typed : List ℕ → List ℕ → ℕ → Ty → Members → Ty
+typed t s i e ms =
+    pick (eqb (kindAt t (rowAt s i)) kind.sequence) (sequence ms)
+    (pick (eqb (kindAt t (rowAt s i)) kind.choice) (choice ms)
+    (pick (isList (kindAt t (rowAt s i))) (listOf (kindAt t (rowAt s i)) e)
+    (basic (kindAt t (rowAt s i)))))
 
--- the type of row i of the rows s, at most n rows deep; `basic 0`, which no value has, is not reached in an admitted table
+-- the same, at most n rows deep; `basic 0`, which no value has, is not reached in an admitted table
 unfoldable pub typeFrom : ℕ → List ℕ → List ℕ → ℕ → Ty
 typeFrom zero t s i = basic 0
 typeFrom (suc n) t s i =
-    let e = typeFrom n t s (elementAt t (rowAt s i)) in
+    let e = typeFrom n t s (namedAt t (rowAt s i)) in
     let ms = membersFrom (typeFrom n t s) t s (i + 1) (membersAt t (rowAt s i)) in
-    typed (kindAt t (rowAt s i)) e ms
+    typed t s i e ms
 
 -- the type that row i of a table describes; an admitted table's chains are within their limit, so it is described in full
 unfoldable pub typeAt : Limits → List ℕ → ℕ → Ty

@@ -1,6 +1,6 @@
 -- The check of one value: one lemma for each return; its premises are the facts as the code has them.
 use mathlib.Core.Path.{_≡_, refl, sym, ap, ap₂, _∙_}
-use mathlib.Core.Bool.{Bool, true, false, false≢true}
+use mathlib.Core.Bool.{Bool, true, false}
 use mathlib.Core.Option.{Option, none, some}
 use mathlib.Core.List.{List}
 use Prim.Native.Nat.{ℕ, _≤_, _<_, _+_, _-_, _*_}
@@ -15,8 +15,10 @@ use Rattle.der.specs.Tag.{wrapperOctet}
 use Rattle.der.specs.Header.{insideAt, opened}
 use Rattle.der.specs.Contents.{legal}
 use Rattle.der.specs.declared.Inside.{Inside}
-use Rattle.rows.specs.Row.{rowAt, kindAt, elementAt, typeRowAt, membersAt, isList, modeAt, numberAt}
+use Rattle.rows.specs.Row.{rowAt, kindAt, namedAt, membersAt, isList, modeAt, numberAt}
 use Rattle.types.specs.Types.{untagged, implicit, taggingOf, Ty, basic, sequence, choice, listOf, Members, membersFrom, typed, typeFrom}
+use Rattle.rows.proofs.KindLaws.{member-names}
+use Rattle.types.proofs.TypeCases.{typed-sequence, typed-choice, typed-list, typed-basic}
 use Rattle.clauses.specs.Clauses.{typeKind}
 use Rattle.types.specs.inner.Work.{Sound}
 use Rattle.table.specs.inner.Words.{firstOctet, how, Ready}
@@ -26,32 +28,6 @@ use Rattle.value.specs.Decode.{Decoded, decoded, afterOf, tagOctet, insi
 use Rattle.value.specs.inner.Work.{checked, upTo, fieldsChecked, inOrder, elementsChecked, Answers, Wraps}
 use Rattle.value.specs.declared.Checked.{Checked}
 use Rattle.value.proofs.ModeSteps.{own-tag, mode-tag, mode-wrapper, is-explicit, not-explicit}
-
--- ---- a row's type by its kind
-pub typed-choice : (k : ℕ) (e : Ty) (ms : Members) → k ≡ 13 → typed k e ms ≡ choice ms
-typed-choice k e ms h = rw h
-
-pub typed-sequence : (k : ℕ) (e : Ty) (ms : Members) → k ≡ 12 → typed k e ms ≡ sequence ms
-typed-sequence k e ms h = rw h
-
-list-kind : (k : ℕ) → isList k ≡ true → (eqb k 12 ≡ false) × (eqb k 13 ≡ false)
-unfolding isList
-list-kind k e = go (eqb k 14) refl (eqb k 15) refl e
-  where
-    go : (x : Bool) → eqb k 14 ≡ x → (y : Bool) → eqb k 15 ≡ y → pick x true y ≡ true → (eqb k 12 ≡ false) × (eqb k 13 ≡ false)
-    go true p y q f = (rw (eqb-true k 14 p), rw (eqb-true k 14 p))
-    go false p true q f = (rw (eqb-true k 15 q), rw (eqb-true k 15 q))
-    go false p false q f = absurd (false≢true f)
-
-pub typed-list : (k : ℕ) (e : Ty) (ms : Members) → isList k ≡ true → typed k e ms ≡ listOf k e
-typed-list k e ms h = let w = list-kind k h in rw (w .0, w .1, h)
-
-pub typed-basic : (k : ℕ) (e : Ty) (ms : Members) → (k ≡ 13 → ⊥) → (k ≡ 12 → ⊥) → isList k ≡ false → typed k e ms ≡ basic k
-typed-basic k e ms a b c = rw (ne-eqb k 12 b, ne-eqb k 13 a, c)
-
-pub typed-small : (k : ℕ) (e : Ty) (ms : Members) → k ≤ 11 → typed k e ms ≡ basic k
-unfolding isList
-typed-small k e ms l = rw (ne-eqb k 12 (λ z. omega arith), ne-eqb k 13 (λ z. omega arith), ne-eqb k 14 (λ z. omega arith), ne-eqb k 15 (λ z. omega arith))
 
 -- ---- what bodies of one header say
 pub told-leaf : (k : ℕ) (v : List ℕ) (at start n : ℕ) → checked (leafOf k v at start n) ≡ upTo (start + n) (legal k (part v start n))
@@ -81,13 +57,23 @@ told-elements k v at f start n = go (f n (start + n) start)
 
 module _ (chain : ℕ) (t s m : List ℕ) (row : ℕ) (ok : Sound chain t s m) (here : row < length s) (k : ℕ) (read : k ≡ kindAt t (rowAt s row)) where
   abbrev element : Ty
-  element = typeFrom chain t s (elementAt t (rowAt s row))
+  element = typeFrom chain t s (namedAt t (rowAt s row))
 
   abbrev parts : Members
   parts = membersFrom (typeFrom chain t s) t s (row + 1) (membersAt t (rowAt s row))
 
-  the-type : typeFrom chain t s row ≡ typed k element parts
-  the-type = ok .step row here ∙ ap (λ (x : ℕ). typed x element parts) (sym read)
+  -- its type by its kind
+  is-choice : k ≡ 13 → typeFrom chain t s row ≡ choice parts
+  is-choice h = ok .step row here ∙ typed-choice t s row element parts (sym read ∙ h)
+
+  is-sequence : k ≡ 12 → typeFrom chain t s row ≡ sequence parts
+  is-sequence h = ok .step row here ∙ typed-sequence t s row element parts (sym read ∙ h)
+
+  is-list : isList k ≡ true → typeFrom chain t s row ≡ listOf k element
+  is-list h = rw read (ok .step row here ∙ typed-list t s row element parts (ap isList (sym read) ∙ h))
+
+  is-basic : (k ≡ 13 → ⊥) → (k ≡ 12 → ⊥) → isList k ≡ false → typeFrom chain t s row ≡ basic k
+  is-basic a b h = rw read (ok .step row here ∙ typed-basic t s row element parts (λ z. b (read ∙ z)) (λ z. a (read ∙ z)) (ap isList (sym read) ∙ h))
 
   pub list-row : (l : Bool) → l ≡ isList k → l ≡ true → isList (kindAt t (rowAt s row)) ≡ true
   list-row l e h = ap isList (sym read) ∙ sym e ∙ h
@@ -96,7 +82,7 @@ module _ (chain : ℕ) (t s m : List ℕ) (row : ℕ) (ok : Sound chain t s m) (
     pub check-by-choice : (r : Checked) → k ≡ 13 → r ≡ checked (alternativeFrom parts v at end)
         → r ≡ checked (unwrapped (typeFrom chain t s row) (taggingOf mode number) v at end)
     unfolding unwrapped
-    check-by-choice r h e = rw (the-type ∙ typed-choice k element parts h) e
+    check-by-choice r h e = rw (is-choice h) e
 
     module _ (no-choice : k ≡ 13 → ⊥) (o : ℕ) (h : Inside) (tag : o ≡ tagOctet (taggingOf mode number) k) (opening : h ≡ insideAt o v at end) where
       is-open : (i : Inside) → h ≡ i → insideAt (tagOctet (taggingOf mode number) k) v at end ≡ i
@@ -110,16 +96,16 @@ module _ (chain : ℕ) (t s m : List ℕ) (row : ℕ) (ok : Sound chain t s m) (
           misfit = is-open Inside.Misfit e
 
           go : (x : Bool) → eqb k 12 ≡ x → (y : Bool) → isList k ≡ y → Checked.Bad ≡ checked (unwrapped (typeFrom chain t s row) (taggingOf mode number) v at end)
-          go true q y u = let j = eqb-true k 12 q in rw (the-type ∙ typed-sequence k element parts j, (ap (λ (x : ℕ). insideAt (tagOctet (taggingOf mode number) x) v at end) (sym j) ∙ misfit))
-          go false q true u = rw (the-type ∙ typed-list k element parts u, misfit)
-          go false q false u = rw (the-type ∙ typed-basic k element parts no-choice (eqb-false k 12 q) u, misfit)
+          go true q y u = let j = eqb-true k 12 q in rw (is-sequence j, (ap (λ (x : ℕ). insideAt (tagOctet (taggingOf mode number) x) v at end) (sym j) ∙ misfit))
+          go false q true u = rw (is-list u, misfit)
+          go false q false u = rw (is-basic no-choice (eqb-false k 12 q) u, misfit)
 
       module _ (start n : ℕ) (found : h ≡ Inside.Of start n) where
         check-by-fields : (r : Checked) → k ≡ 12 → r ≡ fieldsChecked parts v (start + n) start
             → r ≡ checked (unwrapped (typeFrom chain t s row) (taggingOf mode number) v at end)
         unfolding unwrapped fieldsChecked
         check-by-fields r j e =
-            rw (the-type ∙ typed-sequence k element parts j, (ap (λ (x : ℕ). insideAt (tagOctet (taggingOf mode number) x) v at end) (sym j) ∙ is-open (Inside.Of start n) found))
+            rw (is-sequence j, (ap (λ (x : ℕ). insideAt (tagOctet (taggingOf mode number) x) v at end) (sym j) ∙ is-open (Inside.Of start n) found))
             (e ∙ sym (told-fields v at (λ stop i. fieldsFrom parts v stop i) start n))
 
         check-by-elements : (r : Checked) (l : Bool) → l ≡ isList k → l ≡ true → r ≡ elementsChecked (kindAt t (rowAt s row)) element v (start + n) start
@@ -127,7 +113,7 @@ module _ (chain : ℕ) (t s m : List ℕ) (row : ℕ) (ok : Sound chain t s m) (
         unfolding unwrapped elementsChecked
         check-by-elements r l el j e =
             let q : start + n - start ≡ n = omega arith in
-            rw (the-type ∙ typed-list k element parts (sym el ∙ j), is-open (Inside.Of start n) found)
+            rw (is-list (sym el ∙ j), is-open (Inside.Of start n) found)
             (e ∙ ap₂ (λ (x y : ℕ). upTo (start + n) (inOrder x v (many (λ i stop. unwrapped element untagged v i stop) y (start + n) start))) (sym read) q
             ∙ sym (told-elements k v at (many (λ i stop. unwrapped element untagged v i stop)) start n))
 
@@ -136,7 +122,7 @@ module _ (chain : ℕ) (t s m : List ℕ) (row : ℕ) (ok : Sound chain t s m) (
         unfolding unwrapped
         check-by-basic r l no-sequence el j e =
             let q : start + n - start ≡ n = omega arith in
-            rw (the-type ∙ typed-basic k element parts no-choice no-sequence (sym el ∙ j), is-open (Inside.Of start n) found)
+            rw (is-basic no-choice no-sequence (sym el ∙ j), is-open (Inside.Of start n) found)
             (e ∙ ap (λ (x : ℕ). upTo (start + n) (legal k (part v start x))) q ∙ sym (told-leaf k v at start n))
 
   -- ---- by a tag octet
@@ -269,14 +255,14 @@ module _ (ty : Ty) (v : List ℕ) (at end tag : ℕ) (h : Inside) (opening : h �
 
 -- ---- a member row, whose words the code has read
 module _ (chain : ℕ) (t s m : List ℕ) (row : ℕ) (ok : Ready chain t s m) (here : row < length s) (member : kindAt t (rowAt s row) ≡ 16) (j : ℕ)
-    (read : j ≡ typeRowAt t (rowAt s row)) where
+    (read : j ≡ namedAt t (rowAt s row)) where
   pub target-here : j < length s
-  target-here = rw read (ok .target row here member)
+  target-here = rw read (ok .target row here (member-names t (rowAt s row) member))
 
   pub target-typed : kindAt t (rowAt s j) ≡ 16 → ⊥
-  target-typed = rw read (ok .of-member row here member)
+  target-typed = rw read (ok .typed row here (member-names t (rowAt s row) member))
 
-module _ (chain : ℕ) (t s : List ℕ) (row j : ℕ) (read : j ≡ typeRowAt t (rowAt s row)) (f h : ℕ) (v : List ℕ) (at end : ℕ) (r : Checked)
+module _ (chain : ℕ) (t s : List ℕ) (row j : ℕ) (read : j ≡ namedAt t (rowAt s row)) (f h : ℕ) (v : List ℕ) (at end : ℕ) (r : Checked)
     (opens : f ≡ firstOctet (taggingOf (modeAt t (rowAt s row)) (numberAt t (rowAt s row))) (typeKind t s row))
     (tagged : h ≡ how (typeKind t s row) (modeAt t (rowAt s row))) where
   abbrev mode : ℕ
@@ -286,17 +272,17 @@ module _ (chain : ℕ) (t s : List ℕ) (row j : ℕ) (read : j ≡ typeRowAt t 
   number = numberAt t (rowAt s row)
 
   pub tagged-explicit : h ≡ 1 → Wraps (typeFrom chain t s j) f v at end r
-      → r ≡ checked (decode (typeFrom chain t s (typeRowAt t (rowAt s row))) (taggingOf mode number) v at end)
+      → r ≡ checked (decode (typeFrom chain t s (namedAt t (rowAt s row))) (taggingOf mode number) v at end)
   tagged-explicit z a =
       let m1 = is-explicit (typeKind t s row) mode h tagged z in
       a .says number (mode-wrapper f (typeKind t s row) mode number opens m1)
       ∙ ap₂ (λ (x y : ℕ). checked (decode (typeFrom chain t s x) (taggingOf y number) v at end)) read (sym m1)
 
   pub tagged-other : (h ≡ 1 → ⊥) → Answers (typeFrom chain t s j) (kindAt t (rowAt s j)) f v at end r
-      → r ≡ checked (decode (typeFrom chain t s (typeRowAt t (rowAt s row))) (taggingOf mode number) v at end)
+      → r ≡ checked (decode (typeFrom chain t s (namedAt t (rowAt s row))) (taggingOf mode number) v at end)
   tagged-other z a =
       let m0 = not-explicit (typeKind t s row) mode h tagged z in
-      tagged-plain (typeFrom chain t s (typeRowAt t (rowAt s row))) v at end mode number r m0
+      tagged-plain (typeFrom chain t s (namedAt t (rowAt s row))) v at end mode number r m0
       (a .says mode number
       (λ q. mode-tag f (kindAt t (rowAt s j)) mode number (opens ∙ ap (λ (x : ℕ). firstOctet (taggingOf mode number) (kindAt t (rowAt s x))) (sym read)) m0 q)
       ∙ ap (λ (x : ℕ). checked (unwrapped (typeFrom chain t s x) (taggingOf mode number) v at end)) read)

@@ -9,7 +9,7 @@ use borrow.Author.Tests.{lt-ltb, le-ltb}
 use lib.ListN.{length}
 use lib.Dec.{ltb}
 use Rattle.octets.specs.Pick.{pick}
-use Rattle.rows.specs.Row.{rowAt, kindAt, typeRowAt, membersAt, modeAt, numberAt}
+use Rattle.rows.specs.Row.{rowAt, kindAt, namedAt, membersAt, modeAt, numberAt}
 use Rattle.types.specs.Types.{Tagging, taggingOf, Member, memberOf, Ty, membersFrom, typeFrom}
 use Rattle.types.specs.inner.Work.{Sound}
 use Rattle.value.specs.Decode.{Decoded, choiceOf, unwrapped, alternativeFrom, decode}
@@ -34,7 +34,7 @@ module _ (chain : ℕ) (t s m : List ℕ) (row : ℕ) (ok : Sound chain t s m) (
   count = membersAt t (rowAt s row)
 
   abbrev alternative : ℕ → Option Decoded
-  alternative j = decode (typeFrom chain t s (typeRowAt t (rowAt s (row + 1 + j)))) (taggingOf (modeAt t (rowAt s (row + 1 + j))) (numberAt t (rowAt s (row + 1 + j)))) v at end
+  alternative j = decode (typeFrom chain t s (namedAt t (rowAt s (row + 1 + j)))) (taggingOf (modeAt t (rowAt s (row + 1 + j))) (numberAt t (rowAt s (row + 1 + j)))) v at end
 
   abbrev taken : ℕ → Option Decoded
   taken j = choiceOf (memberOf t (row + 1 + j) (rowAt s (row + 1 + j))) v at end (alternative j)
@@ -90,4 +90,4 @@ module _ (chain : ℕ) (t s m : List ℕ) (row : ℕ) (ok : Sound chain t s m) (
 
       pub choice-is : (r : Checked) → r ≡ checked (alternative j) → r ≡ checked (alternativeFrom (membersFrom (typeFrom chain t s) t s (row + 1) (membersAt t (rowAt s row))) v at end)
       choice-is r e = e ∙ sym (ap checked (whole ∙ ap (λ (x : Bool). pick x (taken j) none) (lt-ltb j n l))
-          ∙ told-choice (memberOf t (row + 1 + j) (rowAt s (row + 1 + j))) (typeFrom chain t s (typeRowAt t (rowAt s (row + 1 + j)))) (taggingOf (modeAt t (rowAt s (row + 1 + j))) (numberAt t (rowAt s (row + 1 + j)))) v at end)
+          ∙ told-choice (memberOf t (row + 1 + j) (rowAt s (row + 1 + j))) (typeFrom chain t s (namedAt t (rowAt s (row + 1 + j)))) (taggingOf (modeAt t (rowAt s (row + 1 + j))) (numberAt t (rowAt s (row + 1 + j)))) v at end)

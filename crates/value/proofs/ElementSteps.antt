@@ -12,7 +12,8 @@ use Rattle.octets.specs.Pick.{both, either, bind}
 use Rattle.octets.specs.Octets.{part}
 use Rattle.der.specs.Kind as kind
 use Rattle.der.specs.Order.{notAbove}
-use Rattle.rows.specs.Row.{rowAt, kindAt, elementAt, isList}
+use Rattle.rows.proofs.KindLaws.{list-names}
+use Rattle.rows.specs.Row.{rowAt, kindAt, namedAt, isList}
 use Rattle.types.specs.Types.{untagged, taggingOf, Ty, typeFrom}
 use Rattle.types.specs.inner.Work.{Sound}
 use Rattle.table.specs.inner.Words.{firstOctet, Ready}
@@ -68,15 +69,15 @@ pub record Listed (chain : ℕ) (t s : List ℕ) (row : ℕ) (v : List ℕ) (sta
   pub enough : stop - i ≤ n
   pub low : before ≤ i
   pub high : i ≤ stop
-  pub same : orderAfter (kindAt t (rowAt s row)) v (part v before (i - before)) (many (λ i stop. unwrapped (typeFrom chain t s (elementAt t (rowAt s row))) untagged v i stop) n stop i)
-      ≡ inOrder (kindAt t (rowAt s row)) v (many (λ i stop. unwrapped (typeFrom chain t s (elementAt t (rowAt s row))) untagged v i stop) (stop - start) stop start)
+  pub same : orderAfter (kindAt t (rowAt s row)) v (part v before (i - before)) (many (λ i stop. unwrapped (typeFrom chain t s (namedAt t (rowAt s row))) untagged v i stop) n stop i)
+      ≡ inOrder (kindAt t (rowAt s row)) v (many (λ i stop. unwrapped (typeFrom chain t s (namedAt t (rowAt s row))) untagged v i stop) (stop - start) stop start)
 
 module _ (chain : ℕ) (t s m : List ℕ) (row : ℕ) (ok : Sound chain t s m) (here : row < length s) (list : isList (kindAt t (rowAt s row)) ≡ true) (v : List ℕ) (start stop : ℕ) where
   abbrev element : Ty
-  element = typeFrom chain t s (elementAt t (rowAt s row))
+  element = typeFrom chain t s (namedAt t (rowAt s row))
 
   abbrev one : ℕ → ℕ → Option Decoded
-  one i stop = unwrapped (typeFrom chain t s (elementAt t (rowAt s row))) untagged v i stop
+  one i stop = unwrapped (typeFrom chain t s (namedAt t (rowAt s row))) untagged v i stop
 
   abbrev k : ℕ
   k = kindAt t (rowAt s row)
@@ -89,12 +90,12 @@ module _ (chain : ℕ) (t s m : List ℕ) (row : ℕ) (ok : Sound chain t s m) (
       let q : start - start ≡ 0 = omega arith in
       record { n = stop - start; enough = omega arith; low = omega arith; high = h; same = ap (λ (x : ℕ). orderAfter k v (part v start x) (many one (stop - start) stop start)) q ∙ order-all k v (many one (stop - start) stop start) }
 
-  module _ (e : ℕ) (read : e ≡ elementAt t (rowAt s row)) where
+  module _ (e : ℕ) (read : e ≡ namedAt t (rowAt s row)) where
     pub element-here : e < length s
-    element-here = rw read (ok .later .of-list row here list .1)
+    element-here = rw read (ok .later .of-row row here (list-names t (rowAt s row) list) .1)
 
     pub element-falls : (z : ℕ) → 5 * (length s - row) + 2 ≡ z → 5 * (length s - e) + 3 < z
-    element-falls z q = let a = ok .later .of-list row here list in let b = a .0 in let d = a .1 in omega arith
+    element-falls z q = let a = ok .later .of-row row here (list-names t (rowAt s row) list) in let b = a .0 in let d = a .1 in omega arith
 
     module _ (before i : ℕ) (w : Listed chain t s row v start stop before i) (l : i < stop) (c : Checked) (tag : ℕ)
         (tagged : tag ≡ firstOctet untagged (kindAt t (rowAt s e)))
@@ -180,15 +181,15 @@ module _ (chain : ℕ) (t s m : List ℕ) (row : ℕ) (ok : Sound chain t s m) (
       either-true false = refl
 
 pub element-typed : (chain : ℕ) (t s m : List ℕ) (row e : ℕ) → Ready chain t s m → row < length s → isList (kindAt t (rowAt s row)) ≡ true
-    → e ≡ elementAt t (rowAt s row) → kindAt t (rowAt s e) ≡ 16 → ⊥
-element-typed chain t s m row e ok here list read = rw read (ok .of-element row here list)
+    → e ≡ namedAt t (rowAt s row) → kindAt t (rowAt s e) ≡ 16 → ⊥
+element-typed chain t s m row e ok here list read = rw read (ok .typed row here (list-names t (rowAt s row) list))
 
-pub leaves-are : (t s : List ℕ) (row e k : ℕ) → e ≡ elementAt t (rowAt s row) → k ≡ kindAt t (rowAt s e)
-    → leb k 11 ≡ leb (kindAt t (rowAt s (elementAt t (rowAt s row)))) 11
+pub leaves-are : (t s : List ℕ) (row e k : ℕ) → e ≡ namedAt t (rowAt s row) → k ≡ kindAt t (rowAt s e)
+    → leb k 11 ≡ leb (kindAt t (rowAt s (namedAt t (rowAt s row)))) 11
 leaves-are t s row e k read kinded = ap (λ (x : ℕ). leb x 11) (kinded ∙ ap (λ (x : ℕ). kindAt t (rowAt s x)) read)
 
 pub leaves-small : (k : ℕ) (r : Bool) → r ≡ leb k 11 → r ≡ true → k ≤ 11
 leaves-small k r e h = leb-true k 11 (sym e ∙ h)
 
-pub element-small : (t s : List ℕ) (row e : ℕ) → e ≡ elementAt t (rowAt s row) → kindAt t (rowAt s (elementAt t (rowAt s row))) ≤ 11 → kindAt t (rowAt s e) ≤ 11
+pub element-small : (t s : List ℕ) (row e : ℕ) → e ≡ namedAt t (rowAt s row) → kindAt t (rowAt s (namedAt t (rowAt s row))) ≤ 11 → kindAt t (rowAt s e) ≤ 11
 element-small t s row e read l = rw read l

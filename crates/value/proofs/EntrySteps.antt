@@ -6,21 +6,17 @@ use mathlib.Core.List.{List}
 use Prim.Native.Nat.{ℕ, _≤_, _<_}
 use native.Mathlib.Omega.{arith}
 use borrow.Author.Tests.{not-true, not-false}
-use lib.ListN.{length, take}
+use lib.ListN.{length}
 use lib.Dec.{eqb}
-use borrow.Table.Elements.{take-le}
 use Rattle.octets.specs.Pick.{pick, bind, isSome}
 use Rattle.rows.specs.Limits.{Limits, tableFits}
 use Rattle.rows.specs.Paper.{tableLimits}
 use Rattle.rows.specs.Row.{rows, kindAt}
 use Rattle.types.specs.Types as types
 use Rattle.types.specs.Types.{untagged, taggingOf, Ty}
-use Rattle.types.specs.inner.Rows.{rowType}
 use Rattle.types.specs.Admitted.{admitted}
 use Rattle.types.specs.inner.Work.{rowCount}
-use Rattle.types.specs.inner.Work.{Sound, Admits}
 use Rattle.types.proofs.Laws.{row-count}
-use Rattle.types.proofs.SoundLaws.{sound}
 use Rattle.table.specs.inner.Rows.{tableRows, placeAt, typeAt}
 use Rattle.table.specs.inner.Words.{firstOctet, Worded}
 use Rattle.table.specs.inner.Pass.{Leaves}
@@ -78,54 +74,9 @@ module _ (l : Limits) (t : List ℕ) (n : ℕ) (count : n ≡ rowCount l t) wher
       go true q = refl
       go false q = absurd (z (rw q at count))
 
-  module _ (starts masks : List ℕ) (z : n ≡ 0 → ⊥) (left : Admits (l .rows) (l .chain) t n starts masks) where
-    some-rows : 0 < n
-    some-rows = omega arith
-
-    pub rows-are : take n starts ≡ rows (l .rows) t
-    rows-are = left .places some-rows
-
-    pub is-sound : Sound (l .chain) t (take n starts) masks
-    is-sound = rw rows-are (sound l t masks (is-admitted z) (left .sets some-rows))
-
-    pub has-rows : 0 < length (take n starts)
-    has-rows = rw rows-are (row-count l t (is-admitted z) .0)
-
-    pub rows-counted : n ≡ length (take n starts)
-    unfolding rowCount
-    rows-counted = rw rows-are (rw (is-admitted z) at count)
-
-    pub rows-fit : n ≤ length starts
-    rows-fit = let a = rows-counted in let b = take-le n starts in omega arith
-
--- the same at document 01's limits
-module _ (t starts masks : List ℕ) (n : ℕ) (count : n ≡ rowCount tableLimits t) (z : n ≡ 0 → ⊥) (left : Admits (tableLimits .rows) (tableLimits .chain) t n starts masks) where
-  pub sound-here : Sound (tableLimits .chain) t (take n starts) masks
-  sound-here = is-sound tableLimits t n count starts masks z left
-
-  pub rows-here : 0 < length (take n starts)
-  rows-here = has-rows tableLimits t n count starts masks z left
-
-  pub counted-here : n ≡ length (take n starts)
-  counted-here = rows-counted tableLimits t n count starts masks z left
-
-  pub fit-here : n ≤ length starts
-  fit-here = rows-fit tableLimits t n count starts masks z left
-
-  pub places-here : take n starts ≡ tableRows t
-  places-here = rows-are tableLimits t n count starts masks z left
-
 module _ (t : List ℕ) (n : ℕ) (count : n ≡ rowCount tableLimits t) (z : n ≡ 0 → ⊥) where
-  pub rows-here-are : n ≡ length (tableRows t)
-  unfolding rowCount
-  rows-here-are = rw (is-admitted tableLimits t n count z) at count
-
   pub worded-here : (w : List ℕ) → Leaves t w n → Worded t w
   worded-here w left = left .worded (omega arith)
-
--- a value by the words is one by the rows
-pub stored-here : (t s v : List ℕ) (x : Bool) → s ≡ tableRows t → x ≡ isSome (storedValue (typeAt t 0) v) → x ≡ isSome (storedValue (rowType t s 0) v)
-stored-here t s v x e q = q ∙ ap (λ (y : List ℕ). isSome (storedValue (rowType t y 0) v)) (sym e)
 
 -- row 0
 module _ (t w : List ℕ) (ok : Worded t w) where

@@ -4,22 +4,20 @@ use mathlib.Core.Bool.{Bool, true, false}
 use mathlib.Core.List.{List}
 use Prim.Native.Nat.{ℕ, suc, _≤_, _<_, _+_, _-_}
 use native.Mathlib.Omega.{arith}
-use borrow.Author.Tests.{eq-eqb, ne-eqb, lt-ltb, le-ltb}
+use borrow.Author.Tests.{eq-eqb, ne-eqb}
 use lib.ListN.{length}
 use lib.Dec.{eqb}
 use Rattle.octets.specs.Pick.{pick}
-use Rattle.octets.specs.Octets.{octet, part, same}
-use Rattle.rows.specs.Row.{rowAt, typeRowAt, presenceAt}
-use Rattle.der.specs.Tag.{tagOf, ownOctet, implicitOctet, wrapperOctet}
+use Rattle.octets.specs.Octets.{part, same}
+use Rattle.rows.specs.Row.{rowAt, namedAt, presenceAt}
+use Rattle.der.specs.Tag.{ownOctet, implicitOctet, wrapperOctet}
 use Rattle.der.specs.Header.{insideAt}
 use Rattle.der.specs.Order.{notAbove}
 use Rattle.der.specs.declared.Inside.{Inside}
 use Rattle.der.proofs.Laws.{inside-within}
-use Rattle.clauses.specs.Clauses.{memberPlace}
 use Rattle.types.specs.Types.{Tagging, untagged, explicit, implicit, taggingOf, memberOf, typeFrom}
-use Rattle.types.specs.inner.Work.{bitOf, memberMask}
 use Rattle.value.specs.Decode.{tagOctet, startsHere}
-use Rattle.value.specs.inner.Work.{upTo, first, marked, markedOf, startsOf, contentsAt, holds, within, storedDefault, absentChecked, neighbours}
+use Rattle.value.specs.inner.Work.{upTo, first, startsOf, contentsAt, holds, within, storedDefault, absentChecked, neighbours}
 use Rattle.value.specs.declared.Checked.{Checked}
 
 -- ---- tags
@@ -136,16 +134,6 @@ module _ (stop : ℕ) (r x : Bool) (e : r ≡ x) where
   pub up-not : r ≡ false → Checked.Bad ≡ upTo stop x
   up-not h = rw (sym e ∙ h)
 
--- ---- members by their sets of tags
-module _ (m t : List ℕ) (p : ℕ) (v : List ℕ) (stop i : ℕ) where
-  pub marked-past : stop ≤ i → false ≡ marked m t p v stop i
-  unfolding marked
-  marked-past h = rw (le-ltb i stop h)
-
-  pub marked-is : (o : ℕ) (r : Bool) → i < stop → o ≡ octet v i → r ≡ bitOf (memberMask m t p) (tagOf o) → r ≡ marked m t p v stop i
-  unfolding marked
-  marked-is o r h e q = rw (lt-ltb i stop h) (q ∙ ap (λ (x : ℕ). bitOf (memberMask m t p) (tagOf x)) e)
-
 pub first-none : (f : ℕ → Bool) (a : ℕ) → a ≡ first f 0 a
 unfolding first
 first-none f a = refl
@@ -172,13 +160,8 @@ module _ (f : ℕ → Bool) (n j : ℕ) (inv : first f n 0 ≡ first f (n - j) j
   pub first-done : n ≤ j → j ≡ first f n 0
   first-done h = let q : n - j ≡ 0 = omega arith in first-none f j ∙ ap (λ (x : ℕ). first f x j) (sym q) ∙ sym inv
 
-pub marked-here : (m t s : List ℕ) (row : ℕ) (v : List ℕ) (stop i j p : ℕ) (r : Bool) → p ≡ memberPlace s row j → r ≡ marked m t p v stop i
-    → r ≡ markedOf m t s row v stop i j
-unfolding markedOf
-marked-here m t s row v stop i j p r e told = told ∙ ap (λ (x : ℕ). marked m t x v stop i) e
-
 pub starts-here : (chain : ℕ) (t s : List ℕ) (row : ℕ) (v : List ℕ) (stop i j : ℕ) (r : Bool)
-    → r ≡ startsHere (memberOf t (row + 1 + j) (rowAt s (row + 1 + j))) (typeFrom chain t s (typeRowAt t (rowAt s (row + 1 + j)))) v stop i
+    → r ≡ startsHere (memberOf t (row + 1 + j) (rowAt s (row + 1 + j))) (typeFrom chain t s (namedAt t (rowAt s (row + 1 + j)))) v stop i
     → r ≡ startsOf chain t s row v stop i j
 unfolding startsOf
 starts-here chain t s row v stop i j r told = told

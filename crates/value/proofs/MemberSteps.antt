@@ -7,29 +7,28 @@ use Prim.Native.Nat.{ℕ, suc, _≤_, _<_, _+_, _-_, _*_}
 use native.Mathlib.Omega.{arith}
 use borrow.Author.Tests.{not-true, not-false, eq-eqb, ne-eqb, eqb-true, eqb-false, leb-true}
 use lib.ListN.{length}
-use lib.Dec.{ltb, leb, eqb}
+use lib.Dec.{leb, eqb}
 use Rattle.octets.specs.Pick.{pick, both, bind, isSome}
-use Rattle.octets.specs.Octets.{octet, part, same}
+use Rattle.octets.specs.Octets.{part, same}
 use Rattle.octets.proofs.Laws.{both-true}
-use Rattle.der.specs.Tag.{tagOf}
 use Rattle.der.specs.Header.{insideAt}
 use Rattle.der.specs.declared.Inside.{Inside}
-use Rattle.der.proofs.Laws.{tag-small}
-use Rattle.rows.specs.Row.{rowAt, kindAt, typeRowAt, membersAt, modeAt, numberAt, presenceAt, defaultAt}
+use Rattle.rows.specs.Row.{rowAt, kindAt, namedAt, membersAt, modeAt, numberAt, presenceAt, defaultAt}
 use Rattle.clauses.specs.Clauses.{typeKind, defaultAllowed, defaultLegal}
-use Rattle.types.specs.Types.{Tagging, untagged, explicit, implicit, mandatory, optional, default, taggingOf, presenceOf, Member, memberOf, Ty, basic, Members, more, membersFrom, typed, typeFrom}
+use Rattle.types.specs.Types.{Tagging, untagged, explicit, implicit, mandatory, optional, default, taggingOf, presenceOf, Member, memberOf, Ty, basic, Members, more, membersFrom, typeFrom}
 use Rattle.types.specs.Begins.{isMandatory}
 use Rattle.types.specs.inner.Work.{Sound}
 use Rattle.table.specs.inner.Words.{how, Ready}
 use Rattle.types.proofs.TagLaws.{mandatory-as}
-use Rattle.types.proofs.SoundLaws.{member-tags}
 use Rattle.value.specs.Value.{spotAt, spotOf, Fields, endFields, present, absent}
 use Rattle.value.specs.Decode.{Decoded, afterOf, tagOctet, inWrapper, startsHere, isDefault, unlessDefault, presentThen, absentThen, unwrapped, fieldsFrom, decode}
-use Rattle.value.specs.inner.Work.{checked, upTo, marked, within, contentsAt, holds, storedDefault, plainChecked, absentChecked, memberChecked, fieldsChecked}
+use Rattle.value.specs.inner.Work.{checked, upTo, within, contentsAt, holds, storedDefault, plainChecked, absentChecked, memberChecked, fieldsChecked}
 use Rattle.value.specs.declared.Checked.{Checked}
 use Rattle.value.proofs.Views.{leaf-view, wrapper-view}
-use Rattle.value.proofs.CheckSteps.{typed-small}
-use Rattle.value.proofs.PlainSteps.{plain-basic, plain-decoded}
+use Rattle.rows.proofs.KindLaws.{member-names}
+use Rattle.types.proofs.TypeCases.{typed-small}
+use Rattle.value.proofs.ModeSteps.{plain-small}
+use Rattle.value.proofs.PlainSteps.{plain-decoded}
 
 -- ---- a default that is stored: the contents of a basic value under a tag mode
 contents-are : (g : Tagging) (k : ℕ) (v : List ℕ) (at end : ℕ) (d : Decoded) → decode (basic k) g v at end ≡ some d → (start : ℕ) × (n : ℕ) × (contentsAt g k v at end ≡ Inside.Of start n) × (spotOf (d .value) .contents ≡ part v start n)
@@ -44,15 +43,9 @@ contents-are (explicit n) k v at end d e =
 few : (n : ℕ) → n ≤ 2 → (n ≡ 0 → ⊥) → (n ≡ 1 → ⊥) → (n ≡ 2 → ⊥) → ⊥
 few n h a b c = omega arith
 
--- where a default is one of BOOLEAN, INTEGER, ENUMERATED, its type is basic
-small-basic : (k : ℕ) (e : Ty) (ms : Members) → leb 1 k ≡ true → leb k 3 ≡ true → typed k e ms ≡ basic k
-small-basic k e ms a b = let l = leb-true k 3 b in typed-small k e ms (omega arith)
-
--- a member can begin at a place, as its set says
-pub starts-as : (chain : ℕ) (t s m : List ℕ) (row : ℕ) → Sound chain t s m → typeRowAt t (rowAt s row) < length s → (v : List ℕ) (i stop : ℕ)
-    → marked m t (rowAt s row) v stop i ≡ startsHere (memberOf t row (rowAt s row)) (typeFrom chain t s (typeRowAt t (rowAt s row))) v stop i
-unfolding marked startsHere
-starts-as chain t s m row ok target v i stop = ap (both (ltb i stop)) (member-tags chain t s m row ok target (tagOf (octet v i)) (tag-small (octet v i)))
+-- BOOLEAN, INTEGER, ENUMERATED are basic
+small-kind : (k : ℕ) → leb 1 k ≡ true → leb k 3 ≡ true → k ≤ 11
+small-kind k a b = let l = leb-true k 3 b in omega arith
 
 -- ---- numbers of rows
 module _ (chain : ℕ) (t s m : List ℕ) (row : ℕ) (ok : Ready chain t s m) (here : row < length s) where
@@ -79,17 +72,17 @@ pub count-le : (n m : ℕ) → n ≡ m → n ≤ m
 count-le n m e = omega arith
 
 module _ (chain : ℕ) (t s m : List ℕ) (row : ℕ) (ok : Ready chain t s m) (here : row < length s) (member : kindAt t (rowAt s row) ≡ 16) where
-  target : typeRowAt t (rowAt s row) < length s
-  target = ok .target row here member
+  target : namedAt t (rowAt s row) < length s
+  target = ok .target row here (member-names t (rowAt s row) member)
 
   abbrev place : ℕ
   place = rowAt s row
 
   abbrev target-row : ℕ
-  target-row = typeRowAt t (rowAt s row)
+  target-row = namedAt t (rowAt s row)
 
   abbrev target-type : Ty
-  target-type = typeFrom chain t s (typeRowAt t (rowAt s row))
+  target-type = typeFrom chain t s (namedAt t (rowAt s row))
 
   abbrev the-member : Member
   the-member = memberOf t row (rowAt s row)
@@ -104,7 +97,7 @@ module _ (chain : ℕ) (t s m : List ℕ) (row : ℕ) (ok : Ready chain t s m) (
       let legal = rw (member, e) at (ok .sound .defaults row here) in
       let w = both-true _ _ legal in
       let b = both-true _ _ (w .0) in
-      ok .sound .step target-row target ∙ small-basic (kindAt t (rowAt s target-row)) _ _ (b .0) (b .1)
+      ok .sound .step target-row target ∙ typed-small t s target-row _ _ (small-kind (kindAt t (rowAt s target-row)) (b .0) (b .1))
 
   module _ (v : List ℕ) (i stop : ℕ) where
     is-default : (d : Decoded) → decode target-type tagging v i stop ≡ some d → isDefault (presenceOf (presenceAt t place) (defaultAt t place)) (spotOf (d .value) .contents) ≡ storedDefault t s place v i stop
@@ -126,7 +119,7 @@ module _ (chain : ℕ) (t s m : List ℕ) (row : ℕ) (ok : Ready chain t s m) (
             absurd (few (presenceAt t place) (ok .sound .presence row here member) (eqb-false (presenceAt t place) 0 p) (eqb-false (presenceAt t place) 1 q)
             (eqb-false (presenceAt t place) 2 u))
 
-    module _ (x : Bool) (starting : x ≡ startsHere (memberOf t row (rowAt s row)) (typeFrom chain t s (typeRowAt t (rowAt s row))) v stop i) where
+    module _ (x : Bool) (starting : x ≡ startsHere (memberOf t row (rowAt s row)) (typeFrom chain t s (namedAt t (rowAt s row))) v stop i) where
       pub member-absent : (r : Checked) → not x ≡ true → r ≡ absentChecked t place i → r ≡ memberChecked the-member target-type v stop i
       unfolding memberChecked absentChecked memberOf
       member-absent r h e =
@@ -167,7 +160,7 @@ module _ (chain : ℕ) (t s m : List ℕ) (row : ℕ) (ok : Ready chain t s m) (
       by-plain on h =
           plain-decoded (typeKind t s row) (modeAt t place) h t place (numberAt t place) v i stop
           ∙ ap (λ (ty : Ty). pick (storedDefault t s place v i stop) Checked.Bad (checked (decode ty tagging v i stop)))
-          (sym (ok .sound .step target-row target ∙ plain-basic (typeKind t s row) (modeAt t place) h _ _))
+          (sym (ok .sound .step target-row target ∙ typed-small t s target-row _ _ (plain-small (typeKind t s row) (modeAt t place) h)))
           ∙ sym (by-stored (ap not on) (storedDefault t s place v i stop) refl)
 
 -- ---- members in turn
@@ -230,18 +223,18 @@ module _ (chain : ℕ) (t s m : List ℕ) (row : ℕ) (ok : Sound chain t s m) (
       pub field-member : kindAt t (rowAt s (row + 1 + j)) ≡ 16
       field-member = ok .members row here j in-row
 
-      pub field-falls : (k : ℕ) → 5 * (length s - row) + 2 ≡ k → 5 * (length s - typeRowAt t (rowAt s (row + 1 + j))) + 6 < k
+      pub field-falls : (k : ℕ) → 5 * (length s - row) + 2 ≡ k → 5 * (length s - namedAt t (rowAt s (row + 1 + j))) + 6 < k
       field-falls k e = let a = ok .later .of-member row here j in-row in let b = a .0 in let d = a .1 in omega arith
 
       opens : isSome (fieldsFrom (membersFrom (typeFrom chain t s) t s (row + 1 + j) (n - j)) v stop i)
-          ≡ thenFields (membersFrom (typeFrom chain t s) t s (row + 1 + j + 1) (n - (j + 1))) v stop (memberChecked (memberOf t (row + 1 + j) (rowAt s (row + 1 + j))) (typeFrom chain t s (typeRowAt t (rowAt s (row + 1 + j)))) v stop i)
+          ≡ thenFields (membersFrom (typeFrom chain t s) t s (row + 1 + j + 1) (n - (j + 1))) v stop (memberChecked (memberOf t (row + 1 + j) (rowAt s (row + 1 + j))) (typeFrom chain t s (namedAt t (rowAt s (row + 1 + j)))) v stop i)
       unfolding membersFrom
       opens =
           let q : n - j ≡ suc (n - (j + 1)) = omega arith in
           ap (λ (x : ℕ). isSome (fieldsFrom (membersFrom (typeFrom chain t s) t s (row + 1 + j) x) v stop i)) q
-          ∙ fields-next (memberOf t (row + 1 + j) (rowAt s (row + 1 + j))) (typeFrom chain t s (typeRowAt t (rowAt s (row + 1 + j)))) (membersFrom (typeFrom chain t s) t s (row + 1 + j + 1) (n - (j + 1))) v stop i
+          ∙ fields-next (memberOf t (row + 1 + j) (rowAt s (row + 1 + j))) (typeFrom chain t s (namedAt t (rowAt s (row + 1 + j)))) (membersFrom (typeFrom chain t s) t s (row + 1 + j + 1) (n - (j + 1))) v stop i
 
-      module _ (c : Checked) (told-member : c ≡ memberChecked (memberOf t (row + 1 + j) (rowAt s (row + 1 + j))) (typeFrom chain t s (typeRowAt t (rowAt s (row + 1 + j)))) v stop i) where
+      module _ (c : Checked) (told-member : c ≡ memberChecked (memberOf t (row + 1 + j) (rowAt s (row + 1 + j))) (typeFrom chain t s (namedAt t (rowAt s (row + 1 + j)))) v stop i) where
         pub fields-bad : c ≡ Checked.Bad → Checked.Bad ≡ fieldsChecked (membersFrom (typeFrom chain t s) t s (row + 1) (membersAt t (rowAt s row))) v stop start
         fields-bad e = ap (upTo stop) (sym (opens ∙ ap (thenFields (membersFrom (typeFrom chain t s) t s (row + 1 + j + 1) (n - (j + 1))) v stop) (sym told-member ∙ e))) ∙ whole
 

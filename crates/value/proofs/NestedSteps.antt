@@ -10,7 +10,8 @@ use lib.Dec.{eqb}
 use Rattle.octets.specs.Pick.{no}
 use Rattle.octets.proofs.Laws.{both-true}
 use Rattle.rows.specs.Paper.{tableLimits}
-use Rattle.rows.specs.Row.{typeRowAt, membersAt, modeAt, numberAt}
+use Rattle.rows.proofs.KindLaws.{member-names}
+use Rattle.rows.specs.Row.{namedAt, membersAt, modeAt, numberAt}
 use Rattle.table.specs.inner.Rows.{tableRows, placeAt, MemberRow, membersAfter, memberTypeAt, taggingAt, memberKindAt}
 use Rattle.table.specs.inner.Words.{how, Worded}
 use Rattle.value.specs.Decode.{alternativeFrom, decode}
@@ -76,8 +77,8 @@ module _ (t v : List ℕ) (row at end : ℕ) (a : Alternative) (chooses : Choose
     pub row-member : MemberRow t r
     row-member = the-row .member
 
-    pub row-falls : (w : List ℕ) (k : ℕ) → Worded t w → 5 * (length (tableRows t) - row) + 2 ≡ k → 5 * (length (tableRows t) - typeRowAt t (placeAt t r)) + 5 < k
-    row-falls w k ok e = let l = the-row .later in let b = ok .ready .target r row-here row-member in omega arith
+    pub row-falls : (w : List ℕ) (k : ℕ) → Worded t w → 5 * (length (tableRows t) - row) + 2 ≡ k → 5 * (length (tableRows t) - namedAt t (placeAt t r)) + 5 < k
+    row-falls w k ok e = let l = the-row .later in let b = ok .ready .target r row-here (member-names t (placeAt t r) row-member) in omega arith
 
     pub row-is : (c : Checked) → c ≡ checked (decode (memberTypeAt t r) (taggingAt t r) v at end) → c ≡ checked (alternativeFrom (membersAfter t row) v at end)
     row-is c e = e ∙ the-row .same
@@ -104,9 +105,9 @@ module _ (t v : List ℕ) (row at end choice : ℕ) (so-far : Descends t v row a
     unfolding Chooses
     inner-this = record { here = this .here; member = this .member; later = let x = so-far .later in let y = this .later in omega arith; same = this .same ∙ so-far .same }
 
-    module _ (w : List ℕ) (ok : Worded t w) (next : ℕ) (read : next ≡ typeRowAt t (placeAt t r)) where
+    module _ (w : List ℕ) (ok : Worded t w) (next : ℕ) (read : next ≡ namedAt t (placeAt t r)) where
       target : next < length (tableRows t)
-      target = rw read (ok .ready .target r (this .here) (this .member))
+      target = rw read (ok .ready .target r (this .here) (member-names t (placeAt t r) (this .member)))
 
       pub inner-less : length (tableRows t) - next < length (tableRows t) - choice
       inner-less = let x = this .later in let y = target in omega arith
@@ -117,8 +118,8 @@ module _ (t v : List ℕ) (row at end choice : ℕ) (so-far : Descends t v row a
           is : (memberKindAt t r ≡ 13) × (modeAt t (placeAt t r) ≡ 1 → ⊥)
           is = is-nested _ _ (sym tested ∙ not-false b nested)
 
-          inner : checked (alternativeFrom (membersAfter t (typeRowAt t (placeAt t r))) v at end) ≡ checked (decode (memberTypeAt t r) (taggingAt t r) v at end)
+          inner : checked (alternativeFrom (membersAfter t (namedAt t (placeAt t r))) v at end) ≡ checked (decode (memberTypeAt t r) (taggingAt t r) v at end)
           inner =
-              check-by-choice (tableLimits .chain) t (tableRows t) (ok .m) (typeRowAt t (placeAt t r)) (ok .ready .sound)
-              (ok .ready .target r (this .here) (this .member)) (memberKindAt t r) refl v at end (modeAt t (placeAt t r)) (numberAt t (placeAt t r)) _ (is .0) refl
+              check-by-choice (tableLimits .chain) t (tableRows t) (ok .m) (namedAt t (placeAt t r)) (ok .ready .sound)
+              (ok .ready .target r (this .here) (member-names t (placeAt t r) (this .member))) (memberKindAt t r) refl v at end (modeAt t (placeAt t r)) (numberAt t (placeAt t r)) _ (is .0) refl
               ∙ ap checked (sym (bare-decode (memberTypeAt t r) v at end (modeAt t (placeAt t r)) (numberAt t (placeAt t r)) (is .1)))

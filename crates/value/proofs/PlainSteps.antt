@@ -11,14 +11,14 @@ use Rattle.der.specs.Header.{insideAt, opened}
 use Rattle.der.specs.Contents.{legal}
 use Rattle.der.specs.declared.Inside.{Inside}
 use Rattle.rows.specs.Row.{modeAt, numberAt, presenceAt, defaultAt}
-use Rattle.types.specs.Types.{taggingOf, Ty, basic, Members, typed}
+use Rattle.types.specs.Types.{taggingOf, basic}
 use Rattle.table.specs.inner.Words.{firstOctet, how}
 use Rattle.value.specs.Decode.{tagOctet, leafOf, unwrapped, decode}
 use Rattle.value.specs.inner.Work.{checked, upTo, contentsAt, holds, isDefaultAt, plainOf, plainChecked}
 use Rattle.value.specs.declared.Checked.{Checked}
 use Rattle.value.proofs.LeafSteps.{contents-plain}
-use Rattle.value.proofs.ModeSteps.{plain-mode, plain-small, plain-tag}
-use Rattle.value.proofs.CheckSteps.{typed-small, told-leaf, bare-decode}
+use Rattle.value.proofs.ModeSteps.{plain-mode, plain-tag}
+use Rattle.value.proofs.CheckSteps.{told-leaf, bare-decode}
 
 -- ---- the check of one
 module _ (t : List ℕ) (p k : ℕ) (v : List ℕ) (at end f : ℕ) (h : Inside) (plain : how k (modeAt t p) ≡ 0)
@@ -46,12 +46,8 @@ module _ (t : List ℕ) (p k : ℕ) (v : List ℕ) (at end f : ℕ) (h : Inside)
         told ∙ ap₂ (λ (y z : ℕ). upTo (start + n) (legal y (part v start z))) j l
         ∙ sym (by-contents ∙ ap (λ (y : Bool). pick y Checked.Bad (upTo (start + n) (legal k (part v start n)))) e)
 
--- ---- a plain member's type is basic, and it has no wrapper
+-- ---- a plain member's type is basic, and it has no wrapper: it is told by its decoding, unless it is its default
 module _ (k mode : ℕ) (plain : how k mode ≡ 0) where
-  pub plain-basic : (e : Ty) (ms : Members) → typed k e ms ≡ basic k
-  plain-basic e ms = typed-small k e ms (plain-small k mode plain)
-
-  -- so it is told by its decoding, unless it is its default
   pub plain-decoded : (t : List ℕ) (p n : ℕ) (v : List ℕ) (at end : ℕ)
       → plainChecked t p k (taggingOf mode n) v at end
       ≡ pick (both (eqb (presenceAt t p) 2) (holds v (defaultAt t p) (contentsAt (taggingOf mode n) k v at end))) Checked.Bad (checked (decode (basic k) (taggingOf mode n) v at end))

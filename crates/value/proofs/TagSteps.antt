@@ -16,12 +16,13 @@ use Rattle.der.specs.Tag.{class, number, context, tagOf, universal, ownOctet, i
 use Rattle.der.specs.Kind.{isConstructed}
 use Rattle.der.specs.Contents.{legal}
 use Rattle.der.proofs.Laws.{tag-small, universal-most, universal-first}
-use Rattle.rows.specs.Row.{rowAt, kindAt, typeRowAt, isList, modeAt, numberAt, presenceAt, defaultAt}
+use Rattle.rows.specs.Row.{rowAt, kindAt, namedAt, modeAt, numberAt, presenceAt, defaultAt}
 use Rattle.clauses.specs.Clauses.{defaultAllowed, defaultLegal}
-use Rattle.types.specs.Types.{untagged, explicit, implicit, taggingOf, memberOf, Ty, Members, typed}
+use Rattle.rows.proofs.KindLaws.{member-names}
+use Rattle.types.specs.Types.{untagged, explicit, implicit, taggingOf, memberOf, Ty}
 use Rattle.types.specs.Begins.{begins, memberBegins}
 use Rattle.types.specs.inner.Work.{bitOf}
-use Rattle.types.proofs.TagLaws.{tagged-as}
+use Rattle.types.proofs.TagLaws.{tagged-as, typed-begins}
 use Rattle.table.specs.inner.Rows.{tableRows, placeAt, memberTypeAt, memberKindAt}
 use Rattle.table.specs.inner.Words.{firstOctet, secondOf, Worded}
 use Rattle.value.specs.Decode.{startsHere}
@@ -130,16 +131,6 @@ own-usable k f e = rw e (go (eqb k 13))
     go true = omega arith
     go false = own-opens k 0 .0
 
--- ---- a type that is no CHOICE begins with its kind's tag
-typed-begins : (k g : ℕ) (e : Ty) (ms : Members) → (k ≡ 13 → ⊥) → begins (typed k e ms) g ≡ eqb g (universal k)
-unfolding begins
-typed-begins k g e ms h = rw (ne-eqb k 13 h) (go (eqb k 12) refl (isList k))
-  where
-    go : (x : Bool) → eqb k 12 ≡ x → (y : Bool) → begins (pick x (Ty.sequence ms) (pick y (Ty.listOf k e) (Ty.basic k))) g ≡ eqb g (universal k)
-    go true q y = ap (λ (z : ℕ). eqb g (universal z)) (sym (eqb-true k 12 q))
-    go false q true = refl
-    go false q false = refl
-
 -- ---- a member's words say with which octets it can begin
 module _ (t w : List ℕ) (row : ℕ) (ok : Worded t w) (here : row < length (tableRows t)) (member : kindAt t (placeAt t row) ≡ 16) where
   abbrev p : ℕ
@@ -163,16 +154,19 @@ module _ (t w : List ℕ) (row : ℕ) (ok : Worded t w) (here : row < length (ta
   pub default-small : presenceAt t p ≡ 2 → k ≤ 3
   default-small e = default-kind e .1
 
-  set-here : (presenceAt t p ≡ 2 → ⊥) → secondOf t (tableRows t) (ok .m) row ≡ rowAt (ok .m) (typeRowAt t p)
+  set-here : (presenceAt t p ≡ 2 → ⊥) → secondOf t (tableRows t) (ok .m) row ≡ rowAt (ok .m) (namedAt t p)
   unfolding secondOf
   set-here h = rw (member, ne-eqb (presenceAt t p) 2 h)
 
   number-low : numberAt t p ≤ 30
   number-low = ok .ready .number row here member
 
+  target-here : namedAt t p < length (tableRows t)
+  target-here = ok .ready .target row here (member-names t p member)
+
   by-kind : (o : ℕ) → (k ≡ 13 → ⊥) → begins target (tagOf o) ≡ eqb (tagOf o) (universal k)
-  by-kind o h = ap (λ (x : Ty). begins x (tagOf o)) (ok .ready .sound .step (typeRowAt t p) (ok .ready .target row here member))
-      ∙ typed-begins k (tagOf o) _ _ h
+  by-kind o h = ap (λ (x : Ty). begins x (tagOf o)) (ok .ready .sound .step (namedAt t p) target-here)
+      ∙ typed-begins t (tableRows t) (namedAt t p) _ _ (tagOf o) h
 
   -- the first tag octet of a type that is no CHOICE tells with which octets the member can begin
   first-as : (o : ℕ) → (k ≡ 13 → ⊥)
@@ -204,7 +198,7 @@ module _ (t w : List ℕ) (row : ℕ) (ok : Worded t w) (here : row < length (ta
 
     by-set : (presenceAt t p ≡ 2 → ⊥) → bitOf y g ≡ begins target g
     by-set h = ap (λ (x : ℕ). bitOf x (tagOf o)) (after ∙ ok .filled .second row here ∙ set-here h)
-        ∙ ok .ready .sound .masked .says (typeRowAt t p) (ok .ready .target row here member) (tagOf o) (tag-small o)
+        ∙ ok .ready .sound .masked .says (namedAt t p) target-here (tagOf o) (tag-small o)
 
     opens-as : opensBy (firstOctet (taggingOf (modeAt t p) (numberAt t p)) k) y o ≡ pick (eqb (modeAt t p) 0) (begins target g) (eqb g (context (numberAt t p)))
     unfolding taggingOf firstOctet opensBy

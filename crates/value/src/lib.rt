@@ -12,12 +12,11 @@ ghost use Rattle.octets.specs.Octets.{octet, part, same};
 ghost use Rattle.der.specs.Kind.{generalizedTime};
 ghost use Rattle.der.specs.Tag.{number, tagOf};
 ghost use Rattle.der.specs.Contents.{legal};
-ghost use Rattle.rows.specs.Row.{kindAt, elementAt, membersAt, isList, modeAt, presenceAt, defaultAt};
-ghost use Rattle.types.specs.Types.{taggingOf};
+ghost use Rattle.rows.specs.Row.{kindAt, namedAt, membersAt, isList, modeAt, presenceAt, defaultAt};
 ghost use Rattle.types.specs.Begins.{memberBegins};
 ghost use Rattle.table.specs.inner.Rows.{tableRows, MemberRow, TypeRow, placeAt, typeAt, membersAfter, memberAt, taggingAt, memberTypeAt, memberKindAt};
 ghost use Rattle.table.specs.inner.Words.{firstOctet, how, Worded};
-ghost use Rattle.value.specs.Decode.{tagOctet, startsHere, alternativeFrom, decode, storedValue};
+ghost use Rattle.value.specs.Decode.{startsHere, alternativeFrom, decode, storedValue};
 ghost use Rattle.value.specs.Paper.{valueLimits};
 ghost use Rattle.value.specs.Check.{report, valueFits, storage, valueReport};
 ghost use Rattle.value.specs.Part as parts;
@@ -59,20 +58,6 @@ pub enum Checked {
 pub enum Alternative {
     Of(usize),
     Missing,
-}
-
-// ---- tags
-// The tag octet of a value of a kind under a tag mode.
-pub fn tag_octet(mode: u8, number: u8, kind: u8) -> usize
-    ensures { λ r. ⌜ r ≡ tagOctet (taggingOf mode number) kind ⌝ }
-{
-    if mode == 0 {
-        return der::own_octet(kind);
-    }
-    if mode == 1 {
-        return der::own_octet(kind);
-    }
-    der::implicit_octet(number, kind)
 }
 
 // ---- octets that can begin a value
@@ -396,7 +381,7 @@ fn choose_inner(
         if !is_nested(t, w, member) {
             return Alternative::Of(member);
         }
-        choice = table::type_row(t, w, member);
+        choice = table::named(t, w, member);
     }
 }
 
@@ -406,9 +391,9 @@ fn has_leaves(t: &[u8], w: &[u64; 256], row: usize) -> bool
     requires here { ⌜ row < length (tableRows (now t)) ⌝ }
     requires list { ⌜ isList (kindAt (now t) (placeAt (now t) row)) ≡ true ⌝ }
     ensures { λ r. ⌜ r
-        ≡ leb (kindAt (now (t .entry)) (placeAt (now (t .entry)) (elementAt (now (t .entry)) (placeAt (now (t .entry)) row)))) generalizedTime ⌝ }
+        ≡ leb (kindAt (now (t .entry)) (placeAt (now (t .entry)) (namedAt (now (t .entry)) (placeAt (now (t .entry)) row)))) generalizedTime ⌝ }
 {
-    table::kind(t, w, table::element(t, w, row)) <= Kind::GENERALIZED_TIME
+    table::kind(t, w, table::named(t, w, row)) <= Kind::GENERALIZED_TIME
 }
 
 // The elements of the list of a row, whose type is basic, from start up to stop: without a call of the recursion for each.
@@ -423,15 +408,15 @@ fn check_leaves(
     requires worded { ⌜ Worded (now t) (now w) ⌝ }
     requires here { ⌜ row < length (tableRows (now t)) ⌝ }
     requires list { ⌜ isList (kindAt (now t) (placeAt (now t) row)) ≡ true ⌝ }
-    requires basic { ⌜ kindAt (now t) (placeAt (now t) (elementAt (now t) (placeAt (now t) row))) ≤ generalizedTime ⌝ }
+    requires basic { ⌜ kindAt (now t) (placeAt (now t) (namedAt (now t) (placeAt (now t) row))) ≤ generalizedTime ⌝ }
     requires ordered { ⌜ start ≤ stop ⌝ }
     requires inside { ⌜ stop ≤ length (now v) ⌝ }
     ensures { λ r. ⌜ r
         ≡ work.elementsChecked (kindAt (now (t .entry)) (placeAt (now (t .entry)) row))
-        (typeAt (now (t .entry)) (elementAt (now (t .entry)) (placeAt (now (t .entry)) row))) (now (v .entry)) stop start ⌝ }
+        (typeAt (now (t .entry)) (namedAt (now (t .entry)) (placeAt (now (t .entry)) row))) (now (v .entry)) stop start ⌝ }
 {
     let kind = table::kind(t, w, row);
-    let element = table::element(t, w, row);
+    let element = table::named(t, w, row);
     let tag = table::own_first(t, w, element);
     let mut before = start;
     let mut i = start;
@@ -465,13 +450,13 @@ fn check_elements(
     requires inside { ⌜ stop ≤ length (now v) ⌝ }
     ensures { λ r. ⌜ r
         ≡ work.elementsChecked (kindAt (now (t .entry)) (placeAt (now (t .entry)) row))
-        (typeAt (now (t .entry)) (elementAt (now (t .entry)) (placeAt (now (t .entry)) row))) (now (v .entry)) stop start ⌝ }
+        (typeAt (now (t .entry)) (namedAt (now (t .entry)) (placeAt (now (t .entry)) row))) (now (v .entry)) stop start ⌝ }
 {
     if has_leaves(t, w, row) {
         return check_leaves(t, w, v, row, start, stop);
     }
     let kind = table::kind(t, w, row);
-    let element = table::element(t, w, row);
+    let element = table::named(t, w, row);
     let tag = table::own_first(t, w, element);
     let mut before = start;
     let mut i = start;
@@ -546,7 +531,7 @@ fn check_tagged(t: &[u8], w: &[u64; 256], v: &[u8], row: usize, at: usize, end: 
     requires inside { ⌜ end ≤ length (now v) ⌝ }
     ensures { λ r. ⌜ r ≡ work.checked (decode (memberTypeAt (now (t .entry)) row) (taggingAt (now (t .entry)) row) (now (v .entry)) at end) ⌝ }
 {
-    let target = table::type_row(t, w, row);
+    let target = table::named(t, w, row);
     let first = table::first(t, w, row);
     if table::tagged(t, w, row) == 1 {
         return check_wrapped(t, w, v, target, first, at, end);

@@ -9,7 +9,7 @@ use Rattle.octets.specs.Pick.{both, no, all}
 use Rattle.octets.specs.Octets.{larger}
 use Rattle.rows.specs.Limits.{Limits}
 use Rattle.rows.specs.Paper.{tableLimits}
-use Rattle.rows.specs.Row.{memberSize, kindAt, elementAt, typeRowAt, isList, rows, rowAt, membersAt}
+use Rattle.rows.specs.Row.{memberSize, namesRow, namedAt, rows, rowAt, membersAt}
 use Rattle.rows.specs.Body.{memberFormed}
 use Rattle.clauses.specs.Clauses.{everyRow, wholeRows, bodyFormed, firstIsType, membersStand, memberPlace, sameName, namesDiffer}
 
@@ -48,7 +48,7 @@ memberFits name t first b =
 -- ---- the second pass, from the last row to the first
 -- the row of member j's type
 abbrev pub memberType : List ℕ → List ℕ → ℕ → ℕ → ℕ
-memberType t s i j = typeRowAt t (memberPlace s i j)
+memberType t s i j = namedAt t (memberPlace s i j)
 
 -- the largest of the first n numbers that f gives: of the chains of a row's members, the longest
 unfoldable pub tallest : (ℕ → ℕ) → ℕ → ℕ
@@ -57,5 +57,5 @@ tallest f (suc n) = larger (f n) (tallest f n)
 
 -- rows name later rows
 pub record Later (t s : List ℕ) : Type 0 where
-  pub of-list : (i : ℕ) → i < length s → isList (kindAt t (rowAt s i)) ≡ true → (i < elementAt t (rowAt s i)) × (elementAt t (rowAt s i) < length s)
+  pub of-row : (i : ℕ) → i < length s → namesRow t (rowAt s i) ≡ true → (i < namedAt t (rowAt s i)) × (namedAt t (rowAt s i) < length s)
   pub of-member : (i : ℕ) → i < length s → (j : ℕ) → j < membersAt t (rowAt s i) → (i < memberType t s i j) × (memberType t s i j < length s)

@@ -1,4 +1,4 @@
-use Rattle.plan.proofs.PlanSteps.{list-told, list-none, list-some}
+use Rattle.plan.proofs.PlanSteps.{list-none, list-some}
 use borrow.Author.Needs.{needs}
 use Rattle.plan.proofs.plan_list.Statement.{statement}
 use Rattle.plan.proofs.plan_list.Tie as tie
@@ -10,5 +10,5 @@ plan-list-spec =
     (λ c κs. search needs)  -- kind-requires
     (λ c κs. search needs)  -- is-list-requires
     (λ c. search list-none)  -- returns
-    (λ c κs. (search needs, (search needs, search list-told)))  -- element-requires
+    (λ c κs. search needs)  -- named-requires
     (λ c. search list-some))  -- returns-2

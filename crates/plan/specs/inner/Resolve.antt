@@ -8,7 +8,7 @@ use lib.ListN.{length, getD, set}
 use lib.Dec.{leb, eqb}
 use Rattle.octets.specs.Pick.{pick, both}
 use Rattle.der.specs.Kind as kind
-use Rattle.rows.specs.Row.{kindAt, elementAt, typeRowAt, membersAt, isList}
+use Rattle.rows.specs.Row.{kindAt, namedAt, membersAt, isList}
 use Rattle.clauses.specs.Clauses.{chainFits}
 use Rattle.types.specs.Begins.{alternativesDiffer}
 use Rattle.table.specs.inner.Rows.{tableRows, placeAt, typeAt, membersAfter, memberAt, memberTypeAt}
@@ -26,7 +26,7 @@ use Rattle.plan.specs.declared.Resolved.{Resolved}
 -- member j of a row
 unfoldable pub memberPlan : List ℕ → ℕ → ℕ → ℕ → Planning
 memberPlan t row j next =
-    let to = typeRowAt t (placeAt t (row + 1 + j)) in
+    let to = namedAt t (placeAt t (row + 1 + j)) in
     pick (eqb (kindAt t (placeAt t row)) kind.sequence) (Planning.To sort.member row j to next)
     (pick (eqb (kindAt t (placeAt t row)) kind.choice) (Planning.To sort.alternative row j to next)
     Planning.No)
@@ -39,7 +39,7 @@ namePlan t row x next =
 
 -- elements of a list
 unfoldable pub listPlan : List ℕ → ℕ → ℕ → ℕ → ℕ → Planning
-listPlan t row s n next = pick (isList (kindAt t (placeAt t row))) (Planning.To s n 0 (elementAt t (placeAt t row)) next) Planning.No
+listPlan t row s n next = pick (isList (kindAt t (placeAt t row))) (Planning.To s n 0 (namedAt t (placeAt t row)) next) Planning.No
 
 -- the count of a list, behind which nothing is allowed
 unfoldable pub countPlan : List ℕ → ℕ → Bool → Planning
@@ -50,13 +50,13 @@ countPlan t row last = pick (both (isList (kindAt t (placeAt t row))) last) Plan
 pub data Fits (t : List ℕ) (row : ℕ) : ℕ → ℕ → ℕ → Id → ℕ → Type 0 where
   as-member : {j : ℕ} {x : List ℕ} → kindAt t (placeAt t row) ≡ kind.sequence → j < membersAt t (placeAt t row)
       → Names x (membersAfter t row) j (memberAt t (row + 1 + j)) (memberTypeAt t (row + 1 + j))
-      → Fits t row sort.member row j (name x) (typeRowAt t (placeAt t (row + 1 + j)))
+      → Fits t row sort.member row j (name x) (namedAt t (placeAt t (row + 1 + j)))
   as-alternative : {j : ℕ} {x : List ℕ} → kindAt t (placeAt t row) ≡ kind.choice → j < membersAt t (placeAt t row)
       → Names x (membersAfter t row) j (memberAt t (row + 1 + j)) (memberTypeAt t (row + 1 + j)) → alternativesDiffer (membersAfter t row) ≡ true
-      → Fits t row sort.alternative row j (name x) (typeRowAt t (placeAt t (row + 1 + j)))
-  as-position : {n : ℕ} → isList (kindAt t (placeAt t row)) ≡ true → Fits t row sort.position (cap n) 0 (index (position n)) (elementAt t (placeAt t row))
-  as-last : {n : ℕ} → isList (kindAt t (placeAt t row)) ≡ true → Fits t row sort.fromEnd (cap n) 0 (index (fromEnd n)) (elementAt t (placeAt t row))
-  as-all : isList (kindAt t (placeAt t row)) ≡ true → Fits t row sort.all 0 0 (index all) (elementAt t (placeAt t row))
+      → Fits t row sort.alternative row j (name x) (namedAt t (placeAt t (row + 1 + j)))
+  as-position : {n : ℕ} → isList (kindAt t (placeAt t row)) ≡ true → Fits t row sort.position (cap n) 0 (index (position n)) (namedAt t (placeAt t row))
+  as-last : {n : ℕ} → isList (kindAt t (placeAt t row)) ≡ true → Fits t row sort.fromEnd (cap n) 0 (index (fromEnd n)) (namedAt t (placeAt t row))
+  as-all : isList (kindAt t (placeAt t row)) ≡ true → Fits t row sort.all 0 0 (index all) (namedAt t (placeAt t row))
 
 -- the identifiers from place k of the reference r on are one of these numbers, and js
 pub record Begins (t r : List ℕ) (k row s a b to : ℕ) (js : List Id) : Type 0 where

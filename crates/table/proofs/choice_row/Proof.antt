@@ -1,4 +1,4 @@
-use Rattle.table.proofs.PassSteps.{next-size, next-group, choice-long, choice-optional, choice-common, next-count, choice-element, next-place, choice-made}
+use Rattle.table.proofs.PassSteps.{next-size, next-group, choice-long, choice-optional, choice-common, next-count, choice-unnamed, next-place, choice-made}
 use borrow.Author.Needs.{needs}
 use Rattle.table.proofs.choice_row.Statement.{statement}
 use Rattle.table.proofs.choice_row.Tie as tie
@@ -20,5 +20,5 @@ choice-row-spec =
     (λ c. search needs)  -- enum-told
     (λ c. search choice-common)  -- returns-3
     (λ c. search needs)  -- add-type-word
-    (λ c κs. (search next-count, (search choice-element, (search needs, search next-place))))  -- type-word-requires
+    (λ c κs. (search next-count, (search choice-unnamed, (search needs, (search needs, search next-place)))))  -- type-word-requires
     (λ c. search choice-made))  -- returns-4

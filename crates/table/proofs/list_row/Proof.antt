@@ -14,6 +14,6 @@ list-row-spec =
     (λ c κs. search needs)  -- chain-of-requires
     (λ c. search list-long)  -- returns-2
     (λ c. search needs)  -- add-type-word
-    (λ c κs. (search next-count, (search list-element, (search needs, search next-place))))  -- type-word-requires
+    (λ c κs. (search next-count, (search needs, (search list-element, (search needs, search next-place)))))  -- type-word-requires
     (λ c κs. search needs)  -- own-set-requires
     (λ c. search list-made))  -- returns-3

@@ -10,6 +10,5 @@ type-word-spec =
     (λ c κs. search needs)  -- kind-at-requires
     (λ c κs. search needs)  -- first-octet-requires
     (λ c κs. search needs)  -- members-at-requires
-    (λ c κs. search needs)  -- element-row-requires
     (λ c κs. (search type-first, (search needs, (search needs, (search needs, search needs)))))  -- pack-type-requires
     (λ c. search type-packed))  -- returns

@@ -8,9 +8,8 @@ use lib.Dec.{ltb, leb, eqb}
 use Rattle.octets.specs.Pick.{pick, both, no}
 use Rattle.octets.specs.Octets.{baseFrom}
 use Rattle.der.specs.Kind as kind
-use Rattle.der.specs.Tag.{universal}
 use Rattle.rows.specs.Paper.{tableLimits}
-use Rattle.rows.specs.Row.{isList, typeRowAt, modeAt, presenceAt, defaultLengthAt, defaultAt}
+use Rattle.rows.specs.Row.{isList, namedAt, modeAt, presenceAt, defaultLengthAt, defaultAt}
 use Rattle.clauses.specs.Clauses.{defaultAllowed, chainFits}
 use Rattle.clauses.specs.inner.Work.{firstPass}
 use Rattle.types.specs.Types.{typeFrom}
@@ -75,7 +74,7 @@ pub record RowWords (t w : List ℕ) (i x y : ℕ) : Type 0 where
   pub chain : TypeRow t i → (k : ℕ) → chainFits k t (tableRows t) i ≡ leb (chainOf x) k
   pub small : TypeRow t i → y < 2 ^ 64
   pub tags : TypeRow t i → (k : ℕ) → chainFits k t (tableRows t) i ≡ true → (g : ℕ) → g < 64 → bitOf y g ≡ begins (typeFrom k t (tableRows t) i) g
-  pub stored : MemberRow t i → y ≡ memberSecond t (placeAt t i) (secondAt w (typeRowAt t (placeAt t i)))
+  pub stored : MemberRow t i → y ≡ memberSecond t (placeAt t i) (secondAt w (namedAt t (placeAt t i)))
 
 -- the rows from i on are done: their clauses hold, and w has their words; of each row before them w has the place
 pub record Going (t w : List ℕ) (i : ℕ) : Type 0 where
@@ -104,7 +103,3 @@ pub record Says (t w : List ℕ) (i : ℕ) (r : Made) : Type 0 where
 -- what admission leaves where a table has n rows
 pub record Leaves (t w : List ℕ) (n : ℕ) : Type 0 where
   pub worded : 0 < n → Worded t w
-
--- the set of tags of a row of kind k, whose second word is y; a member row's is not asked for
-unfoldable pub rowSet : ℕ → ℕ → ℕ
-rowSet k y = pick (eqb k kind.member) (2 ^ universal k) y

@@ -10,7 +10,7 @@ use Rattle.octets.specs.Octets.{baseFrom}
 use Rattle.der.specs.Kind as kind
 use Rattle.der.specs.Tag.{ownOctet, implicitOctet, wrapperOctet}
 use Rattle.rows.specs.Paper.{tableLimits}
-use Rattle.rows.specs.Row.{rowAt, kindAt, elementAt, typeRowAt, membersAt, isList, modeAt, numberAt, presenceAt, defaultLengthAt, defaultAt}
+use Rattle.rows.specs.Row.{rowAt, kindAt, namesRow, namedAt, membersAt, modeAt, numberAt, presenceAt, defaultLengthAt, defaultAt}
 use Rattle.clauses.specs.Clauses.{typeKind}
 use Rattle.types.specs.Types.{Tagging, untagged, explicit, implicit, taggingOf}
 use Rattle.types.specs.inner.Work.{Sound}
@@ -27,17 +27,13 @@ firstOctet (implicit n) k = implicitOctet n k
 unfoldable pub how : ℕ → ℕ → ℕ
 how k mode = pick (eqb mode 1) 1 (pick (leb k kind.generalizedTime) 0 2)
 
--- the element's row of a list
-unfoldable pub elementRow : List ℕ → ℕ → ℕ
-elementRow t p = pick (isList (kindAt t p)) (elementAt t p) 0
-
 -- x is the first word of the type row at p, with any chain; of the member row at p, whose type is of kind k
 abbrev pub TypeWord : List ℕ → ℕ → ℕ → Type 0
-TypeWord t p x = Packed x (kindAt t p) (firstOctet untagged (kindAt t p)) (membersAt t p) (elementRow t p) (chainOf x) 0 0 0 p
+TypeWord t p x = Packed x (kindAt t p) (firstOctet untagged (kindAt t p)) (membersAt t p) (namedAt t p) (chainOf x) 0 0 0 p
 
 abbrev pub MemberWord : List ℕ → ℕ → ℕ → ℕ → Type 0
 MemberWord t p k x =
-    Packed x kind.member (firstOctet (taggingOf (modeAt t p) (numberAt t p)) k) 0 (typeRowAt t p) k (how k (modeAt t p)) (presenceAt t p)
+    Packed x kind.member (firstOctet (taggingOf (modeAt t p) (numberAt t p)) k) 0 (namedAt t p) k (how k (modeAt t p)) (presenceAt t p)
     (length (defaultAt t p)) p
 
 -- x is the first word of row i
@@ -49,7 +45,7 @@ pub record Shaped (t s : List ℕ) (i x : ℕ) : Type 0 where
 unfoldable pub secondOf : List ℕ → List ℕ → List ℕ → ℕ → ℕ
 secondOf t s m i =
     pick (eqb (kindAt t (rowAt s i)) kind.member)
-    (pick (eqb (presenceAt t (rowAt s i)) 2) (baseFrom 0 (defaultAt t (rowAt s i))) (rowAt m (typeRowAt t (rowAt s i))))
+    (pick (eqb (presenceAt t (rowAt s i)) 2) (baseFrom 0 (defaultAt t (rowAt s i))) (rowAt m (namedAt t (rowAt s i))))
     (rowAt m i)
 
 -- w has the words of the first n rows
@@ -66,9 +62,8 @@ pub record Ready (chain : ℕ) (t s m : List ℕ) : Type 0 where
   pub place : (i : ℕ) → i < length s → rowAt s i < 65536
   pub number : (i : ℕ) → i < length s → kindAt t (rowAt s i) ≡ kind.member → numberAt t (rowAt s i) ≤ 30
   pub size : (i : ℕ) → i < length s → kindAt t (rowAt s i) ≡ kind.member → defaultLengthAt t (rowAt s i) ≤ 8
-  pub target : (i : ℕ) → i < length s → kindAt t (rowAt s i) ≡ kind.member → typeRowAt t (rowAt s i) < length s
-  pub of-element : (i : ℕ) → i < length s → isList (kindAt t (rowAt s i)) ≡ true → kindAt t (rowAt s (elementAt t (rowAt s i))) ≡ kind.member → ⊥
-  pub of-member : (i : ℕ) → i < length s → kindAt t (rowAt s i) ≡ kind.member → typeKind t s i ≡ kind.member → ⊥
+  pub target : (i : ℕ) → i < length s → namesRow t (rowAt s i) ≡ true → namedAt t (rowAt s i) < length s
+  pub typed : (i : ℕ) → i < length s → namesRow t (rowAt s i) ≡ true → typeKind t s i ≡ kind.member → ⊥
 
 -- w has the words of an admitted table's rows
 pub record Worded (t w : List ℕ) : Type 0 where

@@ -2,7 +2,7 @@
 use Prim.Native.Nat.{ℕ, _+_}
 use mathlib.Core.List.{List}
 use Rattle.rows.specs.Paper.{tableLimits}
-use Rattle.rows.specs.Row.{rowAt, typeRowAt, modeAt, numberAt, membersAt}
+use Rattle.rows.specs.Row.{rowAt, namedAt, modeAt, numberAt, membersAt}
 use Rattle.types.specs.Types.{Tagging, taggingOf, Member, memberOf, Ty, typeFrom, Members, membersFrom}
 
 abbrev pub rowType : List ℕ → List ℕ → ℕ → Ty
@@ -20,4 +20,4 @@ abbrev pub rowTagging : List ℕ → List ℕ → ℕ → Tagging
 rowTagging t s i = taggingOf (modeAt t (rowAt s i)) (numberAt t (rowAt s i))
 
 abbrev pub rowMemberType : List ℕ → List ℕ → ℕ → Ty
-rowMemberType t s i = rowType t s (typeRowAt t (rowAt s i))
+rowMemberType t s i = rowType t s (namedAt t (rowAt s i))

@@ -1,14 +1,14 @@
 -- Sets of tags, as the bits of a number: those that the type of a row can begin with.
 use Prim.Native.Nat.{ℕ, zero, suc, _+_, _/_, _%_, _^_, _<_, _≤_}
 use mathlib.Core.Path.{_≡_}
-use lib.ListN.{length, take}
+use lib.ListN.{length}
 use mathlib.Core.Bool.{Bool, true, false}
 use mathlib.Core.List.{List}
 use lib.Dec.{ltb, eqb}
 use lib.Bits.{bitAnd, bitOr}
 use Rattle.octets.specs.Pick.{pick, both}
 use Rattle.der.specs.Kind as kind
-use Rattle.rows.specs.Row.{kindAt, elementAt, presenceAt, modeAt, numberAt, typeRowAt, rows, rowAt, membersAt}
+use Rattle.rows.specs.Row.{kindAt, namedAt, presenceAt, modeAt, numberAt, rows, rowAt, membersAt}
 use Rattle.clauses.specs.Clauses.{everyRow, pointsLater, memberPlace, alternativesMandatory, noImplicitChoice, defaultLegal, chainFits}
 use Rattle.clauses.specs.inner.Work.{Later}
 use Rattle.types.specs.Types.{membersFrom, typed, typeFrom}
@@ -24,13 +24,9 @@ bitOf n (suc g) = bitOf (n / 2) g
 unfoldable pub contextBit : ℕ → ℕ
 contextBit n = pick (ltb n 32) (2 ^ (32 + n)) 0
 
--- the tags of the member row at p
-unfoldable pub memberMask : List ℕ → List ℕ → ℕ → ℕ
-memberMask m t p = pick (eqb (modeAt t p) 0) (rowAt m (typeRowAt t p)) (contextBit (numberAt t p))
-
--- the same where m gives the sets of type rows
+-- the tags of the member row at p, where m gives the sets of type rows
 unfoldable pub memberSet : (ℕ → ℕ) → List ℕ → ℕ → ℕ
-memberSet m t p = pick (eqb (modeAt t p) 0) (m (typeRowAt t p)) (contextBit (numberAt t p))
+memberSet m t p = pick (eqb (modeAt t p) 0) (m (namedAt t p)) (contextBit (numberAt t p))
 
 -- ---- the sets of k rows from j on, gathered from the first on; f gives a row's set
 -- none has a tag in common with those gathered before it, x among them; behind a row where `ends` holds they are gathered anew
@@ -70,17 +66,12 @@ pub record Masked (chain : ℕ) (t s m : List ℕ) : Type 0 where
 -- members after their rows, defaults, and the sets of tags
 pub record Sound (chain : ℕ) (t s m : List ℕ) : Type 0 where
   pub later : Later t s
-  pub step : (i : ℕ) → i < length s → typeFrom chain t s i ≡ typed (kindAt t (rowAt s i)) (typeFrom chain t s (elementAt t (rowAt s i))) (membersFrom (typeFrom chain t s) t s (i + 1) (membersAt t (rowAt s i)))
+  pub step : (i : ℕ) → i < length s → typeFrom chain t s i ≡ typed t s i (typeFrom chain t s (namedAt t (rowAt s i))) (membersFrom (typeFrom chain t s) t s (i + 1) (membersAt t (rowAt s i)))
   pub stands : (i : ℕ) → i < length s → (j : ℕ) → j < membersAt t (rowAt s i) → i + 1 + j < length s
   pub members : (i : ℕ) → i < length s → (j : ℕ) → j < membersAt t (rowAt s i) → kindAt t (memberPlace s i j) ≡ kind.member
   pub presence : (i : ℕ) → i < length s → kindAt t (rowAt s i) ≡ kind.member → presenceAt t (rowAt s i) ≤ 2
   pub defaults : (i : ℕ) → i < length s → defaultLegal t s i ≡ true
   pub masked : Masked chain t s m
-
--- the places of the n rows of a table, and their sets of tags, for the layers that go by them
-pub record Admits (most chain : ℕ) (t : List ℕ) (n : ℕ) (starts masks : List ℕ) : Type 0 where
-  pub places : 0 < n → take n starts ≡ rows most t
-  pub sets : 0 < n → Masked chain t (rows most t) masks
 
 -- how many rows an admitted table has; 0 where it is not admitted
 unfoldable pub rowCount : Limits → List ℕ → ℕ

@@ -15,7 +15,7 @@ use Rattle.value.proofs.ElementSteps.{elements-again, elements-done, el
 use borrow.Author.Needs.{needs}
 use lib.ListN.{length}
 use Rattle.rows.specs.Paper.{tableLimits}
-use Rattle.rows.specs.Row.{rowAt, typeRowAt}
+use Rattle.rows.specs.Row.{rowAt, namedAt}
 use Rattle.table.specs.inner.Rows.{tableRows}
 use borrow.Fn.Kinds.{In}
 use borrow.Fn.PlainCycle.{Measures, is, falls, and}
@@ -51,13 +51,12 @@ use Rattle.value.proofs.choose_inner.Reads as choose-inner-reads
 use Rattle.value.proofs.in_order.Reads as in-order-reads
 use Rattle.value.proofs.member_starts.Reads as member-starts-reads
 use Rattle.value.proofs.stored_default.Reads as stored-default-reads
-use Rattle.table.proofs.element.Reads as element-reads
 use Rattle.table.proofs.first.Reads as first-reads
 use Rattle.table.proofs.kind.Reads as kind-reads
 use Rattle.table.proofs.members.Reads as members-reads
 use Rattle.table.proofs.own_first.Reads as own-first-reads
 use Rattle.table.proofs.tagged.Reads as tagged-reads
-use Rattle.table.proofs.type_row.Reads as type-row-reads
+use Rattle.table.proofs.named.Reads as named-reads
 use Rattle.value.proofs.+check+check_choice+check_elements+check_fields+check_member+check_tagged+check_wrapped.{statement}
 use Rattle.value.proofs.+check+check_choice+check_elements+check_fields+check_member+check_tagged+check_wrapped.Tie.{close}
 
@@ -74,10 +73,10 @@ abbrev μ-check-fields : Measures 3 check-fields-kinds.ps ℕ
 μ-check-fields κs a = 5 * (length (tableRows (a .0 .now)) - a .1 .1 .1 .0) + 2
 
 abbrev μ-check-member : Measures 3 check-member-kinds.ps ℕ
-μ-check-member κs a = 5 * (length (tableRows (a .0 .now)) - typeRowAt (a .0 .now) (rowAt (tableRows (a .0 .now)) (a .1 .1 .1 .0))) + 6
+μ-check-member κs a = 5 * (length (tableRows (a .0 .now)) - namedAt (a .0 .now) (rowAt (tableRows (a .0 .now)) (a .1 .1 .1 .0))) + 6
 
 abbrev μ-check-tagged : Measures 3 check-tagged-kinds.ps ℕ
-μ-check-tagged κs a = 5 * (length (tableRows (a .0 .now)) - typeRowAt (a .0 .now) (rowAt (tableRows (a .0 .now)) (a .1 .1 .1 .0))) + 5
+μ-check-tagged κs a = 5 * (length (tableRows (a .0 .now)) - namedAt (a .0 .now) (rowAt (tableRows (a .0 .now)) (a .1 .1 .1 .0))) + 5
 
 abbrev μ-check-wrapped : Measures 3 check-wrapped-kinds.ps ℕ
 μ-check-wrapped κs a = 5 * (length (tableRows (a .0 .now)) - a .1 .1 .1 .0) + 4
@@ -166,8 +165,8 @@ check-elements-claims t = (
   check-leaves-reads.Learnt,
   kind-reads.Asked,
   kind-reads.Learnt,
-  element-reads.Asked,
-  element-reads.Learnt,
+  named-reads.Asked,
+  named-reads.Learnt,
   own-first-reads.Asked,
   own-first-reads.Learnt,
   check-below t,
@@ -197,8 +196,8 @@ check-member-claims t = (
 
 abbrev check-tagged-claims : ℕ → check-tagged-lts.Claims
 check-tagged-claims t = (
-  type-row-reads.Asked,
-  type-row-reads.Learnt,
+  named-reads.Asked,
+  named-reads.Learnt,
   first-reads.Asked,
   first-reads.Learnt,
   tagged-reads.Asked,
@@ -243,7 +242,7 @@ pub +check+check-choice+check-elements+check-fields+check-member+check-tagged+ch
     (λ c κs. (search needs, (search needs, (search needs, (search leaves-small, (search needs, search needs))))))  -- check-leaves-requires
     (λ c. search needs)  -- returns
     (λ c κs. search needs)  -- kind-requires
-    (λ c κs. search needs)  -- element-requires
+    (λ c κs. search needs)  -- named-requires
     (λ c κs. (search needs, (search element-here, search element-typed)))  -- own-first-requires
     (λ c. search elements-start)  -- loop-holds
     (λ c κs. (search element-falls, (search needs, (search element-here, (search needs, search own-usable)))))  -- check-requires
@@ -281,7 +280,7 @@ pub +check+check-choice+check-elements+check-fields+check-member+check-tagged+ch
     (λ c κs. (search falls-tagged, (search needs, (search needs, (search needs, search needs)))))  -- check-tagged-requires
     (λ c. search member-is))  -- returns-4
     (λ t. check-tagged-lts.spec (check-tagged-claims t) (check-tagged-at t) check-tagged.Post
-    (λ c κs. search needs)  -- type-row-requires
+    (λ c κs. search needs)  -- named-requires
     (λ c κs. search needs)  -- first-requires
     (λ c κs. search needs)  -- tagged-requires
     (λ c κs. (search falls-wrapped, (search needs, (search target-here, (search target-typed, (search needs, search first-usable))))))  -- check-wrapped-requires

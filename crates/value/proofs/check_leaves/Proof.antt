@@ -21,7 +21,7 @@ check-leaves-spec =
     Inv-loop
     μ-loop
     (λ c κs. search needs)  -- kind-requires
-    (λ c κs. search needs)  -- element-requires
+    (λ c κs. search needs)  -- named-requires
     (λ c κs. (search needs, (search element-here, search element-typed)))  -- own-first-requires
     (λ c. search elements-start)  -- loop-holds
     (λ c κs. (search needs, (search element-here, (search element-small, (search needs, search own-usable)))))  -- check-leaf-requires

@@ -25,6 +25,6 @@ choose-inner-spec =
     (λ c. search inner-none)  -- returns
     (λ c κs. (search needs, (search row-here, search row-member)))  -- is-nested-requires
     (λ c. search inner-this)  -- returns-2
-    (λ c κs. (search needs, (search row-here, search row-member)))  -- type-row-requires
+    (λ c κs. (search needs, search row-here))  -- named-requires
     (λ c. search inner-less)  -- loop-less
     (λ c. search inner-again))  -- loop-again

@@ -5,6 +5,6 @@ use Rattle.value.proofs.has_leaves.Tie as tie
 
 pub has-leaves-spec : {M : Type 1} → statement M
 has-leaves-spec = tie.close (tie.spec
-    (λ c κs. search needs)  -- element-requires
+    (λ c κs. search needs)  -- named-requires
     (λ c κs. (search needs, search element-here))  -- kind-requires
     (λ c. search leaves-are))  -- returns

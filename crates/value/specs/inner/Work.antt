@@ -5,20 +5,19 @@ use mathlib.Core.Bool.{Bool, true, false}
 use mathlib.Core.Option.{Option, none, some}
 use mathlib.Core.List.{List, []}
 use lib.ListN.{length}
-use lib.Dec.{ltb, eqb}
+use lib.Dec.{eqb}
 use Rattle.octets.specs.Pick.{pick, both, either, no, bind, isSome}
-use Rattle.octets.specs.Octets.{octet, part, same}
+use Rattle.octets.specs.Octets.{part, same}
 use Rattle.der.specs.Kind as kind
 use Rattle.der.specs.Tag.{class, number, tagOf, wrapperOctet}
 use Rattle.der.specs.Header.{insideAt}
 use Rattle.der.specs.Contents.{legal}
 use Rattle.der.specs.Order.{notAbove}
 use Rattle.der.specs.declared.Inside.{Inside}
-use Rattle.rows.specs.Row.{rowAt, kindAt, typeRowAt, modeAt, numberAt, presenceAt, defaultAt}
-use Rattle.clauses.specs.Clauses.{memberPlace}
+use Rattle.rows.specs.Row.{rowAt, kindAt, namedAt, modeAt, numberAt, presenceAt, defaultAt}
 use Rattle.types.specs.Types.{Tagging, untagged, explicit, implicit, taggingOf, Member, memberOf, Ty, typeFrom, Members}
 use Rattle.types.specs.Begins.{isMandatory}
-use Rattle.types.specs.inner.Work.{bitOf, memberMask}
+use Rattle.types.specs.inner.Work.{bitOf}
 use Rattle.table.specs.inner.Rows.{tableRows, placeAt, MemberRow, membersAfter, taggingAt, memberTypeAt}
 use Rattle.value.specs.Value.{Values, endValues, next, encoding}
 use Rattle.value.specs.Order.{rising}
@@ -40,13 +39,6 @@ unfoldable pub first : (ℕ → Bool) → ℕ → ℕ → ℕ
 first f zero a = a
 first f (suc k) a = let r = first f k (a + 1) in pick (f a) a r
 
--- the set of the member row at p has the tag of the octet at i, which lies before stop
-unfoldable pub marked : List ℕ → List ℕ → ℕ → List ℕ → ℕ → ℕ → Bool
-marked m t p v stop i = both (ltb i stop) (bitOf (memberMask m t p) (tagOf (octet v i)))
-
-unfoldable pub markedOf : List ℕ → List ℕ → List ℕ → ℕ → List ℕ → ℕ → ℕ → ℕ → Bool
-markedOf m t s row v stop i j = marked m t (memberPlace s row j) v stop i
-
 -- ---- octets that can begin a value
 -- tag octets of one class and number
 unfoldable pub sameTag : ℕ → ℕ → Bool
@@ -59,7 +51,7 @@ opensBy u set o = pick (eqb u 0) (bitOf set (tagOf o)) (sameTag u o)
 -- member j of a row can begin at a place
 unfoldable pub startsOf : ℕ → List ℕ → List ℕ → ℕ → List ℕ → ℕ → ℕ → ℕ → Bool
 startsOf chain t s row v stop at j =
-    startsHere (memberOf t (row + 1 + j) (rowAt s (row + 1 + j))) (typeFrom chain t s (typeRowAt t (rowAt s (row + 1 + j)))) v stop at
+    startsHere (memberOf t (row + 1 + j) (rowAt s (row + 1 + j))) (typeFrom chain t s (namedAt t (rowAt s (row + 1 + j)))) v stop at
 
 -- ---- a default that is stored: the contents of a basic value under a tag mode
 abbrev pub within : (ℕ → ℕ → Inside) → Inside → Inside
@@ -77,7 +69,7 @@ holds v c (Inside.Of start n) = same (part v start n) c
 
 -- the member row at p has a default, and its contents stand at a place
 unfoldable pub storedDefault : List ℕ → List ℕ → ℕ → List ℕ → ℕ → ℕ → Bool
-storedDefault t s p v at end = both (eqb (presenceAt t p) 2) (holds v (defaultAt t p) (contentsAt (taggingOf (modeAt t p) (numberAt t p)) (kindAt t (rowAt s (typeRowAt t p))) v at end))
+storedDefault t s p v at end = both (eqb (presenceAt t p) 2) (holds v (defaultAt t p) (contentsAt (taggingOf (modeAt t p) (numberAt t p)) (kindAt t (rowAt s (namedAt t p))) v at end))
 
 -- ---- plain members: of a basic type, under no tag or an implicit one
 -- the n octets from start on are the contents of the default of the member row at p
@@ -139,7 +131,7 @@ isNested k mode = both (eqb k kind.choice) (no (eqb mode 1))
 pub record ChosenRow (t v : List ℕ) (row at end r : ℕ) : Type 0 where
   pub here : r < length (tableRows t)
   pub member : MemberRow t r
-  pub later : row < typeRowAt t (placeAt t r)
+  pub later : row < namedAt t (placeAt t r)
   pub same : checked (decode (memberTypeAt t r) (taggingAt t r) v at end) ≡ checked (alternativeFrom (membersAfter t row) v at end)
 
 unfoldable pub Chooses : List ℕ → List ℕ → ℕ → ℕ → ℕ → Alternative → Type 0
