@@ -1,8 +1,8 @@
 // The answers of the engine: the listing, and the answer to a filter.
-use filter::Filter;
-use filter::Reading;
 use evaluation::Judged;
 use evaluation::Verdict;
+use filter::Filter;
+use filter::Reading;
 use reference::Target;
 use rows::Table;
 use value::Value;

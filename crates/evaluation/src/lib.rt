@@ -1,5 +1,4 @@
 // The truth of a filter over a value, and the tests made.
-use walk::State;
 use assertion::Assertion;
 use assertion::Component;
 use assertion::Parts;
@@ -9,6 +8,7 @@ use filter::Tail;
 use reference::Target;
 use rules::Named;
 use rules::Rule;
+use walk::State;
 ghost use Prim.Native.Nat.{_≤_};
 ghost use mathlib.Core.Path.{_≡_};
 ghost use mathlib.Core.Bool.{true};
