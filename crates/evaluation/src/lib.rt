@@ -23,6 +23,7 @@ ghost use Rattle.reference.specs.inner.Work as reference;
 ghost use Rattle.rules.specs.Rule.{ruleOf, knownRules};
 ghost use Rattle.rules.specs.inner.Answers.{meant, conforms};
 ghost use Rattle.plan.specs.inner.Task.{taskOf};
+ghost use Rattle.plan.specs.inner.Operand.{operandOf};
 ghost use Rattle.assertion.specs.Assertion.{assertionAt};
 ghost use Rattle.assertion.specs.inner.Places.{componentOf, itemOf};
 ghost use Rattle.filter.specs.Filter.{item};
@@ -83,14 +84,14 @@ fn suits_target(rule: Rule, t: &[u8], w: &[u64; 256], target: Target) -> bool
     }
 }
 
-// Writes the steps of an assertion's reference, for the plan's test with the value text; what it leads to.
+// Writes the steps of an assertion's reference, for the plan's test with the operand; what it leads to.
 fn resolve_component(
     t: &[u8],
     w: &[u64; 256],
     q: &mut [usize; 72],
     f: &[u8],
     component: Component,
-    text: &[u8],
+    x: &[u8],
     defaults: bool,
 ) -> Target
     requires worded { ⌜ Worded (now t) (now w) ⌝ }
@@ -98,14 +99,14 @@ fn resolve_component(
     requires room { ⌜ length (now q) ≡ 72 ⌝ }
     ensures leads { λ g. ⌜ work.targetOf (now (t .entry)) g ≡ work.leadsBy (componentOf (now (f .entry)) component) (typeAt (now (t .entry)) 0) ⌝ }
     ensures within { λ g. ⌜ reference.rowWithin (tableRows (now (t .entry))) g ≡ true ⌝ }
-    ensures planned { λ g. ⌜ work.PlannedFor (now (t .entry)) (now (q .exit)) (now (text .entry)) defaults (componentOf (now (f .entry)) component) g ⌝ }
+    ensures planned { λ g. ⌜ work.PlannedFor (now (t .entry)) (now (q .exit)) (now (x .entry)) defaults (componentOf (now (f .entry)) component) g ⌝ }
     ensures task { λ g. ⌜ taskOf (now (q .exit)) ≡ taskOf (now (q .entry)) ⌝ }
 {
     match component {
-        Component::Missing => plan::resolve(t, w, q, false, f, text, defaults),
+        Component::Missing => plan::resolve(t, w, q, false, f, x, defaults),
         Component::Quoted(a, b) => {
             let r = assertion::within_quotes(f, a, b);
-            plan::resolve(t, w, q, true, r, text, defaults)
+            plan::resolve(t, w, q, true, r, x, defaults)
         }
     }
 }
@@ -121,7 +122,36 @@ fn ended(state: State) -> Judged
     }
 }
 
-// An assertion with a rule and a value text that conforms.
+// An assertion with a rule and the operand of a value text that conforms.
+fn judge_operand(
+    t: &[u8],
+    w: &[u64; 256],
+    v: &[u8],
+    f: &[u8],
+    p: Parts,
+    rule: Rule,
+    x: &[u8],
+    tests: Tests,
+) -> Judged
+    requires ready { ⌜ work.Ready (now t) (now w) (now v) (now f) ⌝ }
+    requires known { ⌜ ruleOf knownRules (itemOf (now f) p .rule) ≡ some (meant rule) ⌝ }
+    requires conforming { ⌜ conforms (meant rule) (itemOf (now f) p .value) ≡ true ⌝ }
+    requires operand { ⌜ now x ≡ operandOf (meant rule) (itemOf (now f) p .value) ⌝ }
+    requires within { ⌜ tests .made ≤ tests .budget ⌝ }
+    ensures { λ j. ⌜ j
+        ≡ work.charged (tests .budget) (tests .made) (outcome knownRules (typeAt (now (t .entry)) 0) (now (v .entry)) (itemOf (now (f .entry)) p)) ⌝ }
+{
+    let mut q = [0usize; 72];
+    plan::plan_test(&mut q, rule, x, tests.budget);
+    let component = p.component;
+    let target = resolve_component(t, w, &mut q, f, component, x, p.defaults);
+    if !suits_target(rule, t, w, target) {
+        return Judged::Of(Verdict::Undefined, tests.made);
+    }
+    ended(walk::test(t, w, &q, v, x, tests.made))
+}
+
+// An assertion with a rule and a value text that conforms: its operand is made here, in memory where it doesn't stand in the text.
 fn judge_conforming(
     t: &[u8],
     w: &[u64; 256],
@@ -132,7 +162,7 @@ fn judge_conforming(
     text: &[u8],
     tests: Tests,
 ) -> Judged
-    requires ready { ⌜ work.Ready (now t) (now w) (now v) ⌝ }
+    requires ready { ⌜ work.Ready (now t) (now w) (now v) (now f) ⌝ }
     requires known { ⌜ ruleOf knownRules (itemOf (now f) p .rule) ≡ some (meant rule) ⌝ }
     requires value { ⌜ now text ≡ itemOf (now f) p .value ⌝ }
     requires conforming { ⌜ conforms (meant rule) (now text) ≡ true ⌝ }
@@ -140,14 +170,13 @@ fn judge_conforming(
     ensures { λ j. ⌜ j
         ≡ work.charged (tests .budget) (tests .made) (outcome knownRules (typeAt (now (t .entry)) 0) (now (v .entry)) (itemOf (now (f .entry)) p)) ⌝ }
 {
-    let mut q = [0usize; 72];
-    plan::plan_test(&mut q, rule, tests.budget);
-    let component = p.component;
-    let target = resolve_component(t, w, &mut q, f, component, text, p.defaults);
-    if !suits_target(rule, t, w, target) {
-        return Judged::Of(Verdict::Undefined, tests.made);
+    let part = plan::operand_part(rule, text);
+    if plan::is_operand(rule, part) {
+        return judge_operand(t, w, v, f, p, rule, part, tests);
     }
-    ended(walk::test(t, w, &q, v, text, tests.made))
+    let mut memory = [0u8; 2048];
+    let n = strings::squeeze(part, &mut memory);
+    judge_operand(t, w, v, f, p, rule, octets::part(&memory, 0, n), tests)
 }
 
 // An assertion with a rule.
@@ -160,7 +189,7 @@ fn judge_ruled(
     rule: Rule,
     tests: Tests,
 ) -> Judged
-    requires ready { ⌜ work.Ready (now t) (now w) (now v) ⌝ }
+    requires ready { ⌜ work.Ready (now t) (now w) (now v) (now f) ⌝ }
     requires known { ⌜ ruleOf knownRules (itemOf (now f) p .rule) ≡ some (meant rule) ⌝ }
     requires within { ⌜ tests .made ≤ tests .budget ⌝ }
     ensures { λ j. ⌜ j
@@ -175,7 +204,7 @@ fn judge_ruled(
 
 // An assertion of the filter text f by the places of its parts.
 fn judge_parts(t: &[u8], w: &[u64; 256], v: &[u8], f: &[u8], p: Parts, tests: Tests) -> Judged
-    requires ready { ⌜ work.Ready (now t) (now w) (now v) ⌝ }
+    requires ready { ⌜ work.Ready (now t) (now w) (now v) (now f) ⌝ }
     requires within { ⌜ tests .made ≤ tests .budget ⌝ }
     ensures { λ j. ⌜ j
         ≡ work.charged (tests .budget) (tests .made) (outcome knownRules (typeAt (now (t .entry)) 0) (now (v .entry)) (itemOf (now (f .entry)) p)) ⌝ }
@@ -324,7 +353,7 @@ fn judge_assertion(
     live: bool,
     tests: Tests,
 ) -> Judging
-    requires ready { ⌜ work.Ready (now t) (now w) (now v) ⌝ }
+    requires ready { ⌜ work.Ready (now t) (now w) (now v) (now f) ⌝ }
     requires within { ⌜ tests .made ≤ tests .budget ⌝ }
     ensures { λ w. ⌜ w
         ≡ work.judgedFilter (outcome knownRules (typeAt (now (t .entry)) 0) (now (v .entry))) live (tests .budget) (tests .made)
@@ -378,7 +407,7 @@ fn judge_filter(
     live: bool,
     tests: Tests,
 ) -> Judging
-    requires ready { ⌜ work.Ready (now t) (now w) (now v) ⌝ }
+    requires ready { ⌜ work.Ready (now t) (now w) (now v) (now f) ⌝ }
     requires read { ⌜ isSome (parsing.filterAt (now f) at) ≡ true ⌝ }
     requires within { ⌜ tests .made ≤ tests .budget ⌝ }
     ensures { λ w. ⌜ w
@@ -405,7 +434,7 @@ fn judge_list(
     live: bool,
     tests: Tests,
 ) -> Judging
-    requires ready { ⌜ work.Ready (now t) (now w) (now v) ⌝ }
+    requires ready { ⌜ work.Ready (now t) (now w) (now v) (now f) ⌝ }
     requires read { ⌜ isSome (filtersAt (now f) at) ≡ true ⌝ }
     requires within { ⌜ tests .made ≤ tests .budget ⌝ }
     ensures { λ w. ⌜ w
@@ -441,7 +470,7 @@ fn judge_list(
 
 // The filter of a whole text.
 pub fn judge(t: &[u8], w: &[u64; 256], v: &[u8], f: &[u8], budget: usize) -> Judged
-    requires ready { ⌜ work.Ready (now t) (now w) (now v) ⌝ }
+    requires ready { ⌜ work.Ready (now t) (now w) (now v) (now f) ⌝ }
     requires read { ⌜ isSome (parsing.filterAt (now f) 0) ≡ true ⌝ }
     ensures { λ w. ⌜ w
         ≡ work.judgedText (outcome knownRules (typeAt (now (t .entry)) 0) (now (v .entry))) budget (parsing.filterAt (now (f .entry)) 0) ⌝ }

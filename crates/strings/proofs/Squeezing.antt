@@ -180,6 +180,9 @@ pub record Squeezing (p : List ℕ) (n : ℕ) (c : Cursor) (m : List ℕ) : Type
 pub squeeze-start : (p m : List ℕ) → length m ≡ 2048 → length p ≤ 2048 → Squeezing p 0 begun m
 squeeze-start p m e h = record { long = e; count = omega (arith, prepared-length p, ap length (rest-begun false true p)); start = rest-begun false true p }
 
+pub squeeze-long : (p : List ℕ) (n : ℕ) (c : Cursor) (m : List ℕ) → Squeezing p n c m → length m ≡ 2048
+squeeze-long p n c m v = v .long
+
 module _ (p : List ℕ) (n : ℕ) (c : Cursor) (m : List ℕ) (v : Squeezing p n c m) (s : Step) (told : reportStep false true p s ≡ rest false true p c) where
   pub squeeze-end : s ≡ Step.End → take n m ≡ prepared false (undoubled p)
   squeeze-end e = sym (append-nil (take n m)) ∙ ap (λ (l : List ℕ). take n m ++ l) (sym (ap (reportStep false true p) e) ∙ told) ∙ v .start

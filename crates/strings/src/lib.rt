@@ -234,7 +234,8 @@ pub fn is_squeezed(p: &[u8]) -> bool
 pub fn squeeze(p: &[u8], memory: &mut [u8; 2048]) -> usize
     requires room { ⌜ length (now memory) ≡ 2048 ⌝ }
     requires short { ⌜ length (now p) ≤ 2048 ⌝ }
-    ensures { λ n. ⌜ part (now (memory .exit)) 0 n ≡ prepared false (undoubled (now (p .entry))) ⌝ }
+    ensures written { λ n. ⌜ part (now (memory .exit)) 0 n ≡ prepared false (undoubled (now (p .entry))) ⌝ }
+    ensures room { λ n. ⌜ length (now (memory .exit)) ≡ 2048 ⌝ }
 {
     let mut c = Cursor {
         at: 0,

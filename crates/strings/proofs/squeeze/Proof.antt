@@ -1,4 +1,4 @@
-use Rattle.strings.proofs.Squeezing.{Squeezing, squeeze-start, squeeze-end, squeeze-room, squeeze-falls, squeeze-more}
+use Rattle.strings.proofs.Squeezing.{Squeezing, squeeze-long, squeeze-start, squeeze-end, squeeze-room, squeeze-falls, squeeze-more}
 use Rattle.strings.specs.inner.Cursor.{rest}
 use borrow.Author.Needs.{needs}
 use lib.ListN.{length}
@@ -22,7 +22,7 @@ squeeze-spec =
     (λ c κs. search needs)  -- next-requires
     (λ c. search needs)  -- enum-known-b
     (λ c. search needs)  -- enum-told
-    (λ c. search squeeze-end)  -- returns
+    (λ c. (search squeeze-end, search squeeze-long))  -- returns
     (λ c. search squeeze-room)  -- element-write-memory
     (λ c. search needs)  -- add-n
     (λ c. search squeeze-falls)  -- loop-less
