@@ -11,13 +11,11 @@ use Rattle.octets.specs.Pick.{pick, both}
 use Rattle.octets.specs.Octets.{octet, same, nibble}
 use Rattle.octets.proofs.Laws.{rest-cons, rest-none}
 use Rattle.octets.proofs.TextLaws.{same-nil, same-shorter, same-longer, same-cons}
-use Rattle.der.specs.Meaning.{bitsOf}
-use Rattle.digits.specs.Asserted.{digits, isBitText, hexBits, textBits, assertedBits}
+use Rattle.digits.specs.Asserted.{hexBits, textBits}
 use Rattle.digits.specs.inner.Answers.{hexFrom, restBits, reportBit, isEnd, bitIn, bitsIn}
 use Rattle.digits.specs.declared.Quarter.{Quarter}
 use Rattle.digits.specs.declared.Bits.{Bits}
 use Rattle.digits.specs.declared.BitStep.{BitStep}
-use Rattle.digits.proofs.Laws.{bits-binary, bits-hexadecimal}
 
 -- ---- one bit
 module _ (n at after : ℕ) (q : Quarter) where
@@ -102,9 +100,5 @@ module _ (s h : List ℕ) (hexed : Bool) (i : ℕ) (a : Bits) (step : BitStep) (
 pub bits-too-long : (c : List ℕ) (x : Bool) → 65536 < length c → false ≡ both (leb (length c) 65536) x
 bits-too-long c x h = rw (lt-leb (length c) 65536 h)
 
-module _ (t c p : List ℕ) (u r : Bool) (short : length c ≤ 65536) (inside : p ≡ digits t) (told : u ≡ isBitText t) where
-  pub bits-of-text : u ≡ true → r ≡ same (bitsOf c) (textBits p) → r ≡ both (leb (length c) 65536) (same (bitsOf c) (assertedBits t))
-  bits-of-text h e = rw (le-leb (length c) 65536 short, bits-binary t (sym told ∙ h)) (e ∙ ap (λ (x : List ℕ). same (bitsOf c) (textBits x)) inside)
-
-  pub bits-of-hex : u ≡ false → r ≡ same (bitsOf c) (hexBits p) → r ≡ both (leb (length c) 65536) (same (bitsOf c) (assertedBits t))
-  bits-of-hex h e = rw (le-leb (length c) 65536 short, bits-hexadecimal t (sym told ∙ h)) (e ∙ ap (λ (x : List ℕ). same (bitsOf c) (hexBits x)) inside)
+pub bits-told : (c : List ℕ) (x r : Bool) → length c ≤ 65536 → r ≡ x → r ≡ both (leb (length c) 65536) x
+bits-told c x r h e = rw (le-leb (length c) 65536 h) e

@@ -11,11 +11,10 @@ use Rattle.octets.specs.Pick.{pick, both}
 use Rattle.octets.specs.Octets.{octet, part, every, same, below, nibble, paired}
 use Rattle.octets.proofs.Laws.{rest-cons, rest-none}
 use Rattle.octets.proofs.TextLaws.{same-nil, same-shorter, same-longer, same-cons, below-nil, below-shorter, below-longer-list, below-cons, paired-nil, paired-one, paired-two}
-use Rattle.digits.specs.Asserted.{inQuotes, digits, isHexDigit, isBit, isHexString, isBitText, isOctets, assertedOctets, isBits}
+use Rattle.digits.specs.Asserted.{inQuotes, digits, isHexDigit, isBit, isHexString, isBitText, isOctets, isBits}
 use Rattle.digits.specs.inner.Answers.{ordered, isSame, isLess, reportPair}
 use Rattle.digits.specs.declared.Order.{Order}
 use Rattle.digits.specs.declared.Pair.{Pair}
-use Rattle.digits.proofs.Laws.{octets-operand}
 
 -- ---- between the quotes
 pub digits-none : (t r : List ℕ) → length t ≤ 3 → r ≡ part t 1 0 → r ≡ digits t
@@ -143,10 +142,3 @@ module _ (c h : List ℕ) (o : Order) (r : Bool) (told : o ≡ ordered c (paired
 
   pub less-hex-is : r ≡ isLess o → r ≡ below c (paired h)
   less-hex-is e = e ∙ ap isLess told ∙ ordered-less c (paired h)
-
-module _ (t c p : List ℕ) (r : Bool) (inside : p ≡ digits t) where
-  pub same-octets-is : r ≡ same c (paired p) → r ≡ same c (assertedOctets t)
-  same-octets-is e = e ∙ ap (λ (x : List ℕ). same c (paired x)) inside ∙ ap (same c) (sym (octets-operand t))
-
-  pub less-octets-is : r ≡ below c (paired p) → r ≡ below c (assertedOctets t)
-  less-octets-is e = e ∙ ap (λ (x : List ℕ). below c (paired x)) inside ∙ ap (below c) (sym (octets-operand t))

@@ -222,7 +222,7 @@ fn is_less(o: Order) -> bool
     }
 }
 
-// Whether stored octets are those of hexadecimal digits, or less.
+// Whether stored octets are those of pairs of hexadecimal digits, or less.
 pub fn same_hex(c: &[u8], h: &[u8]) -> bool
     ensures { λ r. ⌜ r ≡ octets.same (now (c .entry)) (octets.paired (now (h .entry))) ⌝ }
 {
@@ -233,20 +233,6 @@ pub fn less_hex(c: &[u8], h: &[u8]) -> bool
     ensures { λ r. ⌜ r ≡ octets.below (now (c .entry)) (octets.paired (now (h .entry))) ⌝ }
 {
     is_less(order_octets(c, h))
-}
-
-// Whether stored octets are the asserted ones.
-pub fn same_octets(t: &[u8], c: &[u8]) -> bool
-    ensures { λ r. ⌜ r ≡ octets.same (now (c .entry)) (asserted.assertedOctets (now (t .entry))) ⌝ }
-{
-    same_hex(c, operand(t))
-}
-
-// Whether stored octets are less than the asserted ones.
-pub fn less_octets(t: &[u8], c: &[u8]) -> bool
-    ensures { λ r. ⌜ r ≡ octets.below (now (c .entry)) (asserted.assertedOctets (now (t .entry))) ⌝ }
-{
-    less_hex(c, operand(t))
 }
 
 // ---- bits of a text, one after another
@@ -346,30 +332,13 @@ fn same_bit_list(c: &[u8], h: &[u8], hexed: bool) -> bool
     is_end(next_bit(h, hexed, a))
 }
 
-// Whether stored bits are those of hexadecimal digits, or of binary ones: equal in number and bit by bit.
-pub fn same_bits_hex(c: &[u8], h: &[u8]) -> bool
-    requires { ⌜ length (now c) ≤ 65536 ⌝ }
-    ensures { λ r. ⌜ r ≡ octets.same (bitsOf (now (c .entry))) (asserted.hexBits (now (h .entry))) ⌝ }
-{
-    same_bit_list(c, h, true)
-}
-
-pub fn same_bits_bin(c: &[u8], h: &[u8]) -> bool
-    requires { ⌜ length (now c) ≤ 65536 ⌝ }
-    ensures { λ r. ⌜ r ≡ octets.same (bitsOf (now (c .entry))) (asserted.textBits (now (h .entry))) ⌝ }
-{
-    same_bit_list(c, h, false)
-}
-
-// Whether stored bits are the asserted ones; of contents above 65,536 octets the answer is false.
-pub fn same_bits(t: &[u8], c: &[u8]) -> bool
-    ensures { λ r. ⌜ r ≡ both (leb (length (now (c .entry))) 65536) (octets.same (bitsOf (now (c .entry))) (asserted.assertedBits (now (t .entry)))) ⌝ }
+// Whether stored bits are those of hexadecimal digits (`hexed`), or of binary ones: equal in number and bit by bit. Of contents above 65,536 octets the
+// answer is false.
+pub fn same_bits(c: &[u8], h: &[u8], hexed: bool) -> bool
+    ensures { λ r. ⌜ r ≡ both (leb (length (now (c .entry))) 65536) (octets.same (bitsOf (now (c .entry))) (answers.bitsIn hexed (now (h .entry)))) ⌝ }
 {
     if 65536 < c.len() {
         return false;
     }
-    if is_bit_text(t) {
-        return same_bits_bin(c, operand(t));
-    }
-    same_bits_hex(c, operand(t))
+    same_bit_list(c, h, hexed)
 }

@@ -2,15 +2,11 @@
 use der::Sub;
 use octets::Size;
 ghost use mathlib.Core.Path.{_≡_};
-ghost use mathlib.Core.Bool.{true};
-ghost use Prim.Native.Nat.{_-_};
 ghost use lib.ListN.{drop};
-ghost use Rattle.octets.specs.Pick.{consed};
-ghost use Rattle.octets.specs.Octets.{same, every};
+ghost use Rattle.octets.specs.Octets.{same};
 ghost use Rattle.octets.specs.Text.{pieces};
 ghost use Rattle.der.specs.Dotted.{everyNumber, dottedArcs, isDotted};
-ghost use Rattle.der.specs.Contents.{subidentifiers};
-ghost use Rattle.der.specs.Meaning.{arcsFrom, arcsOf};
+ghost use Rattle.der.specs.Meaning.{arcsOf};
 ghost use Rattle.dotted.specs.inner.Arcs as arcs;
 ghost use Rattle.dotted.specs.inner.Held as held;
 ghost use Rattle.dotted.specs.inner.Stored as stored;
@@ -52,12 +48,6 @@ pub enum HeldStep {
 pub struct Arc {
     pub size: Size,
     pub formed: bool,
-    pub next: Dots,
-}
-
-// An arc below 2^32, and where the next arc starts.
-pub struct SmallArc {
-    pub number: u64,
     pub next: Dots,
 }
 
@@ -356,104 +346,4 @@ pub fn fits_stored(t: &[u8]) -> bool
         k -= 1;
     }
     false
-}
-
-// The arc that starts at a place.
-fn read_small(t: &[u8], at: usize) -> SmallArc
-    requires plain { ⌜ every stored.isPlain (now t) ≡ true ⌝ }
-    requires small { ⌜ every stored.isSmall (held.restArcs (now t) (Dots.At at)) ≡ true ⌝ }
-    ensures { λ r. ⌜ stored.reportSmall (now (t .entry)) r ≡ held.restArcs (now (t .entry)) (Dots.At at) ⌝ }
-{
-    let mut i = at;
-    let mut n: u64 = 0;
-    while i < t.len() {
-        let b = t[i];
-        if b == 46 {
-            return SmallArc {
-                number: n,
-                next: Dots::At(i + 1),
-            };
-        }
-        n = n * 10 + octets::wide64(b - 48);
-        i += 1;
-    }
-    SmallArc {
-        number: n,
-        next: Dots::Over,
-    }
-}
-
-fn is_last(s: Sub) -> bool
-    ensures { λ r. ⌜ r ≡ stored.isLast s ⌝ }
-{
-    match s {
-        Sub::Value(_, _) => false,
-        Sub::End => true,
-        Sub::Broken => false,
-    }
-}
-
-// Whether the subidentifiers from a place on are the arcs of a text from one on.
-fn same_rest(t: &[u8], c: &[u8], dots: Dots, at: usize) -> bool
-    requires plain { ⌜ every stored.isPlain (now t) ≡ true ⌝ }
-    requires small { ⌜ every stored.isSmall (held.restArcs (now t) dots) ≡ true ⌝ }
-    ensures { λ r. ⌜ r ≡ held.matches (subidentifiers (drop at (now (c .entry)))) (held.restArcs (now (t .entry)) dots) ⌝ }
-{
-    let mut a = dots;
-    let mut i = at;
-    loop {
-        let s = der::read_sub(c, i);
-        let Dots::At(p) = a else {
-            return is_last(s);
-        };
-        match s {
-            Sub::Value(n, next) => {
-                let arc = read_small(t, p);
-                if arc.number != n as u64 {
-                    return false;
-                }
-                a = arc.next;
-                i = next;
-            }
-            Sub::End => {
-                return false;
-            }
-            Sub::Broken => {
-                return false;
-            }
-        }
-    }
-}
-
-// Whether a first subidentifier, which stands for two arcs, and those from a place on have the arcs of a dotted text that fits.
-fn same_from(t: &[u8], c: &[u8], n: u32, next: usize) -> bool
-    requires dotted { ⌜ isDotted (now t) ≡ true ⌝ }
-    requires fits { ⌜ stored.fitting 33 (dottedArcs (now t)) ≡ true ⌝ }
-    ensures { λ r. ⌜ r ≡ same (arcsFrom (consed n (subidentifiers (drop next (now (c .entry)))))) (dottedArcs (now (t .entry))) ⌝ }
-{
-    let first = read_small(t, 0);
-    let dots = first.next;
-    let Dots::At(p) = dots else {
-        return false;
-    };
-    let second = read_small(t, p);
-    if first.number * 40 + second.number != n as u64 {
-        return false;
-    }
-    let rest = second.next;
-    same_rest(t, c, rest, next)
-}
-
-// Whether contents of an OBJECT IDENTIFIER have the arcs of a dotted text that fits.
-pub fn same_stored(t: &[u8], c: &[u8]) -> bool
-    requires dotted { ⌜ isDotted (now t) ≡ true ⌝ }
-    requires fits { ⌜ stored.fitting 33 (dottedArcs (now t)) ≡ true ⌝ }
-    ensures { λ r. ⌜ r ≡ same (arcsOf (now (c .entry))) (dottedArcs (now (t .entry))) ⌝ }
-{
-    let s = der::read_sub(c, 0);
-    match s {
-        Sub::Value(n, next) => same_from(t, c, n, next),
-        Sub::End => false,
-        Sub::Broken => false,
-    }
 }

@@ -156,9 +156,9 @@ module _ (t w v s : List ℕ) (budget : ℕ) (ready : Ready t w v) (r : Evaluate
   unfolding withFilter
   stored-malformed e = ap (withFilter knownRules ty v budget) (sym (known Evaluated.Malformed e))
 
-pub typed-ready : (t w v : List ℕ) (x : Bool) → Worded t w → admitted tableLimits t ≡ true → length v ≤ 65536 → x ≡ isSome (storedValue (words.typeAt t 0) v) → not x ≡ false
-    → Ready t w v
-typed-ready t w v x worded admits short stored e = record { worded = worded; admits = admits; short = short; stored = sym stored ∙ not-false x e }
+pub typed-ready : (t w v f : List ℕ) (x : Bool) → Worded t w → admitted tableLimits t ≡ true → length v ≤ 65536 → length f ≤ 2048
+    → x ≡ isSome (storedValue (words.typeAt t 0) v) → not x ≡ false → Ready t w v f
+typed-ready t w v f x worded admits short brief stored e = record { worded = worded; admits = admits; short = short; stored = sym stored ∙ not-false x e; brief = brief }
 
 -- ---- 2, then the others
 module _ (t v s : List ℕ) (budget n : ℕ) (count : n ≡ rowCount tableLimits t) where
@@ -188,3 +188,12 @@ module _ (t v s : List ℕ) (budget : ℕ) (b : Bool) (fits : b ≡ questionFits
       let u = both-true (valueFits valueLimits v) (both (filterFits filterLimits s) (leb budget (limits .budget))) (w .1) in
       let z = leb-true (length v) (valueLimits .most) (both-true (leb (valueLimits .least) (length v)) (leb (length v) (valueLimits .most)) (u .0) .1) in
       omega arith
+
+  -- and so is a filter
+  pub brief-here : not b ≡ false → length s ≤ 2048
+  unfolding questionFits filterFits
+  brief-here e =
+      let w = both-true (tableFits tableLimits t) (both (valueFits valueLimits v) (both (filterFits filterLimits s) (leb budget (limits .budget)))) (sym fits ∙ not-false b e) in
+      let u = both-true (valueFits valueLimits v) (both (filterFits filterLimits s) (leb budget (limits .budget))) (w .1) in
+      let y = both-true (filterFits filterLimits s) (leb budget (limits .budget)) (u .1) in
+      leb-true (length s) 2048 (both-true (leb 1 (length s)) (leb (length s) 2048) (y .0) .1)

@@ -285,7 +285,7 @@ fn refuse_filter(filter: &[u8], n: u8) -> Answer
 
 // The answer on a value that has been checked.
 fn ask_stored(t: &[u8], w: &[u64; 256], v: &[u8], filter: &[u8], budget: usize) -> Answer
-    requires ready { ⌜ Ready (now t) (now w) (now v) ⌝ }
+    requires ready { ⌜ Ready (now t) (now w) (now v) (now filter) ⌝ }
     ensures { λ a. ⌜ answer.report a
         ≡ answer.withFilter knownRules (typeAt (now (t .entry)) 0) (now (v .entry)) budget (parse filterLimits (now (filter .entry))) ⌝ }
 {
@@ -301,6 +301,7 @@ fn ask_typed(t: &[u8], w: &[u64; 256], v: &[u8], filter: &[u8], budget: usize) -
     requires worded { ⌜ Worded (now t) (now w) ⌝ }
     requires admitted { ⌜ admitted tableLimits (now t) ≡ true ⌝ }
     requires short { ⌜ length (now v) ≤ 65536 ⌝ }
+    requires brief { ⌜ length (now filter) ≤ 2048 ⌝ }
     ensures { λ a. ⌜ answer.report a
         ≡ answer.withFilter knownRules (typeAt (now (t .entry)) 0) (now (v .entry)) budget (parse filterLimits (now (filter .entry))) ⌝ }
 {
@@ -313,6 +314,7 @@ fn ask_typed(t: &[u8], w: &[u64; 256], v: &[u8], filter: &[u8], budget: usize) -
 // The answer where sizes and budget are within limits.
 fn ask_admitted(table: &[u8], value: &[u8], filter: &[u8], budget: usize) -> Answer
     requires short { ⌜ length (now value) ≤ 65536 ⌝ }
+    requires brief { ⌜ length (now filter) ≤ 2048 ⌝ }
     ensures { λ a. ⌜ answer.report a ≡ answer.questionOf limits knownRules (now (table .entry)) (now (value .entry)) (now (filter .entry)) budget ⌝ }
 {
     let mut w = [0u64; 256];

@@ -5,49 +5,61 @@ use mathlib.Core.Option.{Option, some}
 use mathlib.Core.List.{List, [], _∷_, _++_}
 use Prim.Native.Nat.{ℕ, _≤_, _+_, _-_}
 use native.Mathlib.Omega.{arith}
-use borrow.Author.Tests.{le-leb}
 use lib.ListN.{length, length-take, drop}
 use lib.Dec.{leb, eqb}
-use Rattle.octets.specs.Pick.{pick, both, bind}
+use Rattle.octets.specs.Pick.{pick, bind}
 use Rattle.octets.specs.Octets.{part, same}
 use Rattle.octets.proofs.Laws.{rest-length}
+use Rattle.der.specs.Tag.{wrapperOctet}
+use Rattle.der.proofs.Laws.{inside-within}
 use Rattle.types.specs.Types.{Tagging, Presence, mandatory, optional, default, Member, Ty, sequence, choice, listOf, Members}
 use Rattle.value.specs.Value.{Spot, spotAt, spotOf, Value, fields, elements, Fields, Values}
 use Rattle.value.specs.Decode.{storedValue}
 use Rattle.value.proofs.Views.{none-some, some-same, bind-view}
-use Rattle.value.proofs.Decodes.{Decodes, is-basic, is-sequence, is-choice, is-list, Tagged, bare, filling}
+use Rattle.value.proofs.Decodes.{Behind, Decodes, is-basic, is-sequence, is-choice, is-list, Tagged, bare, filling}
 use Rattle.value.proofs.Decodes.{Fielded, none-left, there, lacks, Chosen, this, other, Elements, ends, goes, decodes-stored}
 use Rattle.reference.specs.Reference.{position, fromEnd, count, all, Id, name, index}
 use Rattle.reference.specs.Allowed.{Target, ofType, ofCount, memberType, under, allowedFrom, allowed}
 use Rattle.reference.specs.Named.{Held, value, defaultValue, countValue, absentNames, memberNamed, size, each, elementAt, step, replaced, held, named}
-use Rattle.reference.specs.Numbers.{component, contentsOf}
-use Rattle.rules.specs.Rule.{Syntax, booleans, integers, objectIdentifiers, octetStrings, bitStrings, strings, times, Rule, present, equal, less}
-use Rattle.rules.specs.Suits.{suits, suitsTarget}
+use Rattle.reference.specs.Numbers.{Component, component, contentsOf}
+use Rattle.rules.specs.Rule.{Rule}
+use Rattle.rules.specs.Suits.{suits}
 use Rattle.rules.specs.Accepts.{acceptsContents, accepts}
-use Rattle.rules.specs.inner.Answers.{conformsTo, conforms, said, isRead, isReadBy, acceptsContentsRead}
-use Rattle.rules.proofs.Laws.{read-basic, read-choice, read-count}
+use Rattle.rules.specs.inner.Answers.{conforms, said}
+use Rattle.plan.specs.inner.Test.{accepted, testFor}
+use Rattle.plan.specs.inner.Operand.{operandOf}
 use Rattle.plan.specs.inner.Task as task
 use Rattle.plan.specs.inner.Task.{passesContents, passesCount, passes}
+use Rattle.plan.proofs.Accepting.{basic-passes, choice-passes, sequence-passes, list-passes, count-passes}
 use Rattle.evaluation.specs.Truth.{TRUE}
 use Rattle.evaluation.specs.Reading.{Outcome, settled}
 use Rattle.evaluation.specs.Assertion.{testing}
-use Rattle.evaluation.proofs.Typed.{same-is, Fresh, Fine, FineIn}
+use Rattle.evaluation.proofs.Typed.{same-is, Defaulted, DefaultFine, Fresh, Fine, FineIn}
 
 -- a value of a type is decoded somewhere among the octets
-abbrev Is : Ty → List ℕ → Value → Type 0
-Is ty v x = (g : Tagging) × (at : ℕ) × (end : ℕ) × (after : ℕ) × Decodes v ty g at end x after
+pub record Is (ty : Ty) (v : List ℕ) (x : Value) : Type 0 where
+  pub tagging : Tagging
+  pub at : ℕ
+  pub end : ℕ
+  pub after : ℕ
+  pub decodes : Decodes v ty tagging at end x after
+  pub inside : end ≤ length v
 
-tagged-is : {ty : Ty} {g : Tagging} {v : List ℕ} {at end : ℕ} {x : Value} {after : ℕ} → Tagged v ty g at end x after → Is ty v x
-tagged-is (bare q d) = (_, _, _, _, d)
-tagged-is (filling e d q) = (_, _, _, _, d)
+decoded-is : {ty : Ty} {g : Tagging} {v : List ℕ} {at end : ℕ} {x : Value} {after : ℕ} → Decodes v ty g at end x after → end ≤ length v → Is ty v x
+decoded-is {g = g} {at = at} {end = end} {after = after} d l = record { tagging = g; at = at; end = end; after = after; decodes = d; inside = l }
+
+tagged-is : {ty : Ty} {g : Tagging} {v : List ℕ} {at end : ℕ} {x : Value} {after : ℕ} → Tagged v ty g at end x after → end ≤ length v → Is ty v x
+tagged-is (bare q d) l = decoded-is d l
+tagged-is {v = v} {at = at} {end = end} (filling {k = k} {start = start} {n = n} e d q) l = decoded-is d (omega (arith, inside-within (wrapperOctet k) v at end start n e))
 
 -- a held value fits a target
 unfoldable pub Fits : List ℕ → Held → Target → Type 0
 Fits v (value x) (ofType ty) = Is ty v x × Fine ty
 Fits v (value x) ofCount = ⊥
-Fits v (defaultValue p m) g = length (contentsOf (m .presence)) ≤ 8
+Fits v (defaultValue p m) (ofType ty) = Defaulted ty (contentsOf (m .presence))
+Fits v (defaultValue p m) ofCount = ⊥
 Fits v (countValue p n) (ofType ty) = ⊥
-Fits v (countValue p n) ofCount = Unit {0}
+Fits v (countValue p n) ofCount = n ≤ length v
 
 unfoldable pub AllFit : List ℕ → Target → List Held → Type 0
 AllFit v g [] = Unit {0}
@@ -66,45 +78,46 @@ one-fits : (v : List ℕ) (g : Target) (ty : Ty) (y : Value) → some (ofType ty
 unfolding AllFit Fits
 one-fits v g ty y e s f = subst (λ (k : Target). AllFit v k (value y ∷ [])) (some-same (ofType ty) g e) ((s, f), tt)
 
-missing-fits : (v : List ℕ) (g : Target) (place : ℕ) (m : Member) → length (contentsOf (m .presence)) ≤ 8 → AllFit v g (defaultValue place m ∷ [])
+missing-fits : (v : List ℕ) (g : Target) (ty : Ty) (place : ℕ) (m : Member) → some (ofType ty) ≡ some g → Defaulted ty (contentsOf (m .presence)) → AllFit v g (defaultValue place m ∷ [])
 unfolding AllFit Fits
-missing-fits v g place m h = (h, tt)
+missing-fits v g ty place m e h = subst (λ (k : Target). AllFit v k (defaultValue place m ∷ [])) (some-same (ofType ty) g e) (h, tt)
 
-count-fits : (v : List ℕ) (g : Target) (place n : ℕ) → some ofCount ≡ some g → AllFit v g (countValue place n ∷ [])
+count-fits : (v : List ℕ) (g : Target) (place n : ℕ) → some ofCount ≡ some g → n ≤ length v → AllFit v g (countValue place n ∷ [])
 unfolding AllFit Fits
-count-fits v g place n e = subst (λ (k : Target). AllFit v k (countValue place n ∷ [])) (some-same ofCount g e) (tt, tt)
+count-fits v g place n e h = subst (λ (k : Target). AllFit v k (countValue place n ∷ [])) (some-same ofCount g e) (h, tt)
 
 -- ---- members of a SEQUENCE
 abbrev typeNamed : List ℕ → Members → Option Target
 typeNamed x ms = bind (memberType x ms) (λ ty. some (ofType ty))
 
-absent-fit : (v : List ℕ) (g : Target) (defaults : Bool) (place : ℕ) (m : Member) → length (contentsOf (m .presence)) ≤ 8 → (pr : Presence) → AllFit v g (absentNames defaults place m pr)
-absent-fit v g defaults place m h mandatory = none-fit v g
-absent-fit v g defaults place m h optional = none-fit v g
-absent-fit v g defaults place m h (default c) = go defaults
+absent-fit : (v : List ℕ) (g : Target) (ty : Ty) (defaults : Bool) (place : ℕ) (m : Member) → some (ofType ty) ≡ some g → (pr : Presence) → m .presence ≡ pr → DefaultFine ty pr
+    → AllFit v g (absentNames defaults place m pr)
+absent-fit v g ty defaults place m e mandatory q h = none-fit v g
+absent-fit v g ty defaults place m e optional q h = none-fit v g
+absent-fit v g ty defaults place m e (default c) q h = go defaults
   where
     go : (b : Bool) → AllFit v g (pick b (defaultValue place m ∷ []) [])
-    go true = missing-fits v g place m h
+    go true = missing-fits v g ty place m e (subst (λ (y : Presence). Defaulted ty (contentsOf y)) (sym q) h)
     go false = none-fit v g
 
 module _ (defaults : Bool) (place : ℕ) (x v : List ℕ) (g : Target) where
-  member-fits : {stop : ℕ} {ms : Members} {i : ℕ} {fs : Fields} → Fielded v stop ms i fs → FineIn ms → typeNamed x ms ≡ some g
+  member-fits : {stop : ℕ} {ms : Members} {i : ℕ} {fs : Fields} → Fielded v stop ms i fs → stop ≤ length v → FineIn ms → typeNamed x ms ≡ some g
       → AllFit v g (memberNamed defaults place x fs)
   unfolding memberNamed memberType Fine
-  member-fits (none-left q) w e = none-some g e
-  member-fits (there {m = m} {ty = ty} {ms = ms} {x = y} {fs = fs} q t d rest) w e = go (same (m .name) x) (λ h. member-fits rest (w .1 .1 .1) h) e
+  member-fits (none-left q) l w e = none-some g e
+  member-fits (there {m = m} {ty = ty} {ms = ms} {x = y} {fs = fs} q t d rest) l w e = go (same (m .name) x) (λ h. member-fits rest l (w .1 .1 .1) h) e
     where
       go : (b : Bool) → (typeNamed x ms ≡ some g → AllFit v g (memberNamed defaults place x fs))
           → bind (pick b (some ty) (memberType x ms)) (λ ty. some (ofType ty)) ≡ some g
           → AllFit v g (pick b (value y ∷ []) (memberNamed defaults place x fs))
-      go true f h = one-fits v g ty y h (tagged-is t) (w .1 .1 .0)
+      go true f h = one-fits v g ty y h (tagged-is t l) (w .1 .1 .0)
       go false f h = f h
-  member-fits (lacks {m = m} {ty = ty} {ms = ms} {fs = fs} q d rest) w e = go (same (m .name) x) (λ h. member-fits rest (w .1 .1 .1) h) e
+  member-fits (lacks {m = m} {ty = ty} {ms = ms} {fs = fs} q d rest) l w e = go (same (m .name) x) (λ h. member-fits rest l (w .1 .1 .1) h) e
     where
       go : (b : Bool) → (typeNamed x ms ≡ some g → AllFit v g (memberNamed defaults place x fs))
           → bind (pick b (some ty) (memberType x ms)) (λ ty. some (ofType ty)) ≡ some g
           → AllFit v g (pick b (absentNames defaults place m (m .presence)) (memberNamed defaults place x fs))
-      go true f h = absent-fit v g defaults place m (w .0) (m .presence)
+      go true f h = absent-fit v g ty defaults place m h (m .presence) refl (w .0)
       go false f h = f h
 
 -- ---- the alternative of a CHOICE
@@ -115,15 +128,15 @@ module _ (defaults : Bool) (x v : List ℕ) where
   not-named (this {x = y} q t b) w = ap (λ (b : Bool). pick b (value y ∷ []) []) (w .0)
   not-named (other q c) w = not-named c (w .1)
 
-  choice-fits : (g : Target) {end at : ℕ} {ms : Members} {y : Value} {after : ℕ} → Chosen v end at ms y after → FineIn ms → typeNamed x ms ≡ some g
+  choice-fits : (g : Target) {end at : ℕ} {ms : Members} {y : Value} {after : ℕ} → Chosen v end at ms y after → end ≤ length v → FineIn ms → typeNamed x ms ≡ some g
       → AllFit v g (step defaults (name x) (value y))
   unfolding Fine memberType step
-  choice-fits g (this {m = m} {ty = ty} {ms = ms} {x = y} q t b) w h = go (same (m .name) x) h
+  choice-fits g (this {m = m} {ty = ty} {ms = ms} {x = y} q t b) l w h = go (same (m .name) x) h
     where
       go : (b : Bool) → bind (pick b (some ty) (memberType x ms)) (λ ty. some (ofType ty)) ≡ some g → AllFit v g (pick b (value y ∷ []) [])
-      go true k = one-fits v g ty y k (tagged-is t) (w .1 .1 .0)
+      go true k = one-fits v g ty y k (tagged-is t l) (w .1 .1 .0)
       go false k = none-fit v g
-  choice-fits g (other {m = m} {ty = ty} {ms = ms} {x = y} q c) w h = go (same (m .name) x) refl h (λ k. choice-fits g c (w .1 .1 .1) k)
+  choice-fits g (other {m = m} {ty = ty} {ms = ms} {x = y} q c) l w h = go (same (m .name) x) refl h (λ k. choice-fits g c l (w .1 .1 .1) k)
     where
       go : (b : Bool) → same (m .name) x ≡ b → bind (pick b (some ty) (memberType x ms)) (λ ty. some (ofType ty)) ≡ some g
           → (typeNamed x ms ≡ some g → AllFit v g (step defaults (name x) (value y))) → AllFit v g (step defaults (name x) (value y))
@@ -132,68 +145,79 @@ module _ (defaults : Bool) (x v : List ℕ) where
 
 -- ---- the elements of a list
 module _ (v : List ℕ) (g : Target) where
-  each-fit : {ty : Ty} {stop k i : ℕ} {xs : Values} → Elements v ty stop k i xs → some (ofType ty) ≡ some g → Fine ty → AllFit v g (each xs)
+  each-fit : {ty : Ty} {stop k i : ℕ} {xs : Values} → Elements v ty stop k i xs → stop ≤ length v → some (ofType ty) ≡ some g → Fine ty → AllFit v g (each xs)
   unfolding each
-  each-fit (ends h) e fine = none-fit v g
-  each-fit (goes {ty = ty} {x = x} {xs = xs} h d rest) e fine =
-      append-fit v g (value x ∷ []) (each xs) (one-fits v g ty x e (_, _, _, _, d) fine) (each-fit rest e fine)
+  each-fit (ends h) l e fine = none-fit v g
+  each-fit (goes {ty = ty} {x = x} {xs = xs} h d rest) l e fine =
+      append-fit v g (value x ∷ []) (each xs) (one-fits v g ty x e (decoded-is d l) fine) (each-fit rest l e fine)
 
-  element-fits : (n : ℕ) {ty : Ty} {stop k i : ℕ} {xs : Values} → Elements v ty stop k i xs → some (ofType ty) ≡ some g → Fine ty → AllFit v g (elementAt n xs)
+  element-fits : (n : ℕ) {ty : Ty} {stop k i : ℕ} {xs : Values} → Elements v ty stop k i xs → stop ≤ length v → some (ofType ty) ≡ some g → Fine ty → AllFit v g (elementAt n xs)
   unfolding elementAt
-  element-fits n (ends h) e fine = none-fit v g
-  element-fits n (goes {ty = ty} {x = x} {xs = xs} h d rest) e fine = go (eqb n 1) (element-fits (n - 1) rest e fine)
+  element-fits n (ends h) l e fine = none-fit v g
+  element-fits n (goes {ty = ty} {x = x} {xs = xs} h d rest) l e fine = go (eqb n 1) (element-fits (n - 1) rest l e fine)
     where
       go : (b : Bool) → AllFit v g (elementAt (n - 1) xs) → AllFit v g (pick b (value x ∷ []) (elementAt (n - 1) xs))
-      go true f = one-fits v g ty x e (_, _, _, _, d) fine
+      go true f = one-fits v g ty x e (decoded-is d l) fine
       go false f = f
 
-  from-end-fits : (n : ℕ) {ty : Ty} {stop k i : ℕ} {xs : Values} → Elements v ty stop k i xs → some (ofType ty) ≡ some g → Fine ty
+  from-end-fits : (n : ℕ) {ty : Ty} {stop k i : ℕ} {xs : Values} → Elements v ty stop k i xs → stop ≤ length v → some (ofType ty) ≡ some g → Fine ty
       → AllFit v g (pick (leb n (size xs)) (elementAt (size xs + 1 - n) xs) [])
-  from-end-fits n {xs = xs} es e fine = go (leb n (size xs))
+  from-end-fits n {xs = xs} es l e fine = go (leb n (size xs))
     where
       go : (b : Bool) → AllFit v g (pick b (elementAt (size xs + 1 - n) xs) [])
-      go true = element-fits (size xs + 1 - n) es e fine
+      go true = element-fits (size xs + 1 - n) es l e fine
       go false = none-fit v g
+
+  elements-few : {ty : Ty} {stop k i : ℕ} {xs : Values} → Elements v ty stop k i xs → size xs ≤ k
+  unfolding size
+  elements-few (ends h) = omega arith
+  elements-few (goes {xs = xs} h d rest) = omega (arith, elements-few rest)
 
 -- ---- what one identifier names in a value
 module _ (defaults : Bool) (v : List ℕ) (g : Target) where
-  fields-fit : (i : Id) (s : Spot) {stop : ℕ} {ms : Members} {from : ℕ} {fs : Fields} → Fielded v stop ms from fs → FineIn ms
+  behind-within : {octet at end start n after : ℕ} {s : Spot} → Behind v octet at end start n s after → end ≤ length v → after ≤ length v
+  behind-within {octet = octet} {at = at} {end = end} {start = start} {n = n} b l = omega (arith, inside-within octet v at end start n (b .header), b .ends)
+
+  behind-short : {octet at end start n after : ℕ} {s : Spot} → Behind v octet at end start n s after → end ≤ length v → n ≤ length v
+  behind-short {octet = octet} {at = at} {end = end} {start = start} {n = n} b l = omega (arith, inside-within octet v at end start n (b .header))
+
+  fields-fit : (i : Id) (s : Spot) {stop : ℕ} {ms : Members} {from : ℕ} {fs : Fields} → Fielded v stop ms from fs → stop ≤ length v → FineIn ms
       → under i (ofType (sequence ms)) ≡ some g → AllFit v g (step defaults i (value (fields s fs)))
   unfolding step under
-  fields-fit (name x) s w f e = member-fits defaults (s .place) x v g w f e
-  fields-fit (index j) s w f e = none-some g e
+  fields-fit (name x) s w l f e = member-fits defaults (s .place) x v g w l f e
+  fields-fit (index j) s w l f e = none-some g e
 
-  alternative-fits : (i : Id) {end at : ℕ} {ms : Members} {x : Value} {after : ℕ} → Chosen v end at ms x after → FineIn ms
+  alternative-fits : (i : Id) {end at : ℕ} {ms : Members} {x : Value} {after : ℕ} → Chosen v end at ms x after → end ≤ length v → FineIn ms
       → under i (ofType (choice ms)) ≡ some g → AllFit v g (step defaults i (value x))
   unfolding under
-  alternative-fits (name x) c f e = choice-fits defaults x v g c f e
-  alternative-fits (index j) c f e = none-some g e
+  alternative-fits (name x) c l f e = choice-fits defaults x v g c l f e
+  alternative-fits (index j) c l f e = none-some g e
 
-  elements-fit : (i : Id) (k : ℕ) (s : Spot) {ty : Ty} {stop n from : ℕ} {xs : Values} → Elements v ty stop n from xs → Fine ty
+  elements-fit : (i : Id) (k : ℕ) (s : Spot) {ty : Ty} {stop n from : ℕ} {xs : Values} → Elements v ty stop n from xs → stop ≤ length v → n ≤ length v → Fine ty
       → under i (ofType (listOf k ty)) ≡ some g → AllFit v g (step defaults i (value (elements s xs)))
   unfolding step under
-  elements-fit (name x) k s w f e = none-some g e
-  elements-fit (index (position p)) k s w f e = element-fits v g p w e f
-  elements-fit (index (fromEnd p)) k s w f e = from-end-fits v g p w e f
-  elements-fit (index count) k s {xs = xs} w f e = count-fits v g (s .place) (size xs) e
-  elements-fit (index all) k s w f e = each-fit v g w e f
+  elements-fit (name x) k s w l m f e = none-some g e
+  elements-fit (index (position p)) k s w l m f e = element-fits v g p w l e f
+  elements-fit (index (fromEnd p)) k s w l m f e = from-end-fits v g p w l e f
+  elements-fit (index count) k s {xs = xs} w l m f e = count-fits v g (s .place) (size xs) e (omega (arith, elements-few v g w))
+  elements-fit (index all) k s w l m f e = each-fit v g w l e f
 
-  step-fits : (i : Id) {ty : Ty} {t : Tagging} {at end : ℕ} {x : Value} {after : ℕ} → Decodes v ty t at end x after → Fine ty
+  step-fits : (i : Id) {ty : Ty} {t : Tagging} {at end : ℕ} {x : Value} {after : ℕ} → Decodes v ty t at end x after → end ≤ length v → Fine ty
       → under i (ofType ty) ≡ some g → AllFit v g (step defaults i (value x))
   unfolding under Fine
-  step-fits i (is-basic b l) f e = none-some g e
-  step-fits i (is-sequence {s = s} b w) f e = fields-fit i s w f e
-  step-fits i (is-choice c) f e = alternative-fits i c f e
-  step-fits i (is-list {k = k} {s = s} b w r) f e = elements-fit i k s w f e
+  step-fits i (is-basic b h) l f e = none-some g e
+  step-fits i (is-sequence {s = s} b w) l f e = fields-fit i s w (behind-within b l) f e
+  step-fits i (is-choice c) l f e = alternative-fits i c l f e
+  step-fits i (is-list {k = k} {s = s} b w r) l f e = elements-fit i k s w (behind-within b l) (behind-short b l) f e
 
 -- ---- along the identifiers
 module _ (defaults : Bool) (v : List ℕ) where
   held-step : (i : Id) (g k : Target) (h : Held) → Fits v h g → under i g ≡ some k → AllFit v k (step defaults i h)
   unfolding Fits step
-  held-step i (ofType ty) k (value x) w e = step-fits defaults v k i (w .0 .4) (w .1) e
+  held-step i (ofType ty) k (value x) w e = step-fits defaults v k i (w .0 .decodes) (w .0 .inside) (w .1) e
   held-step i ofCount k (value x) w e = absurd w
   held-step i (ofType ty) k (defaultValue p m) w e = none-fit v k
-  held-step i ofCount k (defaultValue p m) w e = none-fit v k
+  held-step i ofCount k (defaultValue p m) w e = absurd w
   held-step i (ofType ty) k (countValue p n) w e = absurd w
   held-step i ofCount k (countValue p n) w e = none-fit v k
 
@@ -210,68 +234,43 @@ module _ (defaults : Bool) (v : List ℕ) where
   -- what is named fits what the reference leads to
   pub named-fit : (is : List Id) (ty : Ty) (k : Target) (x : Value) → Fine ty → storedValue ty v ≡ some x → allowed is ty ≡ some k → AllFit v k (named defaults is x)
   unfolding allowed named
-  named-fit is ty k x f e h = held-fit is (ofType ty) k (value x ∷ []) (one-fits v (ofType ty) ty x refl (_, _, _, _, decodes-stored ty v x e) f) h
+  named-fit is ty k x f e h = held-fit is (ofType ty) k (value x ∷ []) (one-fits v (ofType ty) ty x refl (decoded-is (decodes-stored ty v x e) (omega arith)) f) h
 
--- ---- what the rule reads
-module _ (t : List ℕ) where
-  -- contents of at most 8 octets
-  syntax-short : (x : Syntax) (c : List ℕ) → conformsTo x t ≡ true → length c ≤ 8 → isRead x t c ≡ true
-  unfolding isRead conformsTo
-  syntax-short booleans c h n = h
-  syntax-short integers c h n = le-leb (length c) 8 n
-  syntax-short objectIdentifiers c h n = refl
-  syntax-short octetStrings c h n = refl
-  syntax-short bitStrings c h n = le-leb (length c) 65536 (omega arith)
-  syntax-short (strings fold) c h n = refl
-  syntax-short times c h n = h
+-- ---- a plan's test accepts what the rule accepts
+module _ (t : List ℕ) (r : Rule) (budget : ℕ) (v : List ℕ) (short : length v ≤ 65536) (asserted : conforms r t ≡ true) where
+  abbrev tests : Component → Bool
+  tests c = passes (task.testing (testFor r (operandOf r t)) budget) (operandOf r t) c
 
-  read-short : (r : Rule) (c : List ℕ) → conforms r t ≡ true → length c ≤ 8 → isReadBy r t c ≡ true
-  unfolding isReadBy conforms
-  read-short present c h n = refl
-  read-short (equal x) c h n = syntax-short x c h n
-  read-short (less x) c h n = syntax-short x c h n
+  part-short : (start n : ℕ) → length (part v start n) ≤ 65536
+  part-short start n = omega (arith, length-take n (drop start v), rest-length v start)
 
-  -- presentMatch alone is for a SEQUENCE and for a list
-  read-sequence : (r : Rule) (ms : Members) (c : List ℕ) → suits r (ofType (sequence ms)) ≡ true → isReadBy r t c ≡ true
-  unfolding isReadBy suits suitsTarget
-  read-sequence present ms c h = refl
-  read-sequence (equal x) ms c h = absurd (false≢true h)
-  read-sequence (less x) ms c h = absurd (false≢true h)
+  value-passes : {ty : Ty} {g : Tagging} {at end : ℕ} {x : Value} {after : ℕ} → Decodes v ty g at end x after → suits r (ofType ty) ≡ true
+      → accepted (testFor r (operandOf r t)) (operandOf r t) (spotOf x .contents) ≡ acceptsContents r (said r t) (spotOf x .contents)
+  unfolding spotAt
+  value-passes (is-basic {k = k} {start = start} {n = n} b l) h =
+      subst (λ (s : Spot). accepted (testFor r (operandOf r t)) (operandOf r t) (s .contents) ≡ acceptsContents r (said r t) (s .contents)) (b .spot) (basic-passes t (part v start n) r k h asserted l (part-short start n))
+  value-passes (is-sequence {ms = ms} {s = s} b w) h = sequence-passes t (s .contents) r ms h
+  value-passes (is-choice {ms = ms} {x = x} c) h = choice-passes t (spotOf x .contents) r ms h
+  value-passes (is-list {k = k} {ty = ty} {s = s} b w q) h = list-passes t (s .contents) r k ty h
 
-  read-list : (r : Rule) (k : ℕ) (ty : Ty) (c : List ℕ) → suits r (ofType (listOf k ty)) ≡ true → isReadBy r t c ≡ true
-  unfolding isReadBy suits suitsTarget
-  read-list present k ty c h = refl
-  read-list (equal x) k ty c h = absurd (false≢true h)
-  read-list (less x) k ty c h = absurd (false≢true h)
+  default-passes : (ty : Ty) (c : List ℕ) → Defaulted ty c → suits r (ofType ty) ≡ true → accepted (testFor r (operandOf r t)) (operandOf r t) c ≡ acceptsContents r (said r t) c
+  default-passes ty c d h = basic-passes t c r (d .kind) (subst (λ (y : Ty). suits r (ofType y) ≡ true) (d .is-basic) h) asserted (d .legal) (omega (arith, d .short))
 
-  module _ (r : Rule) (budget : ℕ) (v : List ℕ) (short : length v ≤ 65536) (asserted : conforms r t ≡ true) where
-    part-short : (start n : ℕ) → length (part v start n) ≤ 65536
-    part-short start n = omega (arith, length-take n (drop start v), rest-length v start)
+  held-passes : (g : Target) (h : Held) → suits r g ≡ true → Fits v h g → tests (component h) ≡ accepts r (said r t) h
+  unfolding Fits passes passesContents passesCount accepts
+  held-passes (ofType ty) (value x) e w = value-passes (w .0 .decodes) e
+  held-passes ofCount (value x) e w = absurd w
+  held-passes (ofType ty) (defaultValue p m) e w = default-passes ty (contentsOf (m .presence)) w e
+  held-passes ofCount (defaultValue p m) e w = absurd w
+  held-passes (ofType ty) (countValue p n) e w = absurd w
+  held-passes ofCount (countValue p n) e w = count-passes t n (omega (arith, short, w)) r e asserted
 
-    read-value : {ty : Ty} {g : Tagging} {at end : ℕ} {x : Value} {after : ℕ} → Decodes v ty g at end x after → suits r (ofType ty) ≡ true
-        → isReadBy r t (spotOf x .contents) ≡ true
-    unfolding spotAt
-    read-value (is-basic {k = k} {start = start} {n = n} b l) h =
-        subst (λ (s : Spot). isReadBy r t (s .contents) ≡ true) (b .spot) (read-basic t (part v start n) r k h asserted l (part-short start n))
-    read-value (is-sequence {ms = ms} {s = s} b w) h = read-sequence r ms (s .contents) h
-    read-value (is-choice {ms = ms} {x = x} c) h = read-choice t (spotOf x .contents) r ms h
-    read-value (is-list {k = k} {ty = ty} {s = s} b w q) h = read-list r k ty (s .contents) h
+  all-tests : (g : Target) (hs : List Held) (n : ℕ) → suits r g ≡ true → AllFit v g hs → testing (λ h. tests (component h)) n hs ≡ testing (accepts r (said r t)) n hs
+  unfolding AllFit testing
+  all-tests g [] n e w = refl
+  all-tests g (h ∷ hs) n e w = ap₂ (λ (b : Bool) (o : Outcome). pick b (settled TRUE (n + 1)) o) (held-passes g h e (w .0)) (all-tests g hs (n + 1) e (w .1))
 
-    accepted : (g : Target) (h : Held) → suits r g ≡ true → Fits v h g → passes (task.testing r budget) t (component h) ≡ accepts r (said r t) h
-    unfolding Fits passes passesContents passesCount acceptsContentsRead accepts
-    accepted (ofType ty) (value x) e w = ap (λ (b : Bool). both b (acceptsContents r (said r t) (spotOf x .contents))) (read-value (w .0 .4) e)
-    accepted ofCount (value x) e w = absurd w
-    accepted (ofType ty) (defaultValue p m) e w = ap (λ (b : Bool). both b (acceptsContents r (said r t) (contentsOf (m .presence)))) (read-short r (contentsOf (m .presence)) asserted w)
-    accepted ofCount (defaultValue p m) e w = ap (λ (b : Bool). both b (acceptsContents r (said r t) (contentsOf (m .presence)))) (read-short r (contentsOf (m .presence)) asserted w)
-    accepted (ofType ty) (countValue p n) e w = absurd w
-    accepted ofCount (countValue p n) e w = read-count t r n e
-
-    all-tests : (g : Target) (hs : List Held) (n : ℕ) → suits r g ≡ true → AllFit v g hs → testing (λ h. passes (task.testing r budget) t (component h)) n hs ≡ testing (accepts r (said r t)) n hs
-    unfolding AllFit testing
-    all-tests g [] n e w = refl
-    all-tests g (h ∷ hs) n e w = ap₂ (λ (b : Bool) (o : Outcome). pick b (settled TRUE (n + 1)) o) (accepted g h e (w .0)) (all-tests g hs (n + 1) e (w .1))
-
-    -- with a rule that is for what the reference leads to and a text that conforms
-    pub named-tests : (defaults : Bool) (is : List Id) (ty : Ty) (k : Target) (x : Value) (n : ℕ) → Fine ty → storedValue ty v ≡ some x → allowed is ty ≡ some k → suits r k ≡ true
-        → testing (λ h. passes (task.testing r budget) t (component h)) n (named defaults is x) ≡ testing (accepts r (said r t)) n (named defaults is x)
-    named-tests defaults is ty k x n f e h q = all-tests k (named defaults is x) n q (named-fit defaults v is ty k x f e h)
+  -- with a rule that is for what the reference leads to and a text that conforms
+  pub named-tests : (defaults : Bool) (is : List Id) (ty : Ty) (k : Target) (x : Value) (n : ℕ) → Fine ty → storedValue ty v ≡ some x → allowed is ty ≡ some k → suits r k ≡ true
+      → testing (λ h. tests (component h)) n (named defaults is x) ≡ testing (accepts r (said r t)) n (named defaults is x)
+  named-tests defaults is ty k x n f e h q = all-tests k (named defaults is x) n q (named-fit defaults v is ty k x f e h)

@@ -3,12 +3,15 @@ use mathlib.Core.Path.{_≡_, refl, sym, ap, _∙_, subst}
 use mathlib.Core.Bool.{Bool, true, false, not, false≢true}
 use mathlib.Core.Option.{Option, none, some}
 use mathlib.Core.List.{List}
-use Prim.Native.Nat.{ℕ, _≤_, _+_}
+use Prim.Native.Nat.{ℕ, _≤_, _+_, _-_}
 use native.Mathlib.Omega.{arith}
 use borrow.Author.Tests.{not-true, not-false, le-leb}
 use Rattle.octets.specs.Pick.{pick, both, bind, isSome}
-use Rattle.octets.specs.Quoted.{characters}
-use Rattle.octets.proofs.Laws.{never}
+use Rattle.octets.specs.Octets.{part as part-of}
+use Rattle.octets.specs.Quoted.{characters, undoubled}
+use Rattle.octets.proofs.Laws.{never, rest-length}
+use Rattle.strings.specs.Prepared.{prepared}
+use lib.ListN.{length, length-take, drop}
 use Rattle.types.specs.Types.{Ty}
 use Rattle.table.specs.inner.Rows.{typeAt}
 use Rattle.value.specs.Value.{Value}
@@ -29,6 +32,9 @@ use Rattle.rules.specs.inner.Answers.{meant, reportRule, conforms, said}
 use Rattle.rules.specs.declared.Rule.{Rule}
 use Rattle.rules.specs.declared.Named.{Named}
 use Rattle.rules.proofs.Laws.{rule-for-none, rule-for-is}
+use Rattle.plan.specs.inner.Test.{testFor}
+use Rattle.plan.specs.inner.Operand.{operandOf, Part, stands}
+use Rattle.plan.proofs.Accepting.{operand-stands, operand-squeezed}
 use Rattle.plan.specs.inner.Task as task
 use Rattle.plan.specs.inner.Task.{Task, taskOf, passes}
 use Rattle.plan.specs.inner.Resolve.{Lands, Resolves}
@@ -177,7 +183,7 @@ module _ (t f : List ℕ) (p : Parts) (r : Rule) (g : Target) (leads : targetOf 
   conforming-unsuited v budget n within known q =
       undefined-then (typeAt t 0) (itemOf f p) v budget n within (unsuited (typeAt t 0) (itemOf f p) (meant r) known (suited-by false (not-true a q)))
 
-  module _ (w v : List ℕ) (ready : Ready t w v) (q x : List ℕ) (planned : PlannedFor t q x (p .defaults) (componentOf f (p .component)) g) (on : not a ≡ false) where
+  module _ (w v : List ℕ) (ready : Ready t w v f) (q x : List ℕ) (planned : PlannedFor t q x (p .defaults) (componentOf f (p .component)) g) (on : not a ≡ false) where
     pub there : Led (meant r) (componentOf f (p .component)) (typeAt t 0)
     there = led (meant r) (componentOf f (p .component)) (typeAt t 0) (suited-by true (not-false a on))
 
@@ -195,32 +201,51 @@ module _ (t f : List ℕ) (p : Parts) (r : Rule) (g : Target) (leads : targetOf 
           stored = value .1;
         }
 
-    module _ (budget n : ℕ) (within : n ≤ budget) (known : ruleOf knownRules (itemOf f p .rule) ≡ some (meant r)) (text : x ≡ itemOf f p .value) (conforming : conforms (meant r) x ≡ true) where
-      asked-there : asked knownRules (typeAt t 0) (itemOf f p) ≡ some (record { ids = there .0; rule = meant r; asserted = said (meant r) x })
+    module _ (budget n : ℕ) (within : n ≤ budget) (known : ruleOf knownRules (itemOf f p .rule) ≡ some (meant r)) (conforming : conforms (meant r) (itemOf f p .value) ≡ true) (operand : x ≡ operandOf (meant r) (itemOf f p .value)) where
+      asked-there : asked knownRules (typeAt t 0) (itemOf f p) ≡ some (record { ids = there .0; rule = meant r; asserted = said (meant r) (itemOf f p .value) })
       asked-there =
           asked-by (typeAt t 0) (itemOf f p)
-          ∙ rw (there .1, there .3, by-rule (typeAt t 0) (itemOf f p) (meant r) known (there .2) true true (there .4) (ap (conforms (meant r)) (sym text) ∙ conforming), sym text)
+          ∙ rw (there .1, there .3, by-rule (typeAt t 0) (itemOf f p) (meant r) known (there .2) true true (there .4) conforming)
 
-      outcome-there : testing (λ h. passes (task.testing (meant r) budget) x (component h)) 0 (named (p .defaults) (there .0) (value .0)) ≡ storedOutcome (typeAt t 0) v (itemOf f p)
-      unfolding storedOutcome outcome
+      test : Task
+      test = task.testing (testFor (meant r) x) budget
+
+      outcome-there : testing (λ h. passes test x (component h)) 0 (named (p .defaults) (there .0) (value .0)) ≡ storedOutcome (typeAt t 0) v (itemOf f p)
+      unfolding storedOutcome outcome test
       outcome-there =
-          named-tests x (meant r) budget v (ready .short) conforming (p .defaults) (there .0) (typeAt t 0) (there .2) (value .0) 0 (fine-first t w (ready .worded) (ready .admits)) (value .1) (there .3) (there .4)
+          ap (λ (y : List ℕ). testing (λ h. passes (task.testing (testFor (meant r) y) budget) y (component h)) 0 (named (p .defaults) (there .0) (value .0))) operand
+          ∙ named-tests (itemOf f p .value) (meant r) budget v (ready .short) conforming (p .defaults) (there .0) (typeAt t 0) (there .2) (value .0) 0 (fine-first t w (ready .worded) (ready .admits)) (value .1) (there .3) (there .4)
           ∙ ap (outcomeOf (value .0) (itemOf f p)) (sym asked-there)
           ∙ ap (λ (o : Option Value). outcomeFor (typeAt t 0) o (itemOf f p)) (sym (value .1))
 
-      pub conforming-tested : (first : List ℕ) (s : State) (j : Judged) → taskOf first ≡ task.testing (meant r) budget → taskOf q ≡ taskOf first → Tests t q x v n s → j ≡ ended s
+      pub conforming-tested : (first : List ℕ) (s : State) (j : Judged) → taskOf first ≡ task.testing (testFor (meant r) x) budget → taskOf q ≡ taskOf first → Tests t q x v n s → j ≡ ended s
           → j ≡ charged budget n (storedOutcome (typeAt t 0) v (itemOf f p))
-      unfolding Tests conforming-asks ranTo
+      unfolding Tests conforming-asks ranTo test
       conforming-tested first s j a b told e =
-          let task-is : taskOf q ≡ task.testing (meant r) budget = b ∙ a in
+          let task-is : taskOf q ≡ test = b ∙ a in
           let z : s ≡ ranTo (taskOf q) x n (named (p .defaults) (there .0) (value .0)) = told conforming-asks (λ l. not-listing (sym task-is ∙ l)) in
           e
           ∙ ap ended (z ∙ ap (λ (y : Task). ranTo y x n (named (p .defaults) (there .0) (value .0))) task-is)
-          ∙ tested-ends budget n (passes (task.testing (meant r) budget) x) (named (p .defaults) (there .0) (value .0)) within
+          ∙ tested-ends budget n (passes test x) (named (p .defaults) (there .0) (value .0)) within
           ∙ ap (charged budget n) outcome-there
         where
-          not-listing : task.testing (meant r) budget ≡ task.listing → ⊥
+          not-listing : test ≡ task.listing → ⊥
           not-listing l = absurd (let y : _≡_ {A = ℕ} 0 1 = cc in omega arith)
+
+-- ---- the operand
+module _ (f : List ℕ) (p : Parts) (r : Rule) (text part : List ℕ) (value : text ≡ itemOf f p .value) where
+  pub value-conforms : conforms (meant r) text ≡ true → conforms (meant r) (itemOf f p .value) ≡ true
+  value-conforms e = ap (conforms (meant r)) (sym value) ∙ e
+
+  pub part-stands : (b : Bool) → conforms (meant r) text ≡ true → Part (meant r) text part → b ≡ stands (meant r) part → b ≡ true → part ≡ operandOf (meant r) (itemOf f p .value)
+  part-stands b c w e h = operand-stands text part (meant r) c w (sym e ∙ h) ∙ ap (operandOf (meant r)) value
+
+  pub part-brief : (t w v : List ℕ) → Ready t w v f → length part ≤ length text → length part ≤ 2048
+  part-brief t w v ready l = omega (arith, ready .brief, l, ap length value, length-take (p .«value_end» - p .value) (drop (p .value) f), rest-length f (p .value))
+
+  pub squeezed-stands : (b : Bool) (m x : List ℕ) (n : ℕ) → Part (meant r) text part → b ≡ stands (meant r) part → b ≡ false → part-of m 0 n ≡ prepared false (undoubled part) → x ≡ part-of m 0 n
+      → x ≡ operandOf (meant r) (itemOf f p .value)
+  squeezed-stands b m x n w e h q u = u ∙ q ∙ operand-squeezed text part (meant r) w (sym e ∙ h) ∙ ap (operandOf (meant r)) value
 
 pub ruled-conforms : (r : Rule) (text : List ℕ) (b : Bool) → b ≡ conforms (meant r) text → not b ≡ false → conforms (meant r) text ≡ true
 ruled-conforms r text b e q = sym e ∙ not-false b q

@@ -1,4 +1,4 @@
--- What a reference names in a stored value is of the type that it leads to; so a rule that is for that type reads the contents to the end.
+-- Types of an admitted table: defaults are legal contents of their types, and names differ.
 use mathlib.Core.Path.{_≡_, refl, sym, ap, ap₂, _∙_, subst}
 use mathlib.Core.Bool.{Bool, true, false, false≢true}
 use mathlib.Core.List.{List, [], _∷_}
@@ -15,16 +15,15 @@ use Rattle.der.specs.Contents.{legal, legalBoolean}
 use Rattle.der.proofs.Laws.{integer-octets, legal-boolean, legal-integer, legal-enumerated}
 use Rattle.rows.specs.Paper.{tableLimits}
 use Rattle.rows.specs.Row.{nameAt, kindAt, namedAt, presenceAt, defaultLengthAt, defaultAt, rowAt, membersAt}
-use Rattle.clauses.specs.Clauses.{memberPlace, defaultAllowed, defaultLegal}
 use Rattle.rows.proofs.KindLaws.{list-names}
-use Rattle.types.proofs.TypeCases.{typed-cases}
-use Rattle.types.specs.Types.{typed, mandatory, optional, default, Ty, basic, sequence, choice, listOf, Members, noMore, more, unfilled, presenceOf, memberOf, membersFrom, typeFrom}
+use Rattle.clauses.specs.Clauses.{memberPlace, defaultAllowed, defaultLegal}
+use Rattle.types.proofs.TypeCases.{typed-cases, typed-small}
+use Rattle.types.specs.Types.{Presence, mandatory, optional, default, Ty, basic, sequence, choice, listOf, Members, noMore, more, unfilled, presenceOf, memberOf, membersFrom, typeFrom}
 use Rattle.types.specs.Admitted.{admitted}
 use Rattle.types.specs.inner.Work.{Sound}
 use Rattle.types.proofs.NameLaws.{unfilled-differ}
 use Rattle.table.specs.inner.Rows.{tableRows, typeAt}
 use Rattle.table.specs.inner.Words.{Worded}
-use Rattle.reference.specs.Numbers.{contentsOf}
 
 -- "names in one type differ", without their fill
 pub record NamesDiffer (t s : List ℕ) : Type 0 where
@@ -69,7 +68,19 @@ default-short k c e =
     (λ h. integer-octets c (sym (legal-enumerated c) ∙ h) .1)
     (w .1)
 
--- ---- types whose defaults are short and whose names differ
+-- ---- types whose defaults are legal and whose names differ
+-- the contents of a default, which only a basic type has
+pub record Defaulted (ty : Ty) (c : List ℕ) : Type 0 where
+  pub kind : ℕ
+  pub is-basic : ty ≡ basic kind
+  pub legal : legal kind c ≡ true
+  pub short : length c ≤ 8
+
+abbrev pub DefaultFine : Ty → Presence → Type 0
+DefaultFine ty mandatory = Unit {0}
+DefaultFine ty optional = Unit {0}
+DefaultFine ty (default c) = Defaulted ty c
+
 -- none of these members has the name
 unfoldable pub Fresh : List ℕ → Members → Type 0
 Fresh x noMore = Unit {0}
@@ -84,25 +95,35 @@ unfoldable mutual
 
   pub FineIn : Members → Type 0
   FineIn noMore = Unit {0}
-  FineIn (more m ty ms) = (length (contentsOf (m .presence)) ≤ 8) × (Fresh (m .name) ms × (Fine ty × FineIn ms))
+  FineIn (more m ty ms) = DefaultFine ty (m .presence) × (Fresh (m .name) ms × (Fine ty × FineIn ms))
 
 module _ (chain : ℕ) (t s m : List ℕ) (ok : Sound chain t s m) (names : NamesDiffer t s) where
   -- the default of a member row
-  row-short : (i : ℕ) → i < length s → kindAt t (rowAt s i) ≡ 16 → length (contentsOf (memberOf t i (rowAt s i) .presence)) ≤ 8
-  unfolding memberOf presenceOf defaultLegal
-  row-short i h k = go (eqb (presenceAt t (rowAt s i)) 0) refl (eqb (presenceAt t (rowAt s i)) 1) refl
+  default-fine : (i : ℕ) → i < length s → kindAt t (rowAt s i) ≡ 16 → namedAt t (rowAt s i) < length s
+      → DefaultFine (typeFrom chain t s (namedAt t (rowAt s i))) (memberOf t i (rowAt s i) .presence)
+  unfolding memberOf presenceOf defaultLegal defaultAllowed
+  default-fine i h k there = go (eqb (presenceAt t (rowAt s i)) 0) refl (eqb (presenceAt t (rowAt s i)) 1) refl
     where
       legal-default : (a b : Bool) → eqb (presenceAt t (rowAt s i)) 2 ≡ true → either (no (eqb (kindAt t (rowAt s i)) 16)) (pick (eqb (presenceAt t (rowAt s i)) 2) a b) ≡ true → a ≡ true
       legal-default a b e f = rw (eq-eqb (kindAt t (rowAt s i)) 16 k, e) at f
 
-      allowed : eqb (presenceAt t (rowAt s i)) 2 ≡ true → length (defaultAt t (rowAt s i)) ≤ 8
+      allowed : eqb (presenceAt t (rowAt s i)) 2 ≡ true → Defaulted (typeFrom chain t s (namedAt t (rowAt s i))) (defaultAt t (rowAt s i))
       allowed e =
           let k = kindAt t (rowAt s (namedAt t (rowAt s i))) in
-          default-short k (defaultAt t (rowAt s i)) (legal-default (defaultAllowed k (defaultAt t (rowAt s i))) (eqb (defaultLengthAt t (rowAt s i)) 0) e (ok .defaults i h))
+          let w : defaultAllowed k (defaultAt t (rowAt s i)) ≡ true = legal-default (defaultAllowed k (defaultAt t (rowAt s i))) (eqb (defaultLengthAt t (rowAt s i)) 0) e (ok .defaults i h) in
+          let u = both-true (within 1 3 k) (legal k (defaultAt t (rowAt s i))) w in
+          let z = both-true (leb 1 k) (leb k 3) (u .0) in
+          record {
+            kind = k;
+            is-basic = ok .step (namedAt t (rowAt s i)) there ∙ typed-small t s (namedAt t (rowAt s i)) _ _ (omega (arith, leb-true k 3 (z .1)));
+            legal = u .1;
+            short = default-short k (defaultAt t (rowAt s i)) w;
+          }
 
-      go : (x : Bool) → eqb (presenceAt t (rowAt s i)) 0 ≡ x → (y : Bool) → eqb (presenceAt t (rowAt s i)) 1 ≡ y → length (contentsOf (pick x mandatory (pick y optional (default (defaultAt t (rowAt s i)))))) ≤ 8
-      go true e y f = omega arith
-      go false e true f = omega arith
+      go : (x : Bool) → eqb (presenceAt t (rowAt s i)) 0 ≡ x → (y : Bool) → eqb (presenceAt t (rowAt s i)) 1 ≡ y
+          → DefaultFine (typeFrom chain t s (namedAt t (rowAt s i))) (pick x mandatory (pick y optional (default (defaultAt t (rowAt s i)))))
+      go true e y f = tt
+      go false e true f = tt
       go false e false f =
           let a = eqb-false (presenceAt t (rowAt s i)) 0 e in
           let b = eqb-false (presenceAt t (rowAt s i)) 1 f in
@@ -118,21 +139,21 @@ module _ (chain : ℕ) (t s m : List ℕ) (ok : Sound chain t s m) (names : Name
     fresh-rows f x k (a + 1) (λ j d. let e : a + suc j ≡ a + 1 + j = omega arith in subst (λ (y : ℕ). same (unfilled (nameAt t (rowAt s y))) x ≡ false) e (h (suc j) (omega arith))),
   )
 
-  -- k members from row a on
-  fine-rows : (f : ℕ → Ty) → ((i : ℕ) → i < length s → Fine (f i)) → (k a : ℕ)
-      → ((j : ℕ) → j < k → (a + j < length s) × (kindAt t (rowAt s (a + j)) ≡ 16) × (namedAt t (rowAt s (a + j)) < length s))
-      → ((i j : ℕ) → i < j → j < k → same (unfilled (nameAt t (rowAt s (a + j)))) (unfilled (nameAt t (rowAt s (a + i)))) ≡ false) → FineIn (membersFrom f t s a k)
+  -- k members from row a on, behind row i
+  fine-rows : (i : ℕ) → ((j : ℕ) → i < j → j < length s → Fine (typeFrom chain t s j)) → (k a : ℕ)
+      → ((j : ℕ) → j < k → (a + j < length s) × (kindAt t (rowAt s (a + j)) ≡ 16) × (i < namedAt t (rowAt s (a + j))) × (namedAt t (rowAt s (a + j)) < length s))
+      → ((i j : ℕ) → i < j → j < k → same (unfilled (nameAt t (rowAt s (a + j)))) (unfilled (nameAt t (rowAt s (a + i)))) ≡ false) → FineIn (membersFrom (typeFrom chain t s) t s a k)
   unfolding Fine membersFrom memberOf
-  fine-rows f fine zero a rows apart = tt
-  fine-rows f fine (suc k) a rows apart =
+  fine-rows n fine zero a rows apart = tt
+  fine-rows n fine (suc k) a rows apart =
       let z : a + 0 ≡ a = omega arith in
-      let first = subst (λ (y : ℕ). (y < length s) × (kindAt t (rowAt s y) ≡ 16) × (namedAt t (rowAt s y) < length s)) z (rows 0 (omega arith)) in (
-        row-short a (first .0) (first .1),
+      let first = subst (λ (y : ℕ). (y < length s) × (kindAt t (rowAt s y) ≡ 16) × (n < namedAt t (rowAt s y)) × (namedAt t (rowAt s y) < length s)) z (rows 0 (omega arith)) in (
+        default-fine a (first .0) (first .1) (first .3),
         (
-          fresh-rows f _ k (a + 1) (λ j d. shift (λ (y : ℕ). same (unfilled (nameAt t (rowAt s y))) (unfilled (nameAt t (rowAt s a))) ≡ false) j (subst (λ (y : ℕ). same (unfilled (nameAt t (rowAt s (a + suc j)))) (unfilled (nameAt t (rowAt s y))) ≡ false) z (apart 0 (suc j) (omega arith) (omega arith)))),
+          fresh-rows (typeFrom chain t s) _ k (a + 1) (λ j d. shift (λ (y : ℕ). same (unfilled (nameAt t (rowAt s y))) (unfilled (nameAt t (rowAt s a))) ≡ false) j (subst (λ (y : ℕ). same (unfilled (nameAt t (rowAt s (a + suc j)))) (unfilled (nameAt t (rowAt s y))) ≡ false) z (apart 0 (suc j) (omega arith) (omega arith)))),
           (
-            fine (namedAt t (rowAt s a)) (first .2),
-            fine-rows f fine k (a + 1) (λ j d. shift (λ (y : ℕ). (y < length s) × (kindAt t (rowAt s y) ≡ 16) × (namedAt t (rowAt s y) < length s)) j (rows (suc j) (omega arith)))
+            fine (namedAt t (rowAt s a)) (first .2) (first .3),
+            fine-rows n fine k (a + 1) (λ j d. shift (λ (y : ℕ). (y < length s) × (kindAt t (rowAt s y) ≡ 16) × (n < namedAt t (rowAt s y)) × (namedAt t (rowAt s y) < length s)) j (rows (suc j) (omega arith)))
                 (λ i j l d. shift (λ (y : ℕ). same (unfilled (nameAt t (rowAt s y))) (unfilled (nameAt t (rowAt s (a + 1 + i)))) ≡ false) j (shift (λ (y : ℕ). same (unfilled (nameAt t (rowAt s (a + suc j)))) (unfilled (nameAt t (rowAt s y))) ≡ false) i (apart (suc i) (suc j) (omega arith) (omega arith)))),
           ),
         ),
@@ -141,23 +162,21 @@ module _ (chain : ℕ) (t s m : List ℕ) (ok : Sound chain t s m) (names : Name
       shift : (P : ℕ → Type 0) (j : ℕ) → P (a + suc j) → P (a + 1 + j)
       shift P j w = let e : a + suc j ≡ a + 1 + j = omega arith in subst P e w
 
-  -- the type of a row
-  fine-typed : (n i : ℕ) → i < length s → ((j : ℕ) → j < length s → Fine (typeFrom n t s j))
-      → Fine (typed t s i (typeFrom n t s (namedAt t (rowAt s i))) (membersFrom (typeFrom n t s) t s (i + 1) (membersAt t (rowAt s i))))
+  -- the type of a row: the rows that it names come later
+  fine-type : (n i : ℕ) → i < length s → length s ≤ i + n → Fine (typeFrom chain t s i)
   unfolding Fine
-  fine-typed n i h f =
-      typed-cases t s i (typeFrom n t s (namedAt t (rowAt s i))) (membersFrom (typeFrom n t s) t s (i + 1) (membersAt t (rowAt s i))) (λ (y : Ty). Fine y)
-      (λ _. members) (λ _. members) (λ e. f (namedAt t (rowAt s i)) (ok .later .of-row i h (list-names t (rowAt s i) e) .1)) (λ _ _ _. tt)
+  fine-type zero i h l = absurd (omega arith)
+  fine-type (suc n) i h l = subst Fine (sym (ok .step i h))
+      (typed-cases t s i (typeFrom chain t s (namedAt t (rowAt s i))) (membersFrom (typeFrom chain t s) t s (i + 1) (membersAt t (rowAt s i))) (λ (y : Ty). Fine y)
+      (λ _. members) (λ _. members) (λ e. let w = ok .later .of-row i h (list-names t (rowAt s i) e) in later (namedAt t (rowAt s i)) (w .0) (w .1)) (λ _ _ _. tt))
     where
-      members : FineIn (membersFrom (typeFrom n t s) t s (i + 1) (membersAt t (rowAt s i)))
-      members = fine-rows (typeFrom n t s) f (membersAt t (rowAt s i)) (i + 1) (λ j d. (ok .stands i h j d, ok .members i h j d, ok .later .of-member i h j d .1)) (λ a b l d. names .differ i h a b l d)
+      later : (j : ℕ) → i < j → j < length s → Fine (typeFrom chain t s j)
+      later j a d = fine-type n j d (omega arith)
 
-  pub fine-type : (n i : ℕ) → i < length s → Fine (typeFrom n t s i)
-  unfolding Fine typeFrom
-  fine-type zero i h = tt
-  fine-type (suc n) i h = fine-typed n i h (λ j d. fine-type n j d)
+      members : FineIn (membersFrom (typeFrom chain t s) t s (i + 1) (membersAt t (rowAt s i)))
+      members = fine-rows i later (membersAt t (rowAt s i)) (i + 1) (λ j d. (ok .stands i h j d, ok .members i h j d, ok .later .of-member i h j d .0, ok .later .of-member i h j d .1)) (λ a b l d. names .differ i h a b l d)
 
 -- the type of row 0 of an admitted table
 pub fine-first : (t w : List ℕ) → Worded t w → admitted tableLimits t ≡ true → Fine (typeAt t 0)
 fine-first t w ok admits =
-    fine-type (tableLimits .chain) t (tableRows t) (ok .m) (ok .ready .sound) (record { differ = unfilled-differ tableLimits t admits refl }) (tableLimits .chain) 0 (ok .ready .rooted)
+    fine-type (tableLimits .chain) t (tableRows t) (ok .m) (ok .ready .sound) (record { differ = unfilled-differ tableLimits t admits refl }) (length (tableRows t)) 0 (ok .ready .rooted) (omega arith)

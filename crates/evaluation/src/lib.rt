@@ -24,6 +24,7 @@ ghost use Rattle.reference.specs.inner.Work as reference;
 ghost use Rattle.rules.specs.Rule.{ruleOf, knownRules};
 ghost use Rattle.rules.specs.inner.Answers.{meant, conforms};
 ghost use Rattle.plan.specs.inner.Task.{taskOf};
+ghost use Rattle.plan.specs.inner.Operand.{operandOf};
 ghost use Rattle.assertion.specs.Assertion.{assertionAt};
 ghost use Rattle.assertion.specs.inner.Places.{componentOf, itemOf};
 ghost use Rattle.filter.specs.Filter.{item};
@@ -100,14 +101,14 @@ fn suits_target(rule: Rule, t: &[u8], w: &[u64; 256], target: Target) -> bool
     }
 }
 
-// Writes the steps of an assertion's reference, for the plan's test with the value text; what it leads to.
+// Writes the steps of an assertion's reference, for the plan's test with the operand; what it leads to.
 fn resolve_component(
     t: &[u8],
     w: &[u64; 256],
     q: &mut [usize; 72],
     f: &[u8],
     component: Component,
-    text: &[u8],
+    x: &[u8],
     defaults: bool,
 ) -> Target
     requires worded { ⌜ Worded (now t) (now w) ⌝ }
@@ -115,14 +116,14 @@ fn resolve_component(
     requires room { ⌜ length (now q) ≡ 72 ⌝ }
     ensures leads { λ g. ⌜ work.targetOf (now (t .entry)) g ≡ work.leadsBy (componentOf (now (f .entry)) component) (typeAt (now (t .entry)) 0) ⌝ }
     ensures within { λ g. ⌜ reference.rowWithin (tableRows (now (t .entry))) g ≡ true ⌝ }
-    ensures planned { λ g. ⌜ work.PlannedFor (now (t .entry)) (now (q .exit)) (now (text .entry)) defaults (componentOf (now (f .entry)) component) g ⌝ }
+    ensures planned { λ g. ⌜ work.PlannedFor (now (t .entry)) (now (q .exit)) (now (x .entry)) defaults (componentOf (now (f .entry)) component) g ⌝ }
     ensures task { λ g. ⌜ taskOf (now (q .exit)) ≡ taskOf (now (q .entry)) ⌝ }
 {
     match component {
-        Component::Missing => plan::resolve(t, w, q, false, f, text, defaults),
+        Component::Missing => plan::resolve(t, w, q, false, f, x, defaults),
         Component::Quoted(a, b) => {
             let r = assertion::within_quotes(f, a, b);
-            plan::resolve(t, w, q, true, r, text, defaults)
+            plan::resolve(t, w, q, true, r, x, defaults)
         }
     }
 }
@@ -138,7 +139,36 @@ fn ended(state: State) -> Judged
     }
 }
 
-// An assertion with a rule and a value text that conforms.
+// An assertion with a rule and the operand of a value text that conforms.
+fn judge_operand(
+    t: &[u8],
+    w: &[u64; 256],
+    v: &[u8],
+    f: &[u8],
+    p: Parts,
+    rule: Rule,
+    x: &[u8],
+    tests: Tests,
+) -> Judged
+    requires ready { ⌜ work.Ready (now t) (now w) (now v) (now f) ⌝ }
+    requires known { ⌜ ruleOf knownRules (itemOf (now f) p .rule) ≡ some (meant rule) ⌝ }
+    requires conforming { ⌜ conforms (meant rule) (itemOf (now f) p .value) ≡ true ⌝ }
+    requires operand { ⌜ now x ≡ operandOf (meant rule) (itemOf (now f) p .value) ⌝ }
+    requires within { ⌜ tests .made ≤ tests .budget ⌝ }
+    ensures { λ j. ⌜ j
+        ≡ work.charged (tests .budget) (tests .made) (work.storedOutcome (typeAt (now (t .entry)) 0) (now (v .entry)) (itemOf (now (f .entry)) p)) ⌝ }
+{
+    let mut q = [0usize; 72];
+    plan::plan_test(&mut q, rule, x, tests.budget);
+    let component = p.component;
+    let target = resolve_component(t, w, &mut q, f, component, x, p.defaults);
+    if !suits_target(rule, t, w, target) {
+        return Judged::Of(Verdict::Undefined, tests.made);
+    }
+    ended(walk::test(t, w, &q, v, x, tests.made))
+}
+
+// An assertion with a rule and a value text that conforms: its operand is made here, in memory where it doesn't stand in the text.
 fn judge_conforming(
     t: &[u8],
     w: &[u64; 256],
@@ -149,7 +179,7 @@ fn judge_conforming(
     text: &[u8],
     tests: Tests,
 ) -> Judged
-    requires ready { ⌜ work.Ready (now t) (now w) (now v) ⌝ }
+    requires ready { ⌜ work.Ready (now t) (now w) (now v) (now f) ⌝ }
     requires known { ⌜ ruleOf knownRules (itemOf (now f) p .rule) ≡ some (meant rule) ⌝ }
     requires value { ⌜ now text ≡ itemOf (now f) p .value ⌝ }
     requires conforming { ⌜ conforms (meant rule) (now text) ≡ true ⌝ }
@@ -157,14 +187,13 @@ fn judge_conforming(
     ensures { λ j. ⌜ j
         ≡ work.charged (tests .budget) (tests .made) (work.storedOutcome (typeAt (now (t .entry)) 0) (now (v .entry)) (itemOf (now (f .entry)) p)) ⌝ }
 {
-    let mut q = [0usize; 72];
-    plan::plan_test(&mut q, rule, tests.budget);
-    let component = p.component;
-    let target = resolve_component(t, w, &mut q, f, component, text, p.defaults);
-    if !suits_target(rule, t, w, target) {
-        return Judged::Of(Verdict::Undefined, tests.made);
+    let part = plan::operand_part(rule, text);
+    if plan::is_operand(rule, part) {
+        return judge_operand(t, w, v, f, p, rule, part, tests);
     }
-    ended(walk::test(t, w, &q, v, text, tests.made))
+    let mut memory = [0u8; 2048];
+    let n = strings::squeeze(part, &mut memory);
+    judge_operand(t, w, v, f, p, rule, octets::part(&memory, 0, n), tests)
 }
 
 // An assertion with a rule.
@@ -177,7 +206,7 @@ fn judge_ruled(
     rule: Rule,
     tests: Tests,
 ) -> Judged
-    requires ready { ⌜ work.Ready (now t) (now w) (now v) ⌝ }
+    requires ready { ⌜ work.Ready (now t) (now w) (now v) (now f) ⌝ }
     requires known { ⌜ ruleOf knownRules (itemOf (now f) p .rule) ≡ some (meant rule) ⌝ }
     requires within { ⌜ tests .made ≤ tests .budget ⌝ }
     ensures { λ j. ⌜ j
@@ -192,7 +221,7 @@ fn judge_ruled(
 
 // An assertion of the filter text f by the places of its parts.
 fn judge_parts(t: &[u8], w: &[u64; 256], v: &[u8], f: &[u8], p: Parts, tests: Tests) -> Judged
-    requires ready { ⌜ work.Ready (now t) (now w) (now v) ⌝ }
+    requires ready { ⌜ work.Ready (now t) (now w) (now v) (now f) ⌝ }
     requires within { ⌜ tests .made ≤ tests .budget ⌝ }
     ensures { λ j. ⌜ j
         ≡ work.charged (tests .budget) (tests .made) (work.storedOutcome (typeAt (now (t .entry)) 0) (now (v .entry)) (itemOf (now (f .entry)) p)) ⌝ }
@@ -341,7 +370,7 @@ fn judge_assertion(
     here: Spot,
     tests: Tests,
 ) -> Judging
-    requires ready { ⌜ work.Ready (now t) (now w) (now v) ⌝ }
+    requires ready { ⌜ work.Ready (now t) (now w) (now v) (now f) ⌝ }
     requires within { ⌜ tests .made ≤ tests .budget ⌝ }
     ensures { λ r. ⌜ work.Judges (work.storedOutcome (typeAt (now (t .entry)) 0) (now (v .entry))) 1 (here .items) (here .live)
         (tests .budget) (tests .made) (parsing.made item (assertionAt (now (f .entry)) (here .at))) r ⌝ }
@@ -391,7 +420,7 @@ fn next_turn(f: &[u8], join: Join, p: Progress, w: Judging) -> Turn
 
 // The filter at a place, read, and judged or passed over.
 fn judge_filter(t: &[u8], w: &[u64; 256], v: &[u8], f: &[u8], here: Spot, tests: Tests) -> Judging
-    requires ready { ⌜ work.Ready (now t) (now w) (now v) ⌝ }
+    requires ready { ⌜ work.Ready (now t) (now w) (now v) (now f) ⌝ }
     requires within { ⌜ tests .made ≤ tests .budget ⌝ }
     ensures { λ r. ⌜ work.Judges (work.storedOutcome (typeAt (now (t .entry)) 0) (now (v .entry))) (here .depth) (here .items) (here .live)
         (tests .budget) (tests .made) (parsing.filterAt (now (f .entry)) (here .at)) r ⌝ }
@@ -459,7 +488,7 @@ fn judge_list(
     join: Join,
     tests: Tests,
 ) -> Judging
-    requires ready { ⌜ work.Ready (now t) (now w) (now v) ⌝ }
+    requires ready { ⌜ work.Ready (now t) (now w) (now v) (now f) ⌝ }
     requires within { ⌜ tests .made ≤ tests .budget ⌝ }
     ensures { λ r. ⌜ work.JudgesIn (work.storedOutcome (typeAt (now (t .entry)) 0) (now (v .entry))) (reportJoin join) (work.begun (here .live))
         (here .depth) (here .items) (tests .budget) (tests .made) (filtersAt (now (f .entry)) (here .at)) r ⌝ }
@@ -499,7 +528,7 @@ fn judge_list(
 
 // The filter of a whole text.
 pub fn judge(t: &[u8], w: &[u64; 256], v: &[u8], f: &[u8], budget: usize) -> Evaluated
-    requires ready { ⌜ work.Ready (now t) (now w) (now v) ⌝ }
+    requires ready { ⌜ work.Ready (now t) (now w) (now v) (now f) ⌝ }
     ensures { λ r. ⌜ work.Evaluates (work.storedOutcome (typeAt (now (t .entry)) 0) (now (v .entry))) budget (parsing.parse filterLimits (now (f .entry))) r ⌝ }
 {
     if !octets::utf8(f) {

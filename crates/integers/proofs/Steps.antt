@@ -1,5 +1,5 @@
 -- One lemma for each return; its premises are the facts as the code has them.
-use mathlib.Core.Path.{_≡_, refl, sym, ap, ap₂, _∙_}
+use mathlib.Core.Path.{_≡_, refl, sym, ap, _∙_}
 use mathlib.Core.Bool.{Bool, true, false, not}
 use mathlib.Core.List.{List}
 use Prim.Native.Nat.{ℕ, _≤_, _<_, _+_, _-_}
@@ -7,19 +7,18 @@ use native.Mathlib.Omega.{arith}
 use borrow.Author.Tests.{eq-eqb, ne-eqb, lt-ltb, le-ltb, lt-leb, le-leb, ltb-true, ltb-false, leb-true, not-true, not-false}
 use lib.Dec.{ltb, leb, eqb}
 use lib.ListN.{length, drop}
-use Rattle.octets.specs.Pick.{pick, both, no}
+use Rattle.octets.specs.Pick.{pick, both, either, no}
 use Rattle.octets.specs.Octets.{octet, part, same, bytes, baseFrom}
 use Rattle.octets.specs.Text.{isNumber, decimal}
 use Rattle.octets.specs.inner.Answers.{clip}
 use Rattle.octets.specs.declared.Size.{Size}
-use Rattle.octets.proofs.Laws.{part-rest, both-true}
-use Rattle.der.specs.Meaning.{Whole, plus, sameWhole, lessWhole, integerOf}
+use Rattle.octets.proofs.Laws.{part-rest, never, both-true}
+use Rattle.der.specs.Meaning.{Whole, plus, integerOf}
 use Rattle.der.specs.inner.Answers.{reportInteger}
 use Rattle.der.specs.declared.Integer.{Integer}
-use Rattle.der.proofs.MeaningLaws.{same-whole, less-whole}
 use Rattle.integers.specs.Asserted.{isMinus, isInteger, assertedInteger}
-use Rattle.integers.specs.inner.Answers.{heldOf, sameSize, aboveSize, belowSize}
-use Rattle.integers.specs.inner.Bounds.{fits, lifted, minusBound, plusBound, boundOf, minusBoundOf, plusBoundOf}
+use Rattle.integers.specs.inner.Answers.{heldOf}
+use Rattle.integers.specs.inner.Bounds.{fits, lifted, minusBound, plusBound, boundOf, minusBoundOf, plusBoundOf, sameBound, lessBound, isShort, shortFits}
 use Rattle.integers.specs.declared.Asked.{Asked}
 use Rattle.integers.specs.declared.Bound.{Bound}
 
@@ -61,96 +60,6 @@ module _ (t : List ℕ) (b : ℕ) (first : b ≡ octet t 0) where
   unfolding assertedInteger
   asserted-plain z h q = rw (minus-not h, q)
 
--- ---- a number against a size
-pub same-size-is : (size : Size) (m n : ℕ) → size ≡ Size.Of m → eqb n m ≡ sameSize size n
-same-size-is size m n e = rw e
-
-pub above-size-is : (size : Size) (m n : ℕ) → size ≡ Size.Of m → ltb n m ≡ aboveSize size n
-above-size-is size m n e = rw e
-
-pub below-size-is : (size : Size) (m n : ℕ) → size ≡ Size.Of m → ltb m n ≡ belowSize size n
-below-size-is size m n e = rw e
-
-module _ (m n : ℕ) (small : n < 18446744073709551616) where
-  same-clip : sameSize (clip m) n ≡ eqb n m
-  same-clip = go (ltb m 18446744073709551616) refl
-    where
-      go : (t : Bool) → ltb m 18446744073709551616 ≡ t → sameSize (pick t (Size.Of m) Size.Beyond) n ≡ eqb n m
-      go true e = refl
-      go false e = sym (ne-eqb n m (λ q. omega (arith, ltb-false m 18446744073709551616 e)))
-
-  above-clip : aboveSize (clip m) n ≡ ltb n m
-  above-clip = go (ltb m 18446744073709551616) refl
-    where
-      go : (t : Bool) → ltb m 18446744073709551616 ≡ t → aboveSize (pick t (Size.Of m) Size.Beyond) n ≡ ltb n m
-      go true e = refl
-      go false e = let h : n < m = omega (arith, ltb-false m 18446744073709551616 e) in sym (lt-ltb n m h)
-
-  below-clip : belowSize (clip m) n ≡ ltb m n
-  below-clip = go (ltb m 18446744073709551616) refl
-    where
-      go : (t : Bool) → ltb m 18446744073709551616 ≡ t → belowSize (pick t (Size.Of m) Size.Beyond) n ≡ ltb m n
-      go true e = refl
-      go false e = let h : n ≤ m = omega (arith, ltb-false m 18446744073709551616 e) in sym (le-ltb m n h)
-
--- ---- an integer, by sign and size, against an asserted one
-module _ (a : Asked) (w : Whole) (minus : Bool) (n : ℕ) (read : a ≡ heldOf w) (small : n < 18446744073709551616) where
-  sign : a .minus ≡ w .minus
-  sign = ap (λ (x : Asked). x .minus) read
-
-  size : a .size ≡ clip (w .size)
-  size = ap (λ (x : Asked). x .size) read
-
-  whole : (u : Bool) → u ≡ sameSize (a .size) n → u ≡ eqb n (w .size)
-  whole u e = e ∙ ap (λ (z : Size). sameSize z n) size ∙ same-clip (w .size) n small
-
-  same-by : sameWhole (record { minus = minus; size = n }) w ≡ both (pick minus (a .minus) (no (a .minus))) (eqb n (w .size))
-  same-by = same-whole minus (w .minus) n (w .size) ∙ ap (λ (x : Bool). both (pick minus x (no x)) (eqb n (w .size))) (sym sign)
-
-  less-by : lessWhole (record { minus = minus; size = n }) w ≡ pick minus (pick (a .minus) (ltb (w .size) n) true) (pick (a .minus) false (ltb n (w .size)))
-  less-by = less-whole minus (w .minus) n (w .size) ∙ ap (λ (x : Bool). pick minus (pick x (ltb (w .size) n) true) (pick x false (ltb n (w .size)))) (sym sign)
-
-  same-cases : (x y : Bool) → minus ≡ x → a .minus ≡ y → sameWhole (record { minus = minus; size = n }) w ≡ both (pick x y (no y)) (eqb n (w .size))
-  same-cases x y e f = same-by ∙ ap₂ (λ (p : Bool) (q : Bool). both (pick p q (no q)) (eqb n (w .size))) e f
-
-  less-cases : (x y : Bool) → minus ≡ x → a .minus ≡ y → lessWhole (record { minus = minus; size = n }) w ≡ pick x (pick y (ltb (w .size) n) true) (pick y false (ltb n (w .size)))
-  less-cases x y e f = less-by ∙ ap₂ (λ (p : Bool) (q : Bool). pick p (pick q (ltb (w .size) n) true) (pick q false (ltb n (w .size)))) e f
-
-  pub same-minus : (u : Bool) → minus ≡ true → a .minus ≡ true → u ≡ sameSize (a .size) n → u ≡ sameWhole (record { minus = minus; size = n }) w
-  same-minus u e f q = whole u q ∙ sym (same-cases true true e f)
-
-  pub same-unlike : minus ≡ true → a .minus ≡ false → false ≡ sameWhole (record { minus = minus; size = n }) w
-  same-unlike e f = sym (same-cases true false e f)
-
-  pub same-opposed : minus ≡ false → a .minus ≡ true → false ≡ sameWhole (record { minus = minus; size = n }) w
-  same-opposed e f = sym (same-cases false true e f)
-
-  pub same-plus : (u : Bool) → minus ≡ false → a .minus ≡ false → u ≡ sameSize (a .size) n → u ≡ sameWhole (record { minus = minus; size = n }) w
-  same-plus u e f q = whole u q ∙ sym (same-cases false false e f)
-
-  pub less-minus : (u : Bool) → minus ≡ true → a .minus ≡ true → u ≡ belowSize (a .size) n → u ≡ lessWhole (record { minus = minus; size = n }) w
-  less-minus u e f q = q ∙ ap (λ (z : Size). belowSize z n) size ∙ below-clip (w .size) n small ∙ sym (less-cases true true e f)
-
-  pub less-unlike : minus ≡ true → a .minus ≡ false → true ≡ lessWhole (record { minus = minus; size = n }) w
-  less-unlike e f = sym (less-cases true false e f)
-
-  pub less-opposed : minus ≡ false → a .minus ≡ true → false ≡ lessWhole (record { minus = minus; size = n }) w
-  less-opposed e f = sym (less-cases false true e f)
-
-  pub less-plus : (u : Bool) → minus ≡ false → a .minus ≡ false → u ≡ aboveSize (a .size) n → u ≡ lessWhole (record { minus = minus; size = n }) w
-  less-plus u e f q = q ∙ ap (λ (z : Size). aboveSize z n) size ∙ above-clip (w .size) n small ∙ sym (less-cases false false e f)
-
--- ---- contents
-pub too-long : (c : List ℕ) (x : Bool) → 8 < length c → false ≡ both (leb (length c) 8) x
-too-long c x h = rw (lt-leb (length c) 8 h)
-
-module _ (c : List ℕ) (i : Integer) (w : Whole) (u : Bool) (short : length c ≤ 8) (read : reportInteger i ≡ integerOf c) where
-  pub same-contents-is : u ≡ sameWhole (record { minus = i .minus; size = i .size }) w → u ≡ both (leb (length c) 8) (sameWhole (integerOf c) w)
-  same-contents-is e = rw (le-leb (length c) 8 short) (e ∙ ap (λ (x : Whole). sameWhole x w) read)
-
-  pub less-contents-is : u ≡ lessWhole (record { minus = i .minus; size = i .size }) w → u ≡ both (leb (length c) 8) (lessWhole (integerOf c) w)
-  less-contents-is e = rw (le-leb (length c) 8 short) (e ∙ ap (λ (x : Whole). lessWhole x w) read)
-
 -- ---- bounds
 module _ (size : Size) (n : ℕ) (e : size ≡ Size.Of n) where
   pub minus-under : 9223372036854775808 < n → Bound.Under ≡ minusBoundOf size
@@ -187,6 +96,54 @@ module _ (a : Asked) (w : Whole) (r : Bound) (read : a ≡ heldOf w) where
   pub bound-plus : a .minus ≡ false → r ≡ plusBoundOf (a .size) → r ≡ boundOf w
   unfolding boundOf
   bound-plus h e = rw (sym (ap (λ (x : Asked). x .minus) read) ∙ h) (e ∙ ap (λ (x : Asked). plusBoundOf (x .size)) read ∙ plus-clip (w .size))
+
+module _ (bound : Bound) (n : ℕ) where
+  pub at-is : (m : ℕ) → bound ≡ Bound.At m → eqb n m ≡ sameBound n bound
+  at-is m e = rw e
+
+  pub before-is : (m : ℕ) → bound ≡ Bound.At m → ltb n m ≡ lessBound n bound
+  before-is m e = rw e
+
+-- ---- contents and counts against a bound
+module _ (c : List ℕ) (x : Bool) where
+  pub no-octets : length c ≡ 0 → false ≡ both (isShort c) x
+  no-octets h = rw (lt-leb 1 (length c) (omega arith))
+
+  pub too-long : 8 < length c → false ≡ both (isShort c) x
+  too-long h = rw (lt-leb (length c) 8 h, never (leb 1 (length c)))
+
+  pub short-is : (r : Bool) → (length c ≡ 0 → ⊥) → length c ≤ 8 → r ≡ x → r ≡ both (isShort c) x
+  short-is r a b e = rw (le-leb 1 (length c) (omega arith), le-leb (length c) 8 b) e
+
+module _ (c : List ℕ) where
+  pub none-fits : length c ≡ 0 → shortFits c ≡ true
+  unfolding shortFits
+  none-fits h = rw (lt-leb 1 (length c) (omega arith))
+
+  pub long-fits : 8 < length c → shortFits c ≡ true
+  unfolding shortFits
+  long-fits h = rw (lt-leb (length c) 8 h, never (leb 1 (length c)))
+
+  pub short-fits : fits (integerOf c) ≡ true → shortFits c ≡ true
+  unfolding shortFits
+  short-fits e = rw e (go (isShort c))
+    where
+      go : (u : Bool) → either (no u) true ≡ true
+      go true = refl
+      go false = refl
+
+module _ (n : ℕ) (x : Bool) where
+  pub count-beyond : 9223372036854775808 ≤ n → false ≡ both (ltb n 9223372036854775808) x
+  count-beyond h = rw (le-ltb n 9223372036854775808 h)
+
+  pub count-within : (r : Bool) → n < 9223372036854775808 → r ≡ x → r ≡ both (ltb n 9223372036854775808) x
+  count-within r h e = rw (lt-ltb n 9223372036854775808 h) e
+
+pub told-same : (w : Whole) (k : ℕ) (bound : Bound) (r : Bool) → k ≡ lifted w → r ≡ sameBound k bound → r ≡ sameBound (lifted w) bound
+told-same w k bound r e h = h ∙ ap (λ (y : ℕ). sameBound y bound) e
+
+pub told-less : (w : Whole) (k : ℕ) (bound : Bound) (r : Bool) → k ≡ lifted w → r ≡ lessBound k bound → r ≡ lessBound (lifted w) bound
+told-less w k bound r e h = h ∙ ap (λ (y : ℕ). lessBound y bound) e
 
 -- ---- lifted
 pub count-is : (n : ℕ) → 9223372036854775808 + n ≡ lifted (plus n)

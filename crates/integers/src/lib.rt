@@ -1,14 +1,14 @@
 // Asserted integers, of any size.
 use octets::Size;
 ghost use mathlib.Core.Path.{_≡_};
-ghost use mathlib.Core.Bool.{true, false};
+ghost use mathlib.Core.Bool.{true};
 ghost use Prim.Native.Nat.{_≤_, _<_};
 ghost use lib.ListN.{length, drop};
-ghost use lib.Dec.{leb};
+ghost use lib.Dec.{ltb, leb};
 ghost use Rattle.octets.specs.Pick.{both, no};
 ghost use Rattle.octets.specs.Octets.{octet, same, bytes};
 ghost use Rattle.octets.specs.Text.{isNumber};
-ghost use Rattle.der.specs.Meaning.{plus, sameWhole, lessWhole, integerOf};
+ghost use Rattle.der.specs.Meaning.{plus, integerOf};
 ghost use Rattle.integers.specs.Asserted as asserted;
 ghost use Rattle.integers.specs.inner.Answers as answers;
 ghost use Rattle.integers.specs.inner.Bounds as bounds;
@@ -66,90 +66,6 @@ fn read_asserted(t: &[u8]) -> Asked
         minus: false,
         size: octets::decimal(t),
     }
-}
-
-// ---- a number against a size
-fn same_size(size: Size, n: u64) -> bool
-    ensures { λ r. ⌜ r ≡ answers.sameSize size n ⌝ }
-{
-    let Size::Of(m) = size else {
-        return false;
-    };
-    n == m
-}
-
-fn above_size(size: Size, n: u64) -> bool
-    ensures { λ r. ⌜ r ≡ answers.aboveSize size n ⌝ }
-{
-    match size {
-        Size::Of(m) => n < m,
-        Size::Beyond => true,
-    }
-}
-
-fn below_size(size: Size, n: u64) -> bool
-    ensures { λ r. ⌜ r ≡ answers.belowSize size n ⌝ }
-{
-    let Size::Of(m) = size else {
-        return false;
-    };
-    m < n
-}
-
-// ---- an integer, by sign and size, against an asserted one
-pub fn same_integer(t: &[u8], minus: bool, n: u64) -> bool
-    ensures { λ r. ⌜ r ≡ sameWhole (record { minus = minus; size = n }) (asserted.assertedInteger (now (t .entry))) ⌝ }
-{
-    let a = read_asserted(t);
-    let size = a.size;
-    if minus {
-        if a.minus {
-            return same_size(size, n);
-        }
-        return false;
-    }
-    if a.minus {
-        return false;
-    }
-    same_size(size, n)
-}
-
-pub fn less_integer(t: &[u8], minus: bool, n: u64) -> bool
-    ensures { λ r. ⌜ r ≡ lessWhole (record { minus = minus; size = n }) (asserted.assertedInteger (now (t .entry))) ⌝ }
-{
-    let a = read_asserted(t);
-    let size = a.size;
-    if minus {
-        if a.minus {
-            return below_size(size, n);
-        }
-        return true;
-    }
-    if a.minus {
-        return false;
-    }
-    above_size(size, n)
-}
-
-// ---- contents of an INTEGER, of up to eight octets; of longer ones the answer is false
-pub fn same_contents(t: &[u8], c: &[u8]) -> bool
-    ensures { λ r. ⌜ r ≡ both (leb (length (now (c .entry))) 8) (sameWhole (integerOf (now (c .entry))) (asserted.assertedInteger (now (t .entry)))) ⌝ }
-{
-    if 8 < c.len() {
-        return false;
-    }
-    let i = der::read_integer(c);
-    same_integer(t, i.minus, i.size)
-}
-
-pub fn less_contents(t: &[u8], c: &[u8]) -> bool
-    ensures { λ r. ⌜ r ≡ both (leb (length (now (c .entry))) 8) (lessWhole (integerOf (now (c .entry))) (asserted.assertedInteger (now (t .entry)))) ⌝ }
-{
-    if 8 < c.len() {
-        return false;
-    }
-    let i = der::read_integer(c);
-    less_integer(t, i.minus, i.size)
 }
 
 // ---- integers as numbers that keep their order: plus 2^63
@@ -220,4 +136,71 @@ pub fn bound_of(t: &[u8]) -> Bound
         return minus_bound(size);
     }
     plus_bound(size)
+}
+
+// ---- a stored integer against a bound
+fn is_at(n: u64, bound: Bound) -> bool
+    ensures { λ r. ⌜ r ≡ bounds.sameBound n bound ⌝ }
+{
+    match bound {
+        Bound::At(m) => n == m,
+        Bound::Under => false,
+        Bound::Over => false,
+    }
+}
+
+fn is_before(n: u64, bound: Bound) -> bool
+    ensures { λ r. ⌜ r ≡ bounds.lessBound n bound ⌝ }
+{
+    match bound {
+        Bound::At(m) => n < m,
+        Bound::Under => false,
+        Bound::Over => true,
+    }
+}
+
+// Contents of an INTEGER, of one to eight octets; of others the answer is false.
+pub fn same_contents(c: &[u8], bound: Bound) -> bool
+    ensures value { λ r. ⌜ r ≡ both (bounds.isShort (now (c .entry))) (bounds.sameBound (bounds.lifted (integerOf (now (c .entry)))) bound) ⌝ }
+    ensures fits { λ r. ⌜ bounds.shortFits (now (c .entry)) ≡ true ⌝ }
+{
+    if c.len() == 0 {
+        return false;
+    }
+    if 8 < c.len() {
+        return false;
+    }
+    is_at(lift(c), bound)
+}
+
+pub fn less_contents(c: &[u8], bound: Bound) -> bool
+    ensures value { λ r. ⌜ r ≡ both (bounds.isShort (now (c .entry))) (bounds.lessBound (bounds.lifted (integerOf (now (c .entry)))) bound) ⌝ }
+    ensures fits { λ r. ⌜ bounds.shortFits (now (c .entry)) ≡ true ⌝ }
+{
+    if c.len() == 0 {
+        return false;
+    }
+    if 8 < c.len() {
+        return false;
+    }
+    is_before(lift(c), bound)
+}
+
+// A count; of 2^63 and above the answer is false.
+pub fn same_count(n: u64, bound: Bound) -> bool
+    ensures { λ r. ⌜ r ≡ both (ltb n 9223372036854775808) (bounds.sameBound (bounds.lifted (plus n)) bound) ⌝ }
+{
+    if 9223372036854775808 <= n {
+        return false;
+    }
+    is_at(lift_count(n), bound)
+}
+
+pub fn less_count(n: u64, bound: Bound) -> bool
+    ensures { λ r. ⌜ r ≡ both (ltb n 9223372036854775808) (bounds.lessBound (bounds.lifted (plus n)) bound) ⌝ }
+{
+    if 9223372036854775808 <= n {
+        return false;
+    }
+    is_before(lift_count(n), bound)
 }

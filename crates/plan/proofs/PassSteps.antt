@@ -1,16 +1,173 @@
 -- What a task lets pass: one lemma for each need, its premises as the code has them.
-use mathlib.Core.Path.{_≡_, sym, ap, _∙_}
-use mathlib.Core.Bool.{Bool, true}
-use mathlib.Core.List.{List}
-use Prim.Native.Nat.{ℕ, zero, suc, _≤_, _<_}
+use mathlib.Core.Path.{_≡_, refl, sym, ap, ap₂, _∙_}
+use mathlib.Core.Bool.{Bool, true, false, not}
+use mathlib.Core.List.{List, []}
+use Prim.Native.Nat.{ℕ, zero, suc, _≤_, _<_, _-_}
 use native.Mathlib.Omega.{arith}
-use lib.ListN.{getD}
-use Rattle.rules.specs.Rule.{Rule}
-use Rattle.rules.specs.inner.Answers.{meant, acceptsContentsRead, acceptsCountRead}
-use Rattle.rules.specs.declared.Rule as code
-use Rattle.plan.specs.inner.Task.{Task, testing, ruleNumbered, taskOf, passesContents, passesCount}
+use borrow.Author.Tests.{eq-eqb, ne-eqb, lt-ltb, le-ltb}
+use lib.Dec.{ltb, leb, eqb}
+use lib.ListN.{length, getD}
+use Rattle.octets.specs.Pick.{pick, both, either, no}
+use Rattle.octets.specs.Octets.{same, below, paired}
+use Rattle.der.specs.Time as times
+use Rattle.der.specs.declared.Time.{Time}
+use Rattle.der.specs.Meaning.{plus, sameWhole, lessWhole, integerOf, booleanOf, arcsOf, bitsOf}
+use Rattle.der.specs.Dotted.{dottedArcs}
+use Rattle.integers.specs.Asserted.{assertedInteger}
+use Rattle.integers.specs.inner.Bounds.{fits, lifted, sameBound, lessBound, isShort, shortFits}
+use Rattle.integers.specs.declared.Bound.{Bound}
+use Rattle.digits.specs.Asserted.{digits}
+use Rattle.digits.specs.inner.Answers.{bitsIn}
+use Rattle.strings.specs.Prepared.{folded, prepared}
+use Rattle.plan.specs.inner.Test.{Test, integerIs, accepted, acceptedCount, boundNumbered, plainTest, digitTest, textTest, testOf}
+use Rattle.plan.specs.inner.Task.{Task, testing, taskOf, passesContents, passesCount}
 use Rattle.plan.proofs.TaskLaws.{is-counting, is-listing, is-testing}
 
+-- ---- a bound
+module _ (k n : ℕ) where
+  pub bound-at : k ≡ 0 → Bound.At n ≡ boundNumbered k n
+  bound-at e = rw (eq-eqb k 0 e)
+
+  pub bound-under : (k ≡ 0 → ⊥) → k ≡ 1 → Bound.Under ≡ boundNumbered k n
+  bound-under a e = rw (ne-eqb k 0 a, eq-eqb k 1 e)
+
+  pub bound-over : (k ≡ 0 → ⊥) → (k ≡ 1 → ⊥) → Bound.Over ≡ boundNumbered k n
+  bound-over a b = rw (ne-eqb k 0 a, ne-eqb k 1 b)
+
+-- ---- any value, none, a truth
+module _ (k : ℕ) (x c : List ℕ) where
+  pub plain-any : k ≡ 0 → true ≡ accepted (plainTest k) x c
+  unfolding accepted
+  plain-any e = rw (eq-eqb k 0 e)
+
+  module _ (a : k ≡ 0 → ⊥) where
+    pub plain-none : k ≡ 1 → false ≡ accepted (plainTest k) x c
+    unfolding accepted
+    plain-none e = rw (ne-eqb k 0 a, eq-eqb k 1 e)
+
+    module _ (b : k ≡ 1 → ⊥) (r : Bool) (told : r ≡ booleanOf c) where
+      pub plain-true : k ≡ 2 → r ≡ accepted (plainTest k) x c
+      unfolding accepted
+      plain-true e = rw (ne-eqb k 0 a, ne-eqb k 1 b, eq-eqb k 2 e) told
+
+      pub plain-false : (k ≡ 2 → ⊥) → not r ≡ accepted (plainTest k) x c
+      unfolding accepted
+      plain-false d = rw (ne-eqb k 0 a, ne-eqb k 1 b, ne-eqb k 2 d) (go r ∙ ap no told)
+        where
+          go : (u : Bool) → not u ≡ no u
+          go true = refl
+          go false = refl
+
+  -- ---- arcs, octets, bits
+  module _ (r : Bool) where
+    pub digits-arcs : k ≡ 10 → r ≡ same (arcsOf c) (dottedArcs x) → r ≡ accepted (digitTest k) x c
+    unfolding accepted
+    digits-arcs e h = rw (eq-eqb k 10 e) h
+
+    module _ (d : List ℕ) (inside : d ≡ digits x) (a : k ≡ 10 → ⊥) where
+      pub digits-octets : k ≡ 11 → r ≡ same c (paired d) → r ≡ accepted (digitTest k) x c
+      unfolding accepted
+      digits-octets e h = rw (ne-eqb k 10 a, eq-eqb k 11 e) (h ∙ ap (λ (y : List ℕ). same c (paired y)) inside)
+
+      module _ (b : k ≡ 11 → ⊥) where
+        pub digits-less : k ≡ 12 → r ≡ below c (paired d) → r ≡ accepted (digitTest k) x c
+        unfolding accepted
+        digits-less e h = rw (ne-eqb k 10 a, ne-eqb k 11 b, eq-eqb k 12 e) (h ∙ ap (λ (y : List ℕ). below c (paired y)) inside)
+
+        pub digits-bits : (k ≡ 12 → ⊥) → r ≡ both (leb (length c) 65536) (same (bitsOf c) (bitsIn (eqb k 13) d)) → r ≡ accepted (digitTest k) x c
+        unfolding accepted
+        digits-bits e h = rw (ne-eqb k 10 a, ne-eqb k 11 b, ne-eqb k 12 e) (h ∙ ap (λ (y : List ℕ). both (leb (length c) 65536) (same (bitsOf c) (bitsIn (eqb k 13) y))) inside)
+
+    -- ---- times, strings
+    module _ (s u : Time) (ps : s ≡ times.timeOf c) (pu : u ≡ times.timeOf x) where
+      pub text-time : k ≡ 17 → r ≡ times.sameTime s u → r ≡ accepted (textTest k) x c
+      unfolding accepted
+      text-time e h = rw (eq-eqb k 17 e) (h ∙ ap₂ times.sameTime ps pu)
+
+      pub text-earlier : (k ≡ 17 → ⊥) → k ≡ 18 → r ≡ times.earlier s u → r ≡ accepted (textTest k) x c
+      unfolding accepted
+      text-earlier a e h = rw (ne-eqb k 17 a, eq-eqb k 18 e) (h ∙ ap₂ times.earlier ps pu)
+
+    pub text-string : (k ≡ 17 → ⊥) → (k ≡ 18 → ⊥) → r ≡ same (prepared (eqb k 15) c) (folded (eqb k 15) x) → r ≡ accepted (textTest k) x c
+    unfolding accepted
+    text-string a b h = rw (ne-eqb k 17 a, ne-eqb k 18 b) h
+
+-- ---- a test by its numbers
+integer-told : (c : List ℕ) (r told otherwise : Bool) → r ≡ both (isShort c) told → shortFits c ≡ true → r ≡ integerIs told otherwise c
+unfolding integerIs shortFits
+integer-told c r told otherwise e f = e ∙ go (isShort c) (fits (integerOf c)) f
+  where
+    go : (u v : Bool) → either (no u) v ≡ true → both u told ≡ both u (pick v told otherwise)
+    go true v q = rw q
+    go false v q = refl
+
+plain-any-operand : (k : ℕ) (x c : List ℕ) → accepted (plainTest k) [] c ≡ accepted (plainTest k) x c
+unfolding accepted
+plain-any-operand k x c = go (eqb k 0) (eqb k 1) (eqb k 2)
+  where
+    go : (u v w : Bool) → accepted (pick u Test.anyValue (pick v Test.noValue (Test.truth w))) [] c ≡ accepted (pick u Test.anyValue (pick v Test.noValue (Test.truth w))) x c
+    go true v w = refl
+    go false true w = refl
+    go false false w = refl
+
+module _ (k n : ℕ) (x c : List ℕ) (r : Bool) where
+  pub accepts-plain : k < 4 → r ≡ accepted (plainTest k) [] c → r ≡ accepted (testOf k n) x c
+  unfolding testOf
+  accepts-plain h e = rw (lt-ltb k 4 h) (e ∙ plain-any-operand k x c)
+
+  module _ (a : 4 ≤ k) where
+    pub accepts-same : (b : Bound) → k < 7 → b ≡ boundNumbered (k - 4) n → r ≡ both (isShort c) (sameBound (lifted (integerOf c)) b) → shortFits c ≡ true → r ≡ accepted (testOf k n) x c
+    unfolding testOf accepted
+    accepts-same b h q e f = rw (le-ltb k 4 a, lt-ltb k 7 h, ← q) (integer-told c r (sameBound (lifted (integerOf c)) b) (sameWhole (integerOf c) (assertedInteger x)) e f)
+
+    module _ (b : 7 ≤ k) where
+      pub accepts-less : (bound : Bound) → k < 10 → bound ≡ boundNumbered (k - 7) n → r ≡ both (isShort c) (lessBound (lifted (integerOf c)) bound) → shortFits c ≡ true → r ≡ accepted (testOf k n) x c
+      unfolding testOf accepted
+      accepts-less bound h q e f = rw (le-ltb k 4 a, le-ltb k 7 b, lt-ltb k 10 h, ← q) (integer-told c r (lessBound (lifted (integerOf c)) bound) (lessWhole (integerOf c) (assertedInteger x)) e f)
+
+      module _ (d : 10 ≤ k) where
+        pub accepts-digits : k < 15 → r ≡ accepted (digitTest k) x c → r ≡ accepted (testOf k n) x c
+        unfolding testOf
+        accepts-digits h e = rw (le-ltb k 4 a, le-ltb k 7 b, le-ltb k 10 d, lt-ltb k 15 h) e
+
+        pub accepts-text : 15 ≤ k → r ≡ accepted (textTest k) x c → r ≡ accepted (testOf k n) x c
+        unfolding testOf
+        accepts-text h e = rw (le-ltb k 4 a, le-ltb k 7 b, le-ltb k 10 d, le-ltb k 15 h) e
+
+module _ (k n m : ℕ) where
+  pub count-plain : k < 4 → eqb k 0 ≡ acceptedCount (testOf k n) m
+  unfolding testOf acceptedCount
+  count-plain h = rw (lt-ltb k 4 h) (go (eqb k 0) (eqb k 1))
+    where
+      go : (u v : Bool) → u ≡ acceptedCount (pick u Test.anyValue (pick v Test.noValue (Test.truth (eqb k 2)))) m
+      go true v = refl
+      go false true = refl
+      go false false = refl
+
+  module _ (a : 4 ≤ k) where
+    pub count-same : (r : Bool) (b : Bound) → k < 7 → b ≡ boundNumbered (k - 4) n → r ≡ both (ltb m 9223372036854775808) (sameBound (lifted (plus m)) b) → r ≡ acceptedCount (testOf k n) m
+    unfolding testOf acceptedCount
+    count-same r b h q e = rw (le-ltb k 4 a, lt-ltb k 7 h, ← q) e
+
+    module _ (b : 7 ≤ k) where
+      pub count-less : (r : Bool) (bound : Bound) → k < 10 → bound ≡ boundNumbered (k - 7) n → r ≡ both (ltb m 9223372036854775808) (lessBound (lifted (plus m)) bound) → r ≡ acceptedCount (testOf k n) m
+      unfolding testOf acceptedCount
+      count-less r bound h q e = rw (le-ltb k 4 a, le-ltb k 7 b, lt-ltb k 10 h, ← q) e
+
+      pub count-other : 10 ≤ k → false ≡ acceptedCount (testOf k n) m
+      unfolding testOf acceptedCount
+      count-other d = rw (le-ltb k 4 a, le-ltb k 7 b, le-ltb k 10 d) (go (ltb k 15) (eqb k 10) (eqb k 11) (eqb k 12) (eqb k 17) (eqb k 18))
+        where
+          go : (u a b c d e : Bool) → false ≡ acceptedCount (pick u (pick a Test.arcs (pick b Test.octets (pick c Test.lessOctets (Test.bits (eqb k 13))))) (pick d Test.time (pick e Test.earlierTime (Test.string (eqb k 15))))) m
+          go true true b c d e = refl
+          go true false true c d e = refl
+          go true false false true d e = refl
+          go true false false false d e = refl
+          go false a b c true e = refl
+          go false a b c false true = refl
+          go false a b c false false = refl
+
+-- ---- the task
 module _ (q : List ℕ) (task : ℕ) (read : task ≡ getD q 0 0) where
   pub contents-pass : (x c : List ℕ) → task < 2 → true ≡ passesContents (taskOf q) x c
   unfolding passesContents
@@ -21,23 +178,23 @@ module _ (q : List ℕ) (task : ℕ) (read : task ≡ getD q 0 0) where
       go (suc zero) e h = rw (is-listing q (λ y. absurd (omega arith)) (sym e))
       go (suc (suc k)) e h = absurd (omega arith)
 
-  pub count-passes : (x : List ℕ) (n : ℕ) → task < 2 → true ≡ passesCount (taskOf q) x n
+  pub count-passes : (n : ℕ) → task < 2 → true ≡ passesCount (taskOf q) n
   unfolding passesCount
-  count-passes x n l = go task read l
+  count-passes n l = go task read l
     where
-      go : (k : ℕ) → k ≡ getD q 0 0 → k < 2 → true ≡ passesCount (taskOf q) x n
+      go : (k : ℕ) → k ≡ getD q 0 0 → k < 2 → true ≡ passesCount (taskOf q) n
       go zero e h = rw (is-counting q (sym e))
       go (suc zero) e h = rw (is-listing q (λ y. absurd (omega arith)) (sym e))
       go (suc (suc k)) e h = absurd (omega arith)
 
-  module _ (high : 2 ≤ task) (rule : code.Rule) (told : meant rule ≡ ruleNumbered (getD q 2 0)) (x : List ℕ) (b : Bool) where
-    tests : taskOf q ≡ testing (ruleNumbered (getD q 2 0)) (getD q 1 0)
-    tests = is-testing q (λ e. absurd (omega arith)) (λ e. absurd (omega arith))
+  module _ (high : 2 ≤ task) (k n : ℕ) (comparison : k ≡ getD q 2 0) (number : n ≡ getD q 3 0) (b : Bool) where
+    tests : taskOf q ≡ testing (testOf k n) (getD q 1 0)
+    tests = is-testing q (λ e. absurd (omega arith)) (λ e. absurd (omega arith)) ∙ ap₂ (λ (y z : ℕ). testing (testOf y z) (getD q 1 0)) (sym comparison) (sym number)
 
-    pub contents-tested : (c : List ℕ) → b ≡ acceptsContentsRead (meant rule) x c → b ≡ passesContents (taskOf q) x c
+    pub contents-tested : (x c : List ℕ) → b ≡ accepted (testOf k n) x c → b ≡ passesContents (taskOf q) x c
     unfolding passesContents
-    contents-tested c f = f ∙ ap (λ (r : Rule). acceptsContentsRead r x c) told ∙ sym (ap (λ (y : Task). passesContents y x c) tests)
+    contents-tested x c f = f ∙ sym (ap (λ (y : Task). passesContents y x c) tests)
 
-    pub count-tested : (n : ℕ) → b ≡ acceptsCountRead (meant rule) x n → b ≡ passesCount (taskOf q) x n
+    pub count-tested : (m : ℕ) → b ≡ acceptedCount (testOf k n) m → b ≡ passesCount (taskOf q) m
     unfolding passesCount
-    count-tested n f = f ∙ ap (λ (r : Rule). acceptsCountRead r x n) told ∙ sym (ap (λ (y : Task). passesCount y x n) tests)
+    count-tested m f = f ∙ sym (ap (λ (y : Task). passesCount y m) tests)

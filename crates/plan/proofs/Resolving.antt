@@ -162,7 +162,7 @@ written-long q u j s a b c h e =
 -- the task stands before the steps
 task-kept : (p q : List ℕ) (n : ℕ) → 4 ≤ n → Agrees p q n → taskOf p ≡ taskOf q
 unfolding taskOf
-task-kept p q n h e = rw (e 0 (omega arith), e 1 (omega arith), e 2 (omega arith))
+task-kept p q n h e = rw (e 0 (omega arith), e 1 (omega arith), e 2 (omega arith), e 3 (omega arith))
 
 -- ---- one step more
 absent-told : (defaults : Bool) (task : Task) (x : List ℕ) (p : Presence) (r : List ℕ) (next : ℕ) (js : List Id) → idsAt r next ≡ some js

@@ -1,15 +1,17 @@
 // A plan: one lent array of numbers, the task first, then four for each identifier of a reference.
 use der::Kind;
+use integers::Bound;
 use reference::Step;
 use reference::Target;
 use rules::Rule;
 use rules::Syntax;
 ghost use mathlib.Core.Path.{_≡_};
 ghost use mathlib.Core.Bool.{true};
+ghost use mathlib.Core.List.{[]};
 ghost use Prim.Native.Nat.{_≤_, _<_, _+_, _*_};
 ghost use lib.ListN.{length, getD, set};
 ghost use lib.Dec.{ltb};
-ghost use Rattle.octets.specs.Pick.{pick, both};
+ghost use Rattle.octets.specs.Pick.{both};
 ghost use Rattle.octets.specs.inner.Answers.{between};
 ghost use Rattle.rows.specs.Paper.{tableLimits};
 ghost use Rattle.rows.specs.Row.{membersAt};
@@ -17,9 +19,10 @@ ghost use Rattle.types.specs.Admitted.{admitted};
 ghost use Rattle.table.specs.inner.Rows.{tableRows, MemberRow, placeAt};
 ghost use Rattle.table.specs.inner.Words.{Worded};
 ghost use Rattle.reference.specs.inner.Work as reference;
-ghost use Rattle.rules.specs.Rule.{equal, less};
+ghost use Rattle.rules.specs.Rule as rule;
 ghost use Rattle.rules.specs.inner.Answers.{syntaxOf, meant};
-ghost use Rattle.plan.specs.inner.Task.{ruleNumbered};
+ghost use Rattle.plan.specs.inner.Test as tests;
+ghost use Rattle.plan.specs.inner.Operand as operands;
 ghost use Rattle.plan.specs.inner.Task as tasks;
 ghost use Rattle.plan.specs.inner.Plan as plan;
 ghost use Rattle.plan.specs.inner.Sort as sort;
@@ -42,6 +45,63 @@ impl Sort {
     pub const COUNT: usize = 5;
 
     pub const ALL: usize = 6;
+}
+
+// The comparisons of a test: any value, none, a truth; an integer equal to one, to one below or above all that can be stored, or less; arcs; octets equal or
+// less; bits of hexadecimal or binary digits; a string, folded or exact; a time equal or earlier.
+pub struct Comparison;
+
+impl Comparison {
+    pub const ANY: usize = 0;
+
+    pub const NONE: usize = 1;
+
+    pub const TRUE: usize = 2;
+
+    pub const FALSE: usize = 3;
+
+    pub const SAME_INTEGER: usize = 4;
+
+    pub const SAME_UNDER: usize = 5;
+
+    pub const SAME_OVER: usize = 6;
+
+    pub const LESS_INTEGER: usize = 7;
+
+    pub const LESS_UNDER: usize = 8;
+
+    pub const LESS_OVER: usize = 9;
+
+    pub const ARCS: usize = 10;
+
+    pub const OCTETS: usize = 11;
+
+    pub const LESS_OCTETS: usize = 12;
+
+    pub const HEXADECIMAL: usize = 13;
+
+    pub const BINARY: usize = 14;
+
+    pub const FOLDED: usize = 15;
+
+    pub const EXACT: usize = 16;
+
+    pub const TIME: usize = 17;
+
+    pub const EARLIER: usize = 18;
+}
+
+// A test: its comparison, and the number that it is with.
+pub struct TestNumbers {
+    pub comparison: usize,
+    pub number: usize,
+}
+
+// How a value text makes an operand: as it stands; what stands between its quotes; the same with spaces dropped and joined and one quote for two.
+pub enum Form {
+    Whole,
+    Quoted,
+    Squeezed,
 }
 
 // ---- the numbers of step k
@@ -91,89 +151,181 @@ pub fn limit(q: &[usize; 72]) -> usize
     q[1]
 }
 
-// The ordering rule of a number.
-fn less_numbered(n: usize) -> Rule
-    requires { ⌜ 8 < n ⌝ }
-    ensures { λ r. ⌜ meant r ≡ ruleNumbered n ⌝ }
+// The comparison of a test.
+pub fn comparing(q: &[usize; 72]) -> usize
+    ensures { λ r. ⌜ r ≡ getD (now (q .entry)) 2 0 ⌝ }
 {
-    match n {
-        9 => Rule::Less(Syntax::Booleans),
-        10 => Rule::Less(Syntax::Integers),
-        11 => Rule::Less(Syntax::ObjectIdentifiers),
-        12 => Rule::Less(Syntax::OctetStrings),
-        13 => Rule::Less(Syntax::BitStrings),
-        14 => Rule::Less(Syntax::Strings(true)),
-        15 => Rule::Less(Syntax::Strings(false)),
-        _ => Rule::Less(Syntax::Times),
-    }
+    q[2]
 }
 
-// The rule of a number.
-fn rule_numbered(n: usize) -> Rule
-    ensures { λ r. ⌜ meant r ≡ ruleNumbered n ⌝ }
+// The number that it is with.
+pub fn compared_number(q: &[usize; 72]) -> usize
+    ensures { λ r. ⌜ r ≡ getD (now (q .entry)) 3 0 ⌝ }
 {
-    if 8 < n {
-        return less_numbered(n);
-    }
-    match n {
-        0 => Rule::Present,
-        1 => Rule::Equal(Syntax::Booleans),
-        2 => Rule::Equal(Syntax::Integers),
-        3 => Rule::Equal(Syntax::ObjectIdentifiers),
-        4 => Rule::Equal(Syntax::OctetStrings),
-        5 => Rule::Equal(Syntax::BitStrings),
-        6 => Rule::Equal(Syntax::Strings(true)),
-        7 => Rule::Equal(Syntax::Strings(false)),
-        _ => Rule::Equal(Syntax::Times),
-    }
+    q[3]
 }
 
-// The rule of a test.
-pub fn rule(q: &[usize; 72]) -> Rule
-    ensures { λ r. ⌜ meant r ≡ ruleNumbered (getD (now (q .entry)) 2 0) ⌝ }
-{
-    rule_numbered(q[2])
-}
-
-// The number of a syntax of strings.
-fn string_number(fold: bool) -> usize
-    ensures { λ n. ⌜ n ≡ pick fold 6 7 ⌝ }
-{
-    if fold {
-        return 6;
-    }
-    7
-}
-
-// The number of a syntax among the equality rules, and 8 more among the ordering rules.
-fn syntax_number(syntax: Syntax) -> usize
-    ensures equal { λ n. ⌜ ruleNumbered n ≡ equal (syntaxOf syntax) ⌝ }
-    ensures less { λ n. ⌜ ruleNumbered (n + 8) ≡ less (syntaxOf syntax) ⌝ }
-    ensures low { λ n. ⌜ n ≤ 8 ⌝ }
+// ---- the operand
+fn syntax_form(syntax: Syntax) -> Form
+    ensures { λ r. ⌜ r ≡ operands.syntaxForm (syntaxOf syntax) ⌝ }
 {
     match syntax {
-        Syntax::Booleans => 1,
-        Syntax::Integers => 2,
-        Syntax::ObjectIdentifiers => 3,
-        Syntax::OctetStrings => 4,
-        Syntax::BitStrings => 5,
-        Syntax::Strings(fold) => string_number(fold),
-        Syntax::Times => 8,
+        Syntax::Booleans => Form::Whole,
+        Syntax::Integers => Form::Whole,
+        Syntax::ObjectIdentifiers => Form::Whole,
+        Syntax::OctetStrings => Form::Whole,
+        Syntax::BitStrings => Form::Whole,
+        Syntax::Strings(_) => Form::Squeezed,
+        Syntax::Times => Form::Quoted,
     }
 }
 
-// The number of a rule.
-fn rule_number(rule: Rule) -> usize
-    ensures { λ n. ⌜ ruleNumbered n ≡ meant rule ⌝ }
+fn rule_form(rule: Rule) -> Form
+    ensures { λ r. ⌜ r ≡ operands.formOf (meant rule) ⌝ }
 {
     match rule {
-        Rule::Present => 0,
-        Rule::Equal(syntax) => syntax_number(syntax),
-        Rule::Less(syntax) => syntax_number(syntax) + 8,
+        Rule::Present => Form::Whole,
+        Rule::Equal(syntax) => syntax_form(syntax),
+        Rule::Less(syntax) => syntax_form(syntax),
     }
 }
 
-// Writes the task: a count up to a limit.
+// The part of a value text that its operand is made of.
+pub fn operand_part(rule: Rule, text: &[u8]) -> &[u8]
+    ensures part { λ r. ⌜ operands.Part (meant rule) (now (text .entry)) (now r) ⌝ }
+    ensures short { λ r. ⌜ length (now r) ≤ length (now (text .entry)) ⌝ }
+{
+    match rule_form(rule) {
+        Form::Whole => text,
+        Form::Quoted => strings::quoted_part(text),
+        Form::Squeezed => strings::quoted_part(text),
+    }
+}
+
+// Whether that part is the operand as it stands.
+pub fn is_operand(rule: Rule, part: &[u8]) -> bool
+    ensures { λ r. ⌜ r ≡ operands.stands (meant rule) (now (part .entry)) ⌝ }
+{
+    match rule_form(rule) {
+        Form::Whole => true,
+        Form::Quoted => true,
+        Form::Squeezed => strings::is_squeezed(part),
+    }
+}
+
+// ---- the test of a rule with an operand
+fn alone(comparison: usize) -> TestNumbers
+    ensures { λ r. ⌜ r ≡ record { comparison = comparison; number = 0 } ⌝ }
+{
+    TestNumbers {
+        comparison,
+        number: 0,
+    }
+}
+
+fn truth_test(x: &[u8]) -> TestNumbers
+    ensures { λ r. ⌜ tests.reportTest r ≡ tests.equalTest rule.booleans (now (x .entry)) ⌝ }
+{
+    if octets::same(x, b"TRUE") {
+        return alone(Comparison::TRUE);
+    }
+    alone(Comparison::FALSE)
+}
+
+fn same_test(bound: Bound) -> TestNumbers
+    ensures { λ r. ⌜ tests.reportTest r ≡ tests.sameInteger bound ⌝ }
+{
+    match bound {
+        Bound::At(n) => TestNumbers {
+            comparison: Comparison::SAME_INTEGER,
+            number: n as usize,
+        },
+        Bound::Under => alone(Comparison::SAME_UNDER),
+        Bound::Over => alone(Comparison::SAME_OVER),
+    }
+}
+
+fn less_test(bound: Bound) -> TestNumbers
+    ensures { λ r. ⌜ tests.reportTest r ≡ tests.lessInteger bound ⌝ }
+{
+    match bound {
+        Bound::At(n) => TestNumbers {
+            comparison: Comparison::LESS_INTEGER,
+            number: n as usize,
+        },
+        Bound::Under => alone(Comparison::LESS_UNDER),
+        Bound::Over => alone(Comparison::LESS_OVER),
+    }
+}
+
+// Arcs that can't be stored are equal to none.
+fn arcs_test(x: &[u8]) -> TestNumbers
+    ensures { λ r. ⌜ tests.reportTest r ≡ tests.equalTest rule.objectIdentifiers (now (x .entry)) ⌝ }
+{
+    if dotted::fits_stored(x) {
+        return alone(Comparison::ARCS);
+    }
+    alone(Comparison::NONE)
+}
+
+fn bits_test(x: &[u8]) -> TestNumbers
+    ensures { λ r. ⌜ tests.reportTest r ≡ tests.equalTest rule.bitStrings (now (x .entry)) ⌝ }
+{
+    if digits::is_bit_text(x) {
+        return alone(Comparison::BINARY);
+    }
+    alone(Comparison::HEXADECIMAL)
+}
+
+fn string_test(fold: bool) -> TestNumbers
+    ensures { λ r. ⌜ tests.reportTest r ≡ tests.string fold ⌝ }
+{
+    if fold {
+        return alone(Comparison::FOLDED);
+    }
+    alone(Comparison::EXACT)
+}
+
+fn equal_test(syntax: Syntax, x: &[u8]) -> TestNumbers
+    ensures { λ r. ⌜ tests.reportTest r ≡ tests.equalTest (syntaxOf syntax) (now (x .entry)) ⌝ }
+{
+    match syntax {
+        Syntax::Booleans => truth_test(x),
+        Syntax::Integers => same_test(integers::bound_of(x)),
+        Syntax::ObjectIdentifiers => arcs_test(x),
+        Syntax::OctetStrings => alone(Comparison::OCTETS),
+        Syntax::BitStrings => bits_test(x),
+        Syntax::Strings(fold) => string_test(fold),
+        Syntax::Times => alone(Comparison::TIME),
+    }
+}
+
+fn ordering_test(syntax: Syntax, x: &[u8]) -> TestNumbers
+    ensures { λ r. ⌜ tests.reportTest r ≡ tests.lessTest (syntaxOf syntax) (now (x .entry)) ⌝ }
+{
+    match syntax {
+        Syntax::Booleans => alone(Comparison::NONE),
+        Syntax::Integers => less_test(integers::bound_of(x)),
+        Syntax::ObjectIdentifiers => alone(Comparison::NONE),
+        Syntax::OctetStrings => alone(Comparison::LESS_OCTETS),
+        Syntax::BitStrings => alone(Comparison::NONE),
+        Syntax::Strings(_) => alone(Comparison::NONE),
+        Syntax::Times => alone(Comparison::EARLIER),
+    }
+}
+
+fn test_for(rule: Rule, x: &[u8]) -> TestNumbers
+    ensures { λ r. ⌜ tests.reportTest r ≡ tests.testFor (meant rule) (now (x .entry)) ⌝ }
+{
+    match rule {
+        Rule::Present => alone(Comparison::ANY),
+        Rule::Equal(syntax) => equal_test(syntax, x),
+        Rule::Less(syntax) => ordering_test(syntax, x),
+    }
+}
+
+// ---- writing the task
+// A count up to a limit.
 pub fn plan_tally(q: &mut [usize; 72], limit: usize)
     requires { ⌜ length (now q) ≡ 72 ⌝ }
     ensures task { λ _. ⌜ tasks.taskOf (now (q .exit)) ≡ tasks.counting limit ⌝ }
@@ -183,15 +335,17 @@ pub fn plan_tally(q: &mut [usize; 72], limit: usize)
     q[1] = limit;
 }
 
-// A test with a rule within a budget.
-pub fn plan_test(q: &mut [usize; 72], rule: Rule, budget: usize)
+// A test with a rule and an operand within a budget.
+pub fn plan_test(q: &mut [usize; 72], rule: Rule, x: &[u8], budget: usize)
     requires { ⌜ length (now q) ≡ 72 ⌝ }
-    ensures task { λ _. ⌜ tasks.taskOf (now (q .exit)) ≡ tasks.testing (meant rule) budget ⌝ }
+    ensures task { λ _. ⌜ tasks.taskOf (now (q .exit)) ≡ tasks.testing (tests.testFor (meant rule) (now (x .entry))) budget ⌝ }
     ensures room { λ _. ⌜ length (now (q .exit)) ≡ 72 ⌝ }
 {
+    let test = test_for(rule, x);
     q[0] = 2;
     q[1] = budget;
-    q[2] = rule_number(rule);
+    q[2] = test.comparison;
+    q[3] = test.number;
 }
 
 // The listing of what a plan counts: the same steps stand for it.
@@ -203,24 +357,121 @@ pub fn plan_listing(q: &mut [usize; 72])
     q[0] = 1;
 }
 
-// Whether the task lets contents pass: a test by its rule.
-pub fn passes_contents(q: &[usize; 72], text: &[u8], c: &[u8]) -> bool
-    ensures { λ r. ⌜ r ≡ tasks.passesContents (tasks.taskOf (now (q .entry))) (now (text .entry)) (now (c .entry)) ⌝ }
+// ---- what a task lets pass
+fn numbered_bound(k: usize, n: usize) -> Bound
+    ensures { λ r. ⌜ r ≡ tests.boundNumbered k n ⌝ }
+{
+    if k == 0 {
+        return Bound::At(n as u64);
+    }
+    if k == 1 {
+        return Bound::Under;
+    }
+    Bound::Over
+}
+
+// Any value, none, a truth.
+fn accepts_plain(comparison: usize, c: &[u8]) -> bool
+    ensures { λ r. ⌜ r ≡ tests.accepted (tests.plainTest comparison) [] (now (c .entry)) ⌝ }
+{
+    if comparison == Comparison::ANY {
+        return true;
+    }
+    if comparison == Comparison::NONE {
+        return false;
+    }
+    if comparison == Comparison::TRUE {
+        return der::read_boolean(c);
+    }
+    !der::read_boolean(c)
+}
+
+// Arcs, octets, bits.
+fn accepts_digits(comparison: usize, x: &[u8], c: &[u8]) -> bool
+    ensures { λ r. ⌜ r ≡ tests.accepted (tests.digitTest comparison) (now (x .entry)) (now (c .entry)) ⌝ }
+{
+    if comparison == Comparison::ARCS {
+        return dotted::same_arcs(x, c);
+    }
+    if comparison == Comparison::OCTETS {
+        return digits::same_hex(c, digits::operand(x));
+    }
+    if comparison == Comparison::LESS_OCTETS {
+        return digits::less_hex(c, digits::operand(x));
+    }
+    digits::same_bits(c, digits::operand(x), comparison == Comparison::HEXADECIMAL)
+}
+
+// Times, strings.
+fn accepts_text(comparison: usize, x: &[u8], c: &[u8]) -> bool
+    ensures { λ r. ⌜ r ≡ tests.accepted (tests.textTest comparison) (now (x .entry)) (now (c .entry)) ⌝ }
+{
+    if comparison == Comparison::TIME {
+        return der::same_time(der::read_time(c), der::read_time(x));
+    }
+    if comparison == Comparison::EARLIER {
+        return der::earlier(der::read_time(c), der::read_time(x));
+    }
+    strings::same_squeezed(c, x, comparison == Comparison::FOLDED)
+}
+
+fn accepts(comparison: usize, n: usize, x: &[u8], c: &[u8]) -> bool
+    ensures { λ r. ⌜ r ≡ tests.accepted (tests.testOf comparison n) (now (x .entry)) (now (c .entry)) ⌝ }
+{
+    if comparison < Comparison::SAME_INTEGER {
+        return accepts_plain(comparison, c);
+    }
+    if comparison < Comparison::LESS_INTEGER {
+        return integers::same_contents(c, numbered_bound(comparison - Comparison::SAME_INTEGER, n));
+    }
+    if comparison < Comparison::ARCS {
+        return integers::less_contents(c, numbered_bound(comparison - Comparison::LESS_INTEGER, n));
+    }
+    if comparison < Comparison::FOLDED {
+        return accepts_digits(comparison, x, c);
+    }
+    accepts_text(comparison, x, c)
+}
+
+// Whether the task lets contents pass: a test by its comparison with the operand.
+pub fn passes_contents(q: &[usize; 72], x: &[u8], c: &[u8]) -> bool
+    ensures { λ r. ⌜ r ≡ tasks.passesContents (tasks.taskOf (now (q .entry))) (now (x .entry)) (now (c .entry)) ⌝ }
 {
     if task(q) < 2 {
         return true;
     }
-    rules::accepts_contents(rule(q), text, c)
+    accepts(comparing(q), compared_number(q), x, c)
+}
+
+fn accepts_count(comparison: usize, number: usize, n: u64) -> bool
+    ensures { λ r. ⌜ r ≡ tests.acceptedCount (tests.testOf comparison number) n ⌝ }
+{
+    if comparison < Comparison::SAME_INTEGER {
+        return comparison == Comparison::ANY;
+    }
+    if comparison < Comparison::LESS_INTEGER {
+        return integers::same_count(
+            n,
+            numbered_bound(comparison - Comparison::SAME_INTEGER, number),
+        );
+    }
+    if comparison < Comparison::ARCS {
+        return integers::less_count(
+            n,
+            numbered_bound(comparison - Comparison::LESS_INTEGER, number),
+        );
+    }
+    false
 }
 
 // Whether it lets a count pass.
-pub fn passes_count(q: &[usize; 72], text: &[u8], n: usize) -> bool
-    ensures { λ r. ⌜ r ≡ tasks.passesCount (tasks.taskOf (now (q .entry))) (now (text .entry)) n ⌝ }
+pub fn passes_count(q: &[usize; 72], n: usize) -> bool
+    ensures { λ r. ⌜ r ≡ tasks.passesCount (tasks.taskOf (now (q .entry))) n ⌝ }
 {
     if task(q) < 2 {
         return true;
     }
-    rules::accepts_count(rule(q), text, n as u64)
+    accepts_count(comparing(q), compared_number(q), n as u64)
 }
 
 // ---- resolution of a reference
@@ -367,16 +618,16 @@ fn is_on(defaults: bool, size: usize, next: usize) -> bool
 }
 
 // What the absent member of a row comes to.
-fn absent_member(t: &[u8], w: &[u64; 256], q: &[usize; 72], text: &[u8], row: usize) -> usize
+fn absent_member(t: &[u8], w: &[u64; 256], q: &[usize; 72], x: &[u8], row: usize) -> usize
     requires worded { ⌜ Worded (now t) (now w) ⌝ }
     requires here { ⌜ row < length (tableRows (now t)) ⌝ }
     requires member { ⌜ MemberRow (now t) row ⌝ }
-    ensures { λ r. ⌜ r ≡ resolve.lastAbsent (now (t .entry)) (tasks.taskOf (now (q .entry))) (now (text .entry)) row ⌝ }
+    ensures { λ r. ⌜ r ≡ resolve.lastAbsent (now (t .entry)) (tasks.taskOf (now (q .entry))) (now (x .entry)) row ⌝ }
 {
     if table::presence(t, w, row) != 2 {
         return 0;
     }
-    if passes_contents(q, text, rows::default_at(t, table::place(t, w, row))) {
+    if passes_contents(q, x, rows::default_at(t, table::place(t, w, row))) {
         return 2;
     }
     1
@@ -387,7 +638,7 @@ fn absent_step(
     t: &[u8],
     w: &[u64; 256],
     q: &[usize; 72],
-    text: &[u8],
+    x: &[u8],
     on: bool,
     sort: usize,
     first: usize,
@@ -395,7 +646,7 @@ fn absent_step(
 ) -> usize
     requires worded { ⌜ Worded (now t) (now w) ⌝ }
     requires member { ⌜ resolve.NamesMember (now t) sort first second ⌝ }
-    ensures { λ r. ⌜ r ≡ resolve.absentFor (now (t .entry)) (tasks.taskOf (now (q .entry))) (now (text .entry)) on sort first second ⌝ }
+    ensures { λ r. ⌜ r ≡ resolve.absentFor (now (t .entry)) (tasks.taskOf (now (q .entry))) (now (x .entry)) on sort first second ⌝ }
 {
     if !on {
         return 0;
@@ -403,7 +654,7 @@ fn absent_step(
     if sort != Sort::MEMBER {
         return 0;
     }
-    absent_member(t, w, q, text, first + 1 + second)
+    absent_member(t, w, q, x, first + 1 + second)
 }
 
 // ---- along a reference
@@ -426,23 +677,23 @@ fn plan_next(
     w: &[u64; 256],
     q: &mut [usize; 72],
     r: &[u8],
-    text: &[u8],
+    x: &[u8],
     defaults: bool,
     here: Point,
 ) -> Resolved
     requires worded { ⌜ Worded (now t) (now w) ⌝ }
     requires admitted { ⌜ admitted tableLimits (now t) ≡ true ⌝ }
     requires room { ⌜ length (now q) ≡ 72 ⌝ }
-    requires resolving { ⌜ resolve.Resolving (now t) (now r) (now text) defaults (now q) (here .row) (here .place) (here .step) ⌝ }
+    requires resolving { ⌜ resolve.Resolving (now t) (now r) (now x) defaults (now q) (here .row) (here .place) (here .step) ⌝ }
     requires inside { ⌜ here .place ≤ length (now r) ⌝ }
-    ensures nexts { λ n. ⌜ resolve.Nexts (now (t .entry)) (now (r .entry)) (now (text .entry)) defaults (now (q .exit)) (here .place) (here .step) n ⌝ }
+    ensures nexts { λ n. ⌜ resolve.Nexts (now (t .entry)) (now (r .entry)) (now (x .entry)) defaults (now (q .exit)) (here .place) (here .step) n ⌝ }
     ensures task { λ n. ⌜ tasks.taskOf (now (q .exit)) ≡ tasks.taskOf (now (q .entry)) ⌝ }
     ensures room { λ n. ⌜ length (now (q .exit)) ≡ 72 ⌝ }
 {
     match plan_id(t, w, r, here.place, here.row) {
         Planning::To(sort, first, second, to, next) => {
             let on = is_on(defaults, r.len(), next);
-            let absent = absent_step(t, w, q, text, on, sort, first, second);
+            let absent = absent_step(t, w, q, x, on, sort, first, second);
             write(q, here.step, sort, first, second, absent);
             Resolved::On(to, next)
         }
@@ -460,7 +711,7 @@ fn follow(
     w: &[u64; 256],
     q: &mut [usize; 72],
     r: &[u8],
-    text: &[u8],
+    x: &[u8],
     defaults: bool,
 ) -> Target
     requires worded { ⌜ Worded (now t) (now w) ⌝ }
@@ -468,7 +719,7 @@ fn follow(
     requires room { ⌜ length (now q) ≡ 72 ⌝ }
     ensures leads { λ g. ⌜ reference.LeadsAlong (tableLimits .chain) (now (t .entry)) (tableRows (now (t .entry))) (reference.idsAt (now (r .entry)) 0) g ⌝ }
     ensures within { λ g. ⌜ reference.rowWithin (tableRows (now (t .entry))) g ≡ true ⌝ }
-    ensures planned { λ g. ⌜ resolve.Follows (now (t .entry)) (now (r .entry)) (now (text .entry)) defaults (now (q .exit)) g ⌝ }
+    ensures planned { λ g. ⌜ resolve.Follows (now (t .entry)) (now (r .entry)) (now (x .entry)) defaults (now (q .exit)) g ⌝ }
     ensures task { λ g. ⌜ tasks.taskOf (now (q .exit)) ≡ tasks.taskOf (now (q .entry)) ⌝ }
     ensures room { λ g. ⌜ length (now (q .exit)) ≡ 72 ⌝ }
 {
@@ -476,7 +727,7 @@ fn follow(
     let mut place = 0;
     let mut step = 1;
     while place <= r.len() {
-        match plan_next(t, w, q, r, text, defaults, Point { row, place, step }) {
+        match plan_next(t, w, q, r, x, defaults, Point { row, place, step }) {
             Resolved::On(to, next) => {
                 row = to;
                 place = next;
@@ -490,7 +741,7 @@ fn follow(
     Target::Row(row)
 }
 
-// Writes the steps of a reference, where one is given, on the type of row 0, for the plan's task with the asserted text; what it leads to, or nothing, where
+// Writes the steps of a reference, where one is given, on the type of row 0, for the plan's task with the operand; what it leads to, or nothing, where
 // it is malformed or not allowed.
 pub fn resolve(
     t: &[u8],
@@ -498,7 +749,7 @@ pub fn resolve(
     q: &mut [usize; 72],
     given: bool,
     r: &[u8],
-    text: &[u8],
+    x: &[u8],
     defaults: bool,
 ) -> Target
     requires worded { ⌜ Worded (now t) (now w) ⌝ }
@@ -506,7 +757,7 @@ pub fn resolve(
     requires room { ⌜ length (now q) ≡ 72 ⌝ }
     ensures leads { λ g. ⌜ reference.Leads (tableLimits .chain) (now (t .entry)) (tableRows (now (t .entry))) given (now (r .entry)) g ⌝ }
     ensures within { λ g. ⌜ reference.rowWithin (tableRows (now (t .entry))) g ≡ true ⌝ }
-    ensures planned { λ g. ⌜ resolve.Resolves (now (t .entry)) given (now (r .entry)) (now (text .entry)) defaults (now (q .exit)) g ⌝ }
+    ensures planned { λ g. ⌜ resolve.Resolves (now (t .entry)) given (now (r .entry)) (now (x .entry)) defaults (now (q .exit)) g ⌝ }
     ensures task { λ g. ⌜ tasks.taskOf (now (q .exit)) ≡ tasks.taskOf (now (q .entry)) ⌝ }
     ensures room { λ g. ⌜ length (now (q .exit)) ≡ 72 ⌝ }
 {
@@ -514,5 +765,5 @@ pub fn resolve(
         write_end(q, 1);
         return Target::Row(0);
     }
-    follow(t, w, q, r, text, defaults)
+    follow(t, w, q, r, x, defaults)
 }

@@ -1,4 +1,4 @@
--- What the steps and the layers above use: the rule for the type of a row by the row, and what a conforming text and legal contents give the code to read.
+-- What the steps and the layers above use: the rule for the type of a row by the row, and what a text asserts.
 use mathlib.Core.Path.{_≡_, refl, sym, ap, ap₂, subst, _∙_}
 use mathlib.Core.Bool.{Bool, true, false, false≢true}
 use mathlib.Core.Option.{Option, none, some}
@@ -6,15 +6,13 @@ use mathlib.Core.List.{List}
 use Prim.Native.Nat.{ℕ, zero, suc, _≤_, _<_, _+_}
 use native.Mathlib.Omega.{arith}
 use native.Mathlib.Nat.{add-zero}
-use borrow.Author.Tests.{ne-eqb, eqb-true, le-leb}
+use borrow.Author.Tests.{ne-eqb, eqb-true}
 use lib.Dec.{eqb}
 use lib.ListN.{length}
 use Rattle.octets.specs.Pick.{pick, both, either, all, bind, isSome}
-use Rattle.octets.proofs.Laws.{both-true, all-none}
+use Rattle.octets.proofs.Laws.{all-none}
 use Rattle.octets.proofs.TextLaws.{all-suc}
 use Rattle.der.specs.Kind.{isString}
-use Rattle.der.specs.Contents.{legal}
-use Rattle.der.proofs.Laws.{integer-octets, legal-integer}
 use Rattle.der.proofs.MeaningLaws.{string-kinds}
 use Rattle.rows.specs.Paper.{tableLimits}
 use Rattle.rows.specs.Row.{rowAt, kindAt, namedAt, modeAt, numberAt, isList, membersAt}
@@ -23,16 +21,14 @@ use Rattle.types.specs.Types.{untagged, explicit, implicit, Ty, basic, choice, 
 use Rattle.types.proofs.TypeCases.{tagging-cases, member-tagging, members-none, members-more, typed-cases}
 use Rattle.table.specs.inner.Rows.{tableRows, placeAt, typeAt, membersAfter, memberKindAt}
 use Rattle.table.specs.inner.Words.{Worded}
-use Rattle.reference.specs.Allowed.{Target, ofType, ofCount}
+use Rattle.reference.specs.Allowed.{Target, ofType}
 use Rattle.rules.specs.Rule.{Syntax, booleans, integers, objectIdentifiers, octetStrings, bitStrings, strings, times, Rule, present, equal, less, Known, ruleOf}
 use Rattle.rules.specs.Suits.{suitsKind, isUntagged, isStringType, allStrings, suitsTarget, suits}
-use Rattle.integers.specs.Asserted.{assertedInteger}
 use Rattle.times.specs.Asserted.{assertedTime}
 use Rattle.der.specs.declared.Time.{Time}
-use Rattle.rules.specs.Asserted.{Asserted, integer, time, assertedIn, assertedOf}
-use Rattle.rules.specs.Accepts.{acceptsCount}
+use Rattle.rules.specs.Asserted.{Asserted, time, assertedIn, assertedOf}
 use Rattle.rules.specs.RuleFor.{comparison, ifFor, ruleFor}
-use Rattle.rules.specs.inner.Answers.{conformsTo, conforms, timeOr, saidIn, said, isRead, isReadBy, acceptsCountRead, stringRow}
+use Rattle.rules.specs.inner.Answers.{conformsTo, conforms, timeOr, saidIn, said, stringRow}
 
 -- ---- tests in a row, from the first and from the last
 front : (ℕ → Bool) → ℕ → ℕ → Bool
@@ -160,44 +156,6 @@ module _ (t w : List ℕ) (ok : Worded t w) where
         ∙ sym (typed-suits x t (tableRows t) i (typeAt t (namedAt t (placeAt t i))) (membersAfter t i))
         ∙ ap (λ (y : Ty). suitsTarget x (ofType y)) (sym (ok .ready .sound .step i here))
 
--- ---- what the code reads to the end
-module _ (t c : List ℕ) where
-  basic-read : (x : Syntax) (k : ℕ) → suitsKind x k ≡ true → conformsTo x t ≡ true → legal k c ≡ true → length c ≤ 65536 → isRead x t c ≡ true
-  unfolding isRead conformsTo
-  basic-read booleans k h f g n = f
-  basic-read integers k h f g n =
-      let e : k ≡ 2 = eqb-true k 2 h in
-      le-leb (length c) 8 (integer-octets c (sym (legal-integer c) ∙ subst (λ (y : ℕ). legal y c ≡ true) e g) .1)
-  basic-read objectIdentifiers k h f g n = refl
-  basic-read octetStrings k h f g n = refl
-  basic-read bitStrings k h f g n = le-leb (length c) 65536 n
-  basic-read (strings fold) k h f g n = refl
-  basic-read times k h f g n = f
-
-  -- contents of a basic kind that the check of a value lets through, under a rule that is for it
-  pub read-basic : (r : Rule) (k : ℕ) → suits r (ofType (basic k)) ≡ true → conforms r t ≡ true → legal k c ≡ true → length c ≤ 65536 → isReadBy r t c ≡ true
-  unfolding suits suitsTarget conforms isReadBy
-  read-basic present k h f g n = refl
-  read-basic (equal x) k h f g n = basic-read x k h f g n
-  read-basic (less x) k h f g n = basic-read x k h f g n
-
-  choice-read : (x : Syntax) → suitsKind x 8 ≡ true → isRead x t c ≡ true
-  unfolding isRead
-  choice-read booleans h = absurd (false≢true h)
-  choice-read integers h = absurd (false≢true h)
-  choice-read objectIdentifiers h = refl
-  choice-read octetStrings h = refl
-  choice-read bitStrings h = absurd (false≢true h)
-  choice-read (strings fold) h = refl
-  choice-read times h = absurd (false≢true h)
-
-  -- contents of an alternative, under a rule that is for the CHOICE
-  pub read-choice : (r : Rule) (ms : Members) → suits r (ofType (choice ms)) ≡ true → isReadBy r t c ≡ true
-  unfolding suits suitsTarget isReadBy
-  read-choice present ms h = refl
-  read-choice (equal x) ms h = choice-read x (both-true (suitsKind x 8) (allStrings ms) h .0)
-  read-choice (less x) ms h = choice-read x (both-true (suitsKind x 8) (allStrings ms) h .0)
-
 -- ---- what a text asserts: nothing where it doesn't conform, whatever the reference leads to
 asserted-in : (x : Syntax) (g : Target) (t : List ℕ) → assertedIn x g t ≡ pick (conformsTo x t) (some (saidIn x t)) none
 unfolding assertedIn conformsTo saidIn
@@ -218,24 +176,6 @@ unfolding assertedOf conforms said
 asserted-is present g t = refl
 asserted-is (equal x) g t = asserted-in x g t
 asserted-is (less x) g t = asserted-in x g t
-
--- ---- the text of a rule that is for a count asserts an integer
-module _ (t : List ℕ) where
-  count-said : (x : Syntax) → suitsKind x 2 ≡ true → integer (assertedInteger t) ≡ saidIn x t
-  unfolding saidIn
-  count-said booleans h = absurd (false≢true h)
-  count-said integers h = refl
-  count-said objectIdentifiers h = absurd (false≢true h)
-  count-said octetStrings h = absurd (false≢true h)
-  count-said bitStrings h = absurd (false≢true h)
-  count-said (strings fold) h = absurd (false≢true (sym (string-kinds 2) ∙ h))
-  count-said times h = absurd (false≢true h)
-
-  pub read-count : (r : Rule) (n : ℕ) → suits r ofCount ≡ true → acceptsCountRead r t n ≡ acceptsCount r (said r t) n
-  unfolding suits suitsTarget acceptsCountRead acceptsCount said
-  read-count present n h = refl
-  read-count (equal x) n h = ap (λ (a : Asserted). acceptsCount (equal x) a n) (count-said x h)
-  read-count (less x) n h = ap (λ (a : Asserted). acceptsCount (less x) a n) (count-said x h)
 
 -- ---- the rule of an assertion is for the target, and the value text conforms
 module _ (ks : List Known) (g : Target) (rule value : List ℕ) where

@@ -1,35 +1,27 @@
 -- One lemma for each case of a syntax or a rule.
-use mathlib.Core.Path.{_≡_, refl, sym, ap, _∙_}
+use mathlib.Core.Path.{_≡_, sym, ap, _∙_}
 use mathlib.Core.Bool.{Bool, true, false, not}
-use mathlib.Core.Option.{Option, none, some}
 use mathlib.Core.List.{List, [], _∷_}
 use Prim.Native.Nat.{ℕ, _<_, _+_}
-use borrow.Author.Tests.{eq-eqb, ne-eqb, eqb-true, not-true, not-false}
+use borrow.Author.Tests.{eq-eqb, ne-eqb, not-true, not-false}
 use lib.Dec.{leb, eqb}
 use lib.ListN.{length}
-use Rattle.octets.specs.Pick.{pick, both, either, no, all, isSome}
-use Rattle.octets.specs.Octets.{same, below, bytes}
-use Rattle.octets.proofs.Laws.{never, both-true}
+use Rattle.octets.specs.Pick.{pick, both, all, isSome}
+use Rattle.octets.specs.Octets.{same, bytes}
 use Rattle.der.specs.Kind.{isString}
-use Rattle.der.specs.Time.{timeOf, sameTime, earlier}
-use Rattle.der.specs.Meaning.{plus, sameWhole, lessWhole, integerOf, booleanOf, arcsOf, bitsOf}
-use Rattle.der.specs.Dotted.{isDotted, dottedArcs}
+use Rattle.der.specs.Dotted.{isDotted}
 use Rattle.der.proofs.MeaningLaws.{string-kinds}
-use Rattle.integers.specs.Asserted.{isInteger, assertedInteger}
-use Rattle.digits.specs.Asserted.{isOctets, isBits, assertedOctets, assertedBits}
-use Rattle.strings.specs.Asserted.{isText, assertedText}
-use Rattle.strings.specs.Prepared.{prepared}
+use Rattle.integers.specs.Asserted.{isInteger}
+use Rattle.digits.specs.Asserted.{isOctets, isBits}
+use Rattle.strings.specs.Asserted.{isText}
 use Rattle.times.specs.Asserted.{assertedTime}
-use Rattle.times.specs.inner.Answers.{against}
-use Rattle.der.specs.declared.Time.{Time}
 use Rattle.rows.specs.Row.{kindAt, modeAt, membersAt}
 use Rattle.table.specs.inner.Rows.{tableRows, placeAt, typeAt, memberKindAt}
 use Rattle.table.specs.inner.Words.{Worded}
 use Rattle.reference.specs.Allowed.{ofType, ofCount}
 use Rattle.rules.specs.Suits.{suitsKind, suitsTarget, suits}
 use Rattle.rules.specs.Asserted.{isTruth}
-use Rattle.rules.specs.Accepts.{isEqual, isLess, acceptsContents, acceptsCount}
-use Rattle.rules.specs.inner.Answers.{syntaxOf, meant, conformsTo, conforms, timeOr, saidIn, said, isRead, isReadBy, acceptsContentsRead, acceptsCountRead, stringRow}
+use Rattle.rules.specs.inner.Answers.{syntaxOf, meant, conformsTo, conforms, stringRow}
 use Rattle.rules.specs.declared.Syntax as syntax
 use Rattle.rules.specs.declared.Rule as rule
 use Rattle.rules.proofs.Laws.{suits-syntax}
@@ -85,121 +77,6 @@ module _ (x : rule.Rule) (t : List ℕ) (r : Bool) where
   pub conform-less : (s : syntax.Syntax) → x ≡ rule.Rule.Less s → r ≡ conformsTo (syntaxOf s) t → r ≡ conforms (meant x) t
   unfolding conforms
   conform-less s e h = rw e h
-
--- ---- acceptance
-module _ (t c : List ℕ) (r u : Bool) (told : u ≡ booleanOf c) where
-  pub boolean-true : u ≡ true → r ≡ same t (bytes "TRUE") → r ≡ pick (booleanOf c) (same t (bytes "TRUE")) (same t (bytes "FALSE"))
-  boolean-true h e = rw (sym told ∙ h) e
-
-  pub boolean-false : u ≡ false → r ≡ same t (bytes "FALSE") → r ≡ pick (booleanOf c) (same t (bytes "TRUE")) (same t (bytes "FALSE"))
-  boolean-false h e = rw (sym told ∙ h) e
-
--- `TRUE` isn't `FALSE`
-true-not-false : (t : List ℕ) → same t (bytes "TRUE") ≡ true → same t (bytes "FALSE") ≡ false
-unfolding same
-true-not-false [] e = refl
-true-not-false (a ∷ l) e =
-    let z : a ≡ 84 = eqb-true a 84 (both-true (eqb a 84) (same l (bytes "RUE")) e .0) in
-    ap (λ (y : ℕ). both (eqb y 70) (same l (bytes "ALSE"))) z
-
-module _ (x : syntax.Syntax) (t c : List ℕ) where
-  pub equal-booleans : (r : Bool) → x ≡ syntax.Syntax.Booleans → r ≡ pick (booleanOf c) (same t (bytes "TRUE")) (same t (bytes "FALSE")) → r ≡ both (isRead (syntaxOf x) t c) (isEqual (saidIn (syntaxOf x) t) c)
-  unfolding isRead isEqual saidIn isTruth
-  equal-booleans r e h = rw e (h ∙ go (booleanOf c) (same t (bytes "TRUE")) (same t (bytes "FALSE")) (true-not-false t))
-    where
-      go : (s a b : Bool) → (a ≡ true → b ≡ false) → pick s a b ≡ both (either a b) (pick s a (no a))
-      go true true b d = refl
-      go true false b d = sym (never b)
-      go false true b d = d refl
-      go false false true d = refl
-      go false false false d = refl
-
-  pub equal-integers : (r : Bool) → x ≡ syntax.Syntax.Integers → r ≡ both (leb (length c) 8) (sameWhole (integerOf c) (assertedInteger t)) → r ≡ both (isRead (syntaxOf x) t c) (isEqual (saidIn (syntaxOf x) t) c)
-  unfolding isRead isEqual saidIn
-  equal-integers r e h = rw e h
-
-  pub equal-oids : (r : Bool) → x ≡ syntax.Syntax.ObjectIdentifiers → r ≡ same (arcsOf c) (dottedArcs t) → r ≡ both (isRead (syntaxOf x) t c) (isEqual (saidIn (syntaxOf x) t) c)
-  unfolding isRead isEqual saidIn
-  equal-oids r e h = rw e h
-
-  pub equal-octets : (r : Bool) → x ≡ syntax.Syntax.OctetStrings → r ≡ same c (assertedOctets t) → r ≡ both (isRead (syntaxOf x) t c) (isEqual (saidIn (syntaxOf x) t) c)
-  unfolding isRead isEqual saidIn
-  equal-octets r e h = rw e h
-
-  pub equal-bits : (r : Bool) → x ≡ syntax.Syntax.BitStrings → r ≡ both (leb (length c) 65536) (same (bitsOf c) (assertedBits t)) → r ≡ both (isRead (syntaxOf x) t c) (isEqual (saidIn (syntaxOf x) t) c)
-  unfolding isRead isEqual saidIn
-  equal-bits r e h = rw e h
-
-  pub equal-strings : (r : Bool) → (fold : Bool) → x ≡ syntax.Syntax.Strings fold → r ≡ same (prepared fold c) (prepared fold (assertedText t)) → r ≡ both (isRead (syntaxOf x) t c) (isEqual (saidIn (syntaxOf x) t) c)
-  unfolding isRead isEqual saidIn
-  equal-strings r fold e h = rw e h
-
-  pub equal-times : (r : Bool) → x ≡ syntax.Syntax.Times → r ≡ against (sameTime (timeOf c)) (assertedTime t) → r ≡ both (isRead (syntaxOf x) t c) (isEqual (saidIn (syntaxOf x) t) c)
-  unfolding isRead isEqual saidIn against
-  equal-times r e h = rw e (h ∙ go (assertedTime t))
-    where
-      go : (o : Option Time) → against (sameTime (timeOf c)) o ≡ both (isSome o) (isEqual (timeOr o) c)
-      go none = refl
-      go (some u) = refl
-
-  pub less-booleans : x ≡ syntax.Syntax.Booleans → false ≡ both (isRead (syntaxOf x) t c) (isLess (saidIn (syntaxOf x) t) c)
-  unfolding isRead isLess saidIn
-  less-booleans e = rw e (sym (never (isTruth t)))
-
-  pub less-integers : (r : Bool) → x ≡ syntax.Syntax.Integers → r ≡ both (leb (length c) 8) (lessWhole (integerOf c) (assertedInteger t)) → r ≡ both (isRead (syntaxOf x) t c) (isLess (saidIn (syntaxOf x) t) c)
-  unfolding isRead isLess saidIn
-  less-integers r e h = rw e h
-
-  pub less-oids : x ≡ syntax.Syntax.ObjectIdentifiers → false ≡ both (isRead (syntaxOf x) t c) (isLess (saidIn (syntaxOf x) t) c)
-  unfolding isRead isLess saidIn
-  less-oids e = rw e
-
-  pub less-octets : (r : Bool) → x ≡ syntax.Syntax.OctetStrings → r ≡ below c (assertedOctets t) → r ≡ both (isRead (syntaxOf x) t c) (isLess (saidIn (syntaxOf x) t) c)
-  unfolding isRead isLess saidIn
-  less-octets r e h = rw e h
-
-  pub less-bits : x ≡ syntax.Syntax.BitStrings → false ≡ both (isRead (syntaxOf x) t c) (isLess (saidIn (syntaxOf x) t) c)
-  unfolding isRead isLess saidIn
-  less-bits e = rw e (sym (never (leb (length c) 65536)))
-
-  pub less-strings : (fold : Bool) → x ≡ syntax.Syntax.Strings fold → false ≡ both (isRead (syntaxOf x) t c) (isLess (saidIn (syntaxOf x) t) c)
-  unfolding isRead isLess saidIn
-  less-strings fold e = rw e
-
-  pub less-times : (r : Bool) → x ≡ syntax.Syntax.Times → r ≡ against (earlier (timeOf c)) (assertedTime t) → r ≡ both (isRead (syntaxOf x) t c) (isLess (saidIn (syntaxOf x) t) c)
-  unfolding isRead isLess saidIn against
-  less-times r e h = rw e (h ∙ go (assertedTime t))
-    where
-      go : (o : Option Time) → against (earlier (timeOf c)) o ≡ both (isSome o) (isLess (timeOr o) c)
-      go none = refl
-      go (some u) = refl
-
-module _ (x : rule.Rule) (t : List ℕ) where
-  module _ (c : List ℕ) where
-    pub accept-present : x ≡ rule.Rule.Present → true ≡ acceptsContentsRead (meant x) t c
-    unfolding acceptsContentsRead isReadBy acceptsContents said
-    accept-present e = rw e
-
-    pub accept-equal : (r : Bool) (s : syntax.Syntax) → x ≡ rule.Rule.Equal s → r ≡ both (isRead (syntaxOf s) t c) (isEqual (saidIn (syntaxOf s) t) c) → r ≡ acceptsContentsRead (meant x) t c
-    unfolding acceptsContentsRead isReadBy acceptsContents said
-    accept-equal r s e h = rw e h
-
-    pub accept-less : (r : Bool) (s : syntax.Syntax) → x ≡ rule.Rule.Less s → r ≡ both (isRead (syntaxOf s) t c) (isLess (saidIn (syntaxOf s) t) c) → r ≡ acceptsContentsRead (meant x) t c
-    unfolding acceptsContentsRead isReadBy acceptsContents said
-    accept-less r s e h = rw e h
-
-  module _ (n : ℕ) where
-    pub count-present : x ≡ rule.Rule.Present → true ≡ acceptsCountRead (meant x) t n
-    unfolding acceptsCountRead acceptsCount
-    count-present e = rw e
-
-    pub count-equal : (r : Bool) (s : syntax.Syntax) → x ≡ rule.Rule.Equal s → r ≡ sameWhole (plus n) (assertedInteger t) → r ≡ acceptsCountRead (meant x) t n
-    unfolding acceptsCountRead acceptsCount
-    count-equal r s e h = rw e h
-
-    pub count-less : (r : Bool) (s : syntax.Syntax) → x ≡ rule.Rule.Less s → r ≡ lessWhole (plus n) (assertedInteger t) → r ≡ acceptsCountRead (meant x) t n
-    unfolding acceptsCountRead acceptsCount
-    count-less r s e h = rw e h
 
 -- ---- which rule is for which type
 pub string-is : (k : ℕ) (r : Bool) → r ≡ both (leb 8 k) (leb k 10) → r ≡ isString k

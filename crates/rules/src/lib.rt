@@ -1,14 +1,12 @@
-// Matching rules: known rules, which rule is for which type, conforming value texts, acceptance.
+// Matching rules: known rules, which rule is for which type, conforming value texts.
 use der::Kind;
 ghost use mathlib.Core.Path.{_≡_};
 ghost use Prim.Native.Nat.{_<_};
 ghost use lib.Dec.{eqb};
 ghost use lib.ListN.{length, drop};
-ghost use Rattle.octets.specs.Pick.{pick, all};
-ghost use Rattle.octets.specs.Octets.{same, bytes};
+ghost use Rattle.octets.specs.Pick.{all};
 ghost use Rattle.octets.specs.Text.{lower};
 ghost use Rattle.der.specs.Kind.{isString};
-ghost use Rattle.der.specs.Meaning.{booleanOf};
 ghost use Rattle.rows.specs.Row.{membersAt};
 ghost use Rattle.table.specs.inner.Rows.{tableRows, placeAt, typeAt};
 ghost use Rattle.table.specs.inner.Words.{Worded};
@@ -174,66 +172,6 @@ pub fn conforms(rule: Rule, t: &[u8]) -> bool
         Rule::Present => octets::same(t, b"NULL"),
         Rule::Equal(x) => conforms_to(x, t),
         Rule::Less(x) => conforms_to(x, t),
-    }
-}
-
-// ---- acceptance
-fn same_boolean(t: &[u8], c: &[u8]) -> bool
-    ensures { λ r. ⌜ r ≡ pick (booleanOf (now (c .entry))) (same (now (t .entry)) (bytes "TRUE")) (same (now (t .entry)) (bytes "FALSE")) ⌝ }
-{
-    if der::read_boolean(c) {
-        return octets::same(t, b"TRUE");
-    }
-    octets::same(t, b"FALSE")
-}
-
-fn is_equal(x: Syntax, t: &[u8], c: &[u8]) -> bool
-    ensures { λ r. ⌜ r ≡ answers.isEqualRead (answers.syntaxOf x) (now (t .entry)) (now (c .entry)) ⌝ }
-{
-    match x {
-        Syntax::Booleans => same_boolean(t, c),
-        Syntax::Integers => integers::same_contents(t, c),
-        Syntax::ObjectIdentifiers => dotted::same_arcs(t, c),
-        Syntax::OctetStrings => digits::same_octets(t, c),
-        Syntax::BitStrings => digits::same_bits(t, c),
-        Syntax::Strings(fold) => strings::same_prepared(t, c, fold),
-        Syntax::Times => times::same_time(t, c),
-    }
-}
-
-fn is_less(x: Syntax, t: &[u8], c: &[u8]) -> bool
-    ensures { λ r. ⌜ r ≡ answers.isLessRead (answers.syntaxOf x) (now (t .entry)) (now (c .entry)) ⌝ }
-{
-    match x {
-        Syntax::Booleans => false,
-        Syntax::Integers => integers::less_contents(t, c),
-        Syntax::ObjectIdentifiers => false,
-        Syntax::OctetStrings => digits::less_octets(t, c),
-        Syntax::BitStrings => false,
-        Syntax::Strings(_) => false,
-        Syntax::Times => times::earlier_time(t, c),
-    }
-}
-
-// Whether a rule accepts contents, stored or a default's.
-pub fn accepts_contents(rule: Rule, t: &[u8], c: &[u8]) -> bool
-    ensures { λ r. ⌜ r ≡ answers.acceptsContentsRead (answers.meant rule) (now (t .entry)) (now (c .entry)) ⌝ }
-{
-    match rule {
-        Rule::Present => true,
-        Rule::Equal(x) => is_equal(x, t, c),
-        Rule::Less(x) => is_less(x, t, c),
-    }
-}
-
-// Whether a rule accepts a count.
-pub fn accepts_count(rule: Rule, t: &[u8], n: u64) -> bool
-    ensures { λ r. ⌜ r ≡ answers.acceptsCountRead (answers.meant rule) (now (t .entry)) n ⌝ }
-{
-    match rule {
-        Rule::Present => true,
-        Rule::Equal(_) => integers::same_integer(t, false, n),
-        Rule::Less(_) => integers::less_integer(t, false, n),
     }
 }
 

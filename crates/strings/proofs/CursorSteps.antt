@@ -1,4 +1,4 @@
--- The cursor of a prepared string, and two prepared strings side by side.
+-- The cursor of a prepared string, and a prepared string beside octets.
 use mathlib.Core.Path.{_≡_, refl, sym, ap, ap₂, _∙_}
 use mathlib.Core.Bool.{Bool, true, false}
 use mathlib.Core.List.{List, [], _∷_, map}
@@ -9,11 +9,9 @@ use lib.Dec.{eqb}
 use lib.ListN.{length}
 use Rattle.octets.specs.Pick.{pick, both}
 use Rattle.octets.specs.Octets.{octet, same}
-use Rattle.octets.specs.Quoted.{undoubled}
 use Rattle.octets.proofs.TextLaws.{same-nil, same-shorter, same-longer, same-cons}
-use Rattle.strings.specs.Asserted.{assertedText}
 use Rattle.strings.specs.Prepared.{charactersIn, isTail, prefixed, Mark, blank, shown, markOf, folded, image, images, afterSpace, spaced, joined, prepared}
-use Rattle.strings.specs.inner.Cursor.{charactersOf, foldOctet, squeezed, lettersAt, reportLetter, restAt, rest, reportStep, emitted, isEnd}
+use Rattle.strings.specs.inner.Cursor.{charactersOf, foldOctet, squeezed, lettersAt, reportLetter, restAt, rest, reportStep, isLast, emitted}
 use Rattle.strings.specs.declared.Before.{Before}
 use Rattle.strings.specs.declared.Letter.{Letter}
 use Rattle.strings.specs.declared.Cursor.{Cursor}
@@ -65,7 +63,7 @@ module _ (fold quoted : Bool) (s : List ℕ) (at : ℕ) (p : Before) (l : List �
     pub next-emits : (x : Step) → (b ≡ 32 → ⊥) → x ≡ emitted b p at after → reportStep fold quoted s x ≡ l
     next-emits x n q = ap (reportStep fold quoted s) q ∙ emit-told n p ∙ sym (taken n p) ∙ step
 
--- ---- two prepared strings
+-- ---- a prepared string beside octets
 abbrev pub begun : Cursor
 begun = record { at = 0; before = Before.Nothing }
 
@@ -102,44 +100,42 @@ marks-joined p (b ∷ l) = go (eqb b 32) (marks-joined (afterSpace p) l) (marks-
     go true e h = e
     go false e h = ap (λ (y : List ℕ). spaced p (b ∷ y)) h
 
-rest-begun : (fold quoted : Bool) (s : List ℕ) → rest fold quoted s begun ≡ prepared fold (charactersOf quoted s)
+pub rest-begun : (fold quoted : Bool) (s : List ℕ) → rest fold quoted s begun ≡ prepared fold (charactersOf quoted s)
 unfolding restAt lettersAt prepared
 rest-begun fold quoted s = marks-joined Before.Nothing (folded fold (charactersOf quoted s)) ∙ ap (joined Before.Nothing) (sym (marks fold (charactersOf quoted s)))
 
-pub match-start : (fold : Bool) (c q : List ℕ) → same (rest fold false c begun) (rest fold true q begun) ≡ same (prepared fold c) (prepared fold (undoubled q))
-match-start fold c q = ap₂ same (rest-begun fold false c) (rest-begun fold true q)
+pub match-start : (fold : Bool) (c x : List ℕ) → same (rest fold false c begun) (lettersAt fold false x 0) ≡ same (prepared fold c) (folded fold x)
+unfolding lettersAt
+match-start fold c x = ap (λ (y : List ℕ). same y (folded fold x)) (rest-begun fold false c)
 
-module _ (fold : Bool) (c q : List ℕ) (a b : Cursor) (sa sb : Step) (m : Bool) (inv : same (rest fold false c a) (rest fold true q b) ≡ m)
-    (ea : reportStep fold false c sa ≡ rest fold false c a) (eb : reportStep fold true q sb ≡ rest fold true q b) where
-  sides : same (reportStep fold false c sa) (reportStep fold true q sb) ≡ m
+module _ (fold : Bool) (c x : List ℕ) (a : Cursor) (i : ℕ) (sa : Step) (sb : Letter) (m : Bool) (inv : same (rest fold false c a) (lettersAt fold false x i) ≡ m)
+    (ea : reportStep fold false c sa ≡ rest fold false c a) (eb : reportLetter fold false x sb ≡ lettersAt fold false x i) where
+  sides : same (reportStep fold false c sa) (reportLetter fold false x sb) ≡ m
   sides = ap₂ same ea eb ∙ inv
 
-  ended : (x : Step) → isEnd x ≡ same [] (reportStep fold true q x)
-  ended Step.End = sym same-nil
-  ended (Step.Octet y z) = sym (same-shorter y (rest fold true q z))
+  ended : (l : Letter) → isLast l ≡ same [] (reportLetter fold false x l)
+  ended Letter.End = sym same-nil
+  ended (Letter.Got y k) = sym (same-shorter y (lettersAt fold false x k))
 
-  pub match-ended : (r : Bool) → sa ≡ Step.End → r ≡ isEnd sb → r ≡ m
-  match-ended r e h = h ∙ ended sb ∙ sym (ap (λ (x : Step). same (reportStep fold false c x) (reportStep fold true q sb)) e) ∙ sides
+  pub match-ended : (r : Bool) → sa ≡ Step.End → r ≡ isLast sb → r ≡ m
+  match-ended r e h = h ∙ ended sb ∙ sym (ap (λ (y : Step). same (reportStep fold false c y) (reportLetter fold false x sb)) e) ∙ sides
 
-  module _ (x : ℕ) (a2 : Cursor) (ex : sa ≡ Step.Octet x a2) where
-    left : x ∷ rest fold false c a2 ≡ rest fold false c a
+  module _ (o : ℕ) (a2 : Cursor) (ex : sa ≡ Step.Octet o a2) where
+    left : o ∷ rest fold false c a2 ≡ rest fold false c a
     left = sym (ap (reportStep fold false c) ex) ∙ ea
 
     pub match-falls : length (rest fold false c a2) < length (rest fold false c a)
     match-falls = omega (arith, ap length left)
 
-    pub match-longer : sb ≡ Step.End → false ≡ m
-    match-longer e = sym (same-longer x (rest fold false c a2)) ∙ sym (ap₂ (λ (u : Step) (v : Step). same (reportStep fold false c u) (reportStep fold true q v)) ex e) ∙ sides
+    pub match-longer : sb ≡ Letter.End → false ≡ m
+    match-longer e = sym (same-longer o (rest fold false c a2)) ∙ sym (ap₂ (λ (u : Step) (v : Letter). same (reportStep fold false c u) (reportLetter fold false x v)) ex e) ∙ sides
 
-    module _ (y : ℕ) (b2 : Cursor) (ey : sb ≡ Step.Octet y b2) where
-      both-sides : both (eqb x y) (same (rest fold false c a2) (rest fold true q b2)) ≡ m
-      both-sides = sym (same-cons x y (rest fold false c a2) (rest fold true q b2)) ∙ sym (ap₂ (λ (u : Step) (v : Step). same (reportStep fold false c u) (reportStep fold true q v)) ex ey) ∙ sides
+    module _ (y after : ℕ) (ey : sb ≡ Letter.Got y after) where
+      both-sides : both (eqb o y) (same (rest fold false c a2) (lettersAt fold false x after)) ≡ m
+      both-sides = sym (same-cons o y (rest fold false c a2) (lettersAt fold false x after)) ∙ sym (ap₂ (λ (u : Step) (v : Letter). same (reportStep fold false c u) (reportLetter fold false x v)) ex ey) ∙ sides
 
-      pub match-differs : (x ≡ y → ⊥) → false ≡ m
-      match-differs n = rw (ne-eqb x y n) at both-sides
+      pub match-differs : (o ≡ y → ⊥) → false ≡ m
+      match-differs n = rw (ne-eqb o y n) at both-sides
 
-      pub match-more : x ≡ y → same (rest fold false c a2) (rest fold true q b2) ≡ m
-      match-more e = rw (eq-eqb x y e) at both-sides
-
-pub prepared-is : (t c p : List ℕ) (fold r : Bool) → undoubled p ≡ assertedText t → r ≡ same (prepared fold c) (prepared fold (undoubled p)) → r ≡ same (prepared fold c) (prepared fold (assertedText t))
-prepared-is t c p fold r e h = h ∙ ap (λ (x : List ℕ). same (prepared fold c) (prepared fold x)) e
+      pub match-more : o ≡ y → same (rest fold false c a2) (lettersAt fold false x after) ≡ m
+      match-more e = rw (eq-eqb o y e) at both-sides

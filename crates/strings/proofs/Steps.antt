@@ -7,14 +7,14 @@ use Prim.Native.Nat.{ℕ, _≤_, _<_, _+_, _-_}
 use native.Mathlib.Omega.{arith}
 use borrow.Author.Tests.{eq-eqb, ne-eqb, not-true, not-false}
 use lib.Dec.{eqb}
-use lib.ListN.{length, drop}
+use lib.ListN.{length, length-take, drop}
 use Rattle.octets.specs.Pick.{pick, both}
 use Rattle.octets.specs.Octets.{octet, part}
 use Rattle.octets.specs.Text.{lower}
 use Rattle.octets.specs.Quoted.{closingAt, undoubled, unquoted}
 use Rattle.octets.specs.inner.Answers as answers
 use Rattle.octets.specs.declared.Place.{Place}
-use Rattle.octets.proofs.Laws.{rest-cons, rest-none}
+use Rattle.octets.proofs.Laws.{rest-cons, rest-none, rest-length}
 use Rattle.octets.proofs.QuotedLaws.{undoubled-nil, undoubled-one, undoubled-two, undoubled-other, unquoted-none, unquoted-longer, unquoted-whole}
 use Rattle.strings.specs.Asserted.{textOr, assertedText}
 use Rattle.strings.specs.Prepared.{folded}
@@ -54,6 +54,9 @@ module _ (t p : List ℕ) (r : Place) (told : answers.reportPlace r ≡ closingA
 
         pub part-is : p ≡ part t 1 (close - 1) → undoubled p ≡ assertedText t
         part-is e = ap undoubled e ∙ whole
+
+pub part-short : (t p : List ℕ) (at n : ℕ) → p ≡ part t at n → length p ≤ length t
+part-short t p at n e = omega (arith, ap length e, length-take n (drop at t), rest-length t at)
 
 -- ---- characters
 module _ (s : List ℕ) (quoted : Bool) (at : ℕ) where

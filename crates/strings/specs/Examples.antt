@@ -6,6 +6,7 @@ use Rattle.octets.specs.Octets.{bytes, hex}
 use Rattle.octets.specs.Computing.{octetsCompute}
 use Rattle.strings.specs.Prepared.{charactersIn, folded, image, images, joined, prepared}
 use Rattle.strings.specs.Asserted.{isText, assertedText}
+use Rattle.strings.specs.inner.Cursor.{isSqueezed}
 
 -- the texts " ", "", a, "a""b", "a"b"
 conforming : map isText (bytes "\" \"" ∷ bytes "\"\"" ∷ bytes "a" ∷ bytes "\"a\"\"b\"" ∷ bytes "\"a\"b\"" ∷ []) ≡ true ∷ false ∷ false ∷ true ∷ false ∷ []
@@ -25,3 +26,8 @@ preparing = refl
 apart : charactersIn (hex "7FC280C3BFE282ACF09F988020") ≡ hex "7F" ∷ hex "C280" ∷ hex "C3BF" ∷ hex "E282AC" ∷ hex "F09F9880" ∷ hex "20" ∷ []
 unfolding octetsCompute charactersIn
 apart = refl
+
+-- the octets "a b", " a", "a ", "a  b", a quote, none
+squeezed : map (isSqueezed true) (bytes "a b" ∷ bytes " a" ∷ bytes "a " ∷ bytes "a  b" ∷ bytes "\"" ∷ [] ∷ []) ≡ true ∷ false ∷ false ∷ false ∷ false ∷ false ∷ []
+unfolding octetsCompute isSqueezed
+squeezed = refl

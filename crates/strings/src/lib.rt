@@ -1,11 +1,13 @@
 // Strings: quoted in a value text, prepared for comparing. A prepared string is read by a cursor, one octet at a time.
 use octets::Place;
 ghost use mathlib.Core.Path.{_≡_};
-ghost use lib.ListN.{drop};
-ghost use Rattle.octets.specs.Octets.{same};
+ghost use mathlib.Core.Bool.{true, false};
+ghost use Prim.Native.Nat.{_≤_};
+ghost use lib.ListN.{length, drop};
+ghost use Rattle.octets.specs.Octets.{same, part};
 ghost use Rattle.octets.specs.Quoted.{undoubled};
 ghost use Rattle.strings.specs.Asserted as asserted;
-ghost use Rattle.strings.specs.Prepared.{afterSpace, prepared};
+ghost use Rattle.strings.specs.Prepared.{folded, afterSpace, prepared};
 ghost use Rattle.strings.specs.inner.Cursor as cursor;
 
 // What stands before a place: no character yet, a character, or a space after one.
@@ -36,7 +38,8 @@ pub enum Letter {
 // ---- quoted strings
 // What stands between the quotes of a text that is one quoted string; of any other text, nothing.
 pub fn quoted_part(t: &[u8]) -> &[u8]
-    ensures { λ r. ⌜ undoubled (now r) ≡ asserted.assertedText (now (t .entry)) ⌝ }
+    ensures characters { λ r. ⌜ undoubled (now r) ≡ asserted.assertedText (now (t .entry)) ⌝ }
+    ensures short { λ r. ⌜ length (now r) ≤ length (now (t .entry)) ⌝ }
 {
     let Place::At(close) = octets::closing_at(t, 0) else {
         return octets::part(t, 0, 0);
@@ -103,6 +106,15 @@ fn read_letter(s: &[u8], quoted: bool, fold: bool, at: usize) -> Letter
     Letter::Got(fold_octet(fold, b), after)
 }
 
+fn is_last(letter: Letter) -> bool
+    ensures { λ r. ⌜ r ≡ cursor.isLast letter ⌝ }
+{
+    match letter {
+        Letter::End => true,
+        Letter::Got(_, _) => false,
+    }
+}
+
 // ---- the prepared string
 fn after_space(p: Before) -> Before
     ensures { λ r. ⌜ r ≡ afterSpace p ⌝ }
@@ -161,47 +173,81 @@ fn next(s: &[u8], quoted: bool, fold: bool, c: Cursor) -> Step
     }
 }
 
-fn is_end(step: Step) -> bool
-    ensures { λ r. ⌜ r ≡ cursor.isEnd step ⌝ }
-{
-    match step {
-        Step::End => true,
-        Step::Octet(_, _) => false,
-    }
-}
-
-// Whether a stored string and the characters of a quoted one are equal as prepared.
-fn same_characters(c: &[u8], q: &[u8], fold: bool) -> bool
-    ensures { λ r. ⌜ r ≡ same (prepared fold (now (c .entry))) (prepared fold (undoubled (now (q .entry)))) ⌝ }
+// ---- a stored string against one that is prepared but for folding
+// Whether a stored string as prepared is these octets, folded.
+pub fn same_squeezed(c: &[u8], x: &[u8], fold: bool) -> bool
+    ensures { λ r. ⌜ r ≡ same (prepared fold (now (c .entry))) (folded fold (now (x .entry))) ⌝ }
 {
     let mut a = Cursor {
         at: 0,
         before: Before::Nothing,
     };
-    let mut b = Cursor {
-        at: 0,
-        before: Before::Nothing,
-    };
+    let mut i = 0;
     loop {
         let sa = next(c, false, fold, a);
-        let sb = next(q, true, fold, b);
-        let Step::Octet(x, a2) = sa else {
-            return is_end(sb);
+        let sb = read_letter(x, false, fold, i);
+        let Step::Octet(o, a2) = sa else {
+            return is_last(sb);
         };
-        let Step::Octet(y, b2) = sb else {
+        let Letter::Got(y, after) = sb else {
             return false;
         };
-        if x != y {
+        if o != y {
             return false;
         }
         a = a2;
-        b = b2;
+        i = after;
     }
 }
 
-// Whether a stored string and an asserted one are equal as prepared.
-pub fn same_prepared(t: &[u8], c: &[u8], fold: bool) -> bool
-    ensures { λ r. ⌜ r ≡ same (prepared fold (now (c .entry))) (prepared fold (asserted.assertedText (now (t .entry)))) ⌝ }
+// Whether an octet keeps what stands between quotes from being so prepared: a quote, or a space behind another or at the start.
+fn is_loose(space: bool, b: u8) -> bool
+    ensures { λ r. ⌜ r ≡ cursor.isLoose space b ⌝ }
 {
-    same_characters(c, quoted_part(t), fold)
+    if b == 34 {
+        return true;
+    }
+    if space {
+        return b == 32;
+    }
+    false
+}
+
+// Whether what stands between quotes is so prepared: no quote, no space first, last or twice.
+pub fn is_squeezed(p: &[u8]) -> bool
+    ensures { λ r. ⌜ r ≡ cursor.isSqueezed true (now (p .entry)) ⌝ }
+{
+    let mut space = true;
+    let mut i = 0;
+    while i < p.len() {
+        let b = p[i];
+        if is_loose(space, b) {
+            return false;
+        }
+        space = b == 32;
+        i += 1;
+    }
+    !space
+}
+
+// Writes what stands between quotes as prepared but for folding, and answers its length.
+pub fn squeeze(p: &[u8], memory: &mut [u8; 2048]) -> usize
+    requires room { ⌜ length (now memory) ≡ 2048 ⌝ }
+    requires short { ⌜ length (now p) ≤ 2048 ⌝ }
+    ensures written { λ n. ⌜ part (now (memory .exit)) 0 n ≡ prepared false (undoubled (now (p .entry))) ⌝ }
+    ensures room { λ n. ⌜ length (now (memory .exit)) ≡ 2048 ⌝ }
+{
+    let mut c = Cursor {
+        at: 0,
+        before: Before::Nothing,
+    };
+    let mut n = 0;
+    loop {
+        let Step::Octet(b, c2) = next(p, true, false, c) else {
+            return n;
+        };
+        memory[n] = b;
+        n += 1;
+        c = c2;
+    }
 }

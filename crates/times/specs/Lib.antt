@@ -1,3 +1,2 @@
 pub mod Asserted
-pub mod inner
 pub mod Examples

@@ -20,7 +20,7 @@ use Rattle.reference.specs.Reference.{Id}
 use Rattle.reference.specs.Named.{Held, value, defaultValue, absentNames, memberNamed, step, held}
 use Rattle.reference.specs.Numbers.{component, numbersOf, byDefault, contentsOf}
 use Rattle.reference.proofs.HeldLaws.{held-none, held-step}
-use Rattle.rules.specs.Rule.{Rule}
+use Rattle.plan.specs.inner.Test.{Test}
 use Rattle.plan.specs.inner.Task.{Task, counting, listing, testing, passesContents, passes}
 use Rattle.plan.specs.inner.Plan.{absentOf, Unnamed, cons, Names, here, later}
 use Rattle.walk.specs.inner.Leads.{Picked, there, lacking, past, pickedAt}
@@ -114,7 +114,7 @@ counted limit x n m (h ∷ hs) = go (ltb n limit) (counted limit x (n + 1) m hs)
     go true p q = p
     go false p q = q
 
-tested : (r : Rule) (budget : ℕ) (x : List ℕ) (n : ℕ) (m : List ℕ) (hs : List Held)
+tested : (r : Test) (budget : ℕ) (x : List ℕ) (n : ℕ) (m : List ℕ) (hs : List Held)
     → run (testing r budget) x (seen (State.Going n) m) hs ≡ seen (testedTo budget (passes (testing r budget) x) n hs) m
 unfolding run visited noted testOne testedTo
 tested r budget x n m [] = refl

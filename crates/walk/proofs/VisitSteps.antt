@@ -1,7 +1,7 @@
 -- One component: one lemma for each need, its premises as the code has them.
 use mathlib.Core.Path.{_≡_, sym, ap, ap₂, _∙_}
 use mathlib.Core.Bool.{Bool, true, false}
-use mathlib.Core.List.{List}
+use mathlib.Core.List.{List, []}
 use Prim.Native.Nat.{ℕ, _≤_, _<_, _+_, _-_, _*_, _/_}
 use native.Mathlib.Omega.{arith}
 use borrow.Author.Tests.{lt-ltb, le-ltb, le-leb, lt-leb, eq-eqb, ne-eqb}
@@ -94,10 +94,10 @@ module _ (v : List ℕ) (at start stop : ℕ) (a : start ≡ startOf v at) (b : 
       let g = e ∙ ap (passesContents (taskOf q) x) u ∙ ap₂ (λ (y u : ℕ). passesContents (taskOf q) x (part v y (u - y))) a b in
       f ∙ ap₂ (λ (y : Bool) (u : ℕ). noted (taskOf q) y (numbers 0 at u) n m) g z
 
-pub visit-count-is : (q x m : List ℕ) (at size n : ℕ) (good : Bool) → good ≡ passesCount (taskOf q) x size → (w : Seen) → w ≡ noted (taskOf q) good (numbers 2 at size) n m
-    → w ≡ visited (taskOf q) x (byCount at size) n m
+pub visit-count-is : (q m : List ℕ) (at size n : ℕ) (good : Bool) → good ≡ passesCount (taskOf q) size → (w : Seen) → w ≡ noted (taskOf q) good (numbers 2 at size) n m
+    → w ≡ visited (taskOf q) [] (byCount at size) n m
 unfolding visited passes numbersOf
-visit-count-is q x m at size n good e w f = f ∙ ap (λ (y : Bool). noted (taskOf q) y (numbers 2 at size) n m) e
+visit-count-is q m at size n good e w f = f ∙ ap (λ (y : Bool). noted (taskOf q) y (numbers 2 at size) n m) e
 
 -- ---- an absent member
 module _ (q : List ℕ) (k at n : ℕ) (m : List ℕ) (absent : ℕ) (read : absent ≡ absentAt q k) where

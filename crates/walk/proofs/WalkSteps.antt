@@ -21,7 +21,7 @@ use Rattle.reference.specs.Named.{Held, value, countValue, memberNamed, size, e
 use Rattle.reference.specs.Numbers.{Numbers, stored, byDefault, byCount, numbersOf}
 use Rattle.reference.proofs.HeldLaws.{held-none, held-append, held-step}
 use Rattle.plan.specs.inner.Sort as sort
-use Rattle.plan.specs.inner.Task.{Task, counting, taskOf}
+use Rattle.plan.specs.inner.Task.{Task, counting, taskOf, passes}
 use Rattle.plan.specs.inner.Plan as plan
 use Rattle.plan.specs.inner.Plan.{sortAt, firstAt, secondAt, absentAt, Within, absentOf, Planned}
 use Rattle.plan.proofs.RowLaws.{member-here, member-kind, member-fits}
@@ -47,7 +47,7 @@ pub goes-low : (t q x v : List ℕ) (k at : ℕ) → Goes t q x v k at → plan.
 goes-low t q x v k at g = g .low
 
 pub goes-steps : (t q x v : List ℕ) (k at : ℕ) → Goes t q x v k at → Steps t q v k at
-goes-steps t q x v k at g = record { text = x; goes = g }
+goes-steps t q x v k at g = record { operand = x; goes = g }
 
 module _ (t q v : List ℕ) (k at : ℕ) (st : Steps t q v k at) where
   pub steps-within : nextAfter v at ≤ length v
@@ -83,8 +83,8 @@ module _ (t q v : List ℕ) (k at : ℕ) (op : sortAt q k ≡ sort.member) (row 
       }
 
   module _ (st : Steps t q v k at) where
-    mine : MemberStep t q (st .text) v (st .goes .defaults) k at (st .goes .ids) (st .goes .val)
-    mine = member-view t q (st .text) v k at (st .goes) op
+    mine : MemberStep t q (st .operand) v (st .goes .defaults) k at (st .goes .ids) (st .goes .val)
+    mine = member-view t q (st .operand) v k at (st .goes) op
 
     row-same : mine .row ≡ row
     row-same = sym (mine .by .row-is) ∙ sym row-read
@@ -170,8 +170,8 @@ tagging-of t v r at = refl
 
 module _ (t q v : List ℕ) (k at : ℕ) (op : sortAt q k ≡ sort.alternative) (row j : ℕ) (row-read : row ≡ firstAt q k) (j-read : j ≡ secondAt q k) where
   module _ (st : Steps t q v k at) (w : List ℕ) (ok : Worded t w) where
-    own : AlternativeStep t q (st .text) v (st .goes .defaults) k at (st .goes .ids) (st .goes .val)
-    own = alternative-view t q (st .text) v k at (st .goes) op
+    own : AlternativeStep t q (st .operand) v (st .goes .defaults) k at (st .goes .ids) (st .goes .val)
+    own = alternative-view t q (st .operand) v k at (st .goes) op
 
     row-own : own .row ≡ row
     row-own = sym (own .by .row-is) ∙ sym row-read
@@ -316,7 +316,7 @@ module _ (t q v : List ℕ) (k at : ℕ) where
 pub move-last : (t q v : List ℕ) (k at op : ℕ) → op ≡ sortAt q k → (op ≡ sort.member → ⊥) → (op ≡ sort.alternative → ⊥) → (op ≡ sort.position → ⊥) → IsMove (sortAt q k) → Steps t q v k at → sortAt q k ≡ sort.fromEnd
 move-last t q v k at op read a b c d st = go (st .goes .planned)
   where
-    go : {ty : Ty} {ids : List Id} → Planned t q (st .text) (st .goes .defaults) k ty ids → sortAt q k ≡ sort.fromEnd
+    go : {ty : Ty} {ids : List Id} → Planned t q (st .operand) (st .goes .defaults) k ty ids → sortAt q k ≡ sort.fromEnd
     go (plan.over e) = absurd (d .0 e)
     go (plan.member e n z rest) = absurd (a (read ∙ e))
     go (plan.alternative e n z rest) = absurd (b (read ∙ e))
@@ -338,14 +338,19 @@ module _ (t q x v : List ℕ) (k at n : ℕ) (m : List ℕ) where
       ∙ sym (run-one (taskOf q) x n m (value (g .val)))
       ∙ ap (run (taskOf q) x (seen (State.Going n) m)) (sym (ap (λ (y : List Id). held (g .defaults) y (value (g .val) ∷ [])) i ∙ held-done (g .defaults) (value (g .val) ∷ [])))
 
-  pub walk-counted : sortAt q k ≡ sort.count → (start stop c : ℕ) → start ≡ startOf v at → stop ≡ nextAfter v at → Counts v start stop c → (w : Seen) → w ≡ visited (taskOf q) x (byCount at c) n m → Walks t q x v k at n m w
+  -- a count is tested whatever the operand
+  any-operand : (c : ℕ) → visited (taskOf q) [] (byCount at c) n m ≡ visited (taskOf q) x (byCount at c) n m
+  unfolding visited passes
+  any-operand c = refl
+
+  pub walk-counted : sortAt q k ≡ sort.count → (start stop c : ℕ) → start ≡ startOf v at → stop ≡ nextAfter v at → Counts v start stop c → (w : Seen) → w ≡ visited (taskOf q) [] (byCount at c) n m → Walks t q x v k at n m w
   unfolding Walks Counts count-list in-list
   walk-counted op start stop c a b told w f g =
       let z = count-view t q x v k at g op in
       let l = z .0 in
       let size-is : c ≡ size (l .xs) = told (count-list t q v k at g start stop a b op) in
       let place : at ≡ l .spot .place = sym (ap (λ (y : Value). spotOf y .place) (l .value-is) ∙ stands-place (g .stands)) in
-      f ∙ ap₂ (λ (y u : ℕ). visited (taskOf q) x (byCount y u) n m) place size-is
+      f ∙ any-operand c ∙ ap₂ (λ (y u : ℕ). visited (taskOf q) x (byCount y u) n m) place size-is
       ∙ sym (run-one (taskOf q) x n m (countValue (l .spot .place) (size (l .xs))))
       ∙ ap (run (taskOf q) x (seen (State.Going n) m)) (sym (list-names t q v k at x g l count (z .1) ∙ ap (λ (y : List Id). held (g .defaults) y (countValue (l .spot .place) (size (l .xs)) ∷ [])) (z .2) ∙ held-done (g .defaults) _))
 

@@ -333,30 +333,22 @@ fn note(
 }
 
 // The value at a place.
-fn visit(q: &[usize; 72], v: &[u8], text: &[u8], at: usize, n: usize, out: &mut [u64]) -> State
+fn visit(q: &[usize; 72], v: &[u8], operand: &[u8], at: usize, n: usize, out: &mut [u64]) -> State
     requires { ⌜ nextAfter (now v) at ≤ length (now v) ⌝ }
     ensures { λ r. ⌜ run.seen r (now (out .exit))
-        ≡ run.visited (taskOf (now (q .entry))) (now (text .entry)) (run.valueAt (now (v .entry)) at) n (now (out .entry)) ⌝ }
+        ≡ run.visited (taskOf (now (q .entry))) (now (operand .entry)) (run.valueAt (now (v .entry)) at) n (now (out .entry)) ⌝ }
 {
     let o = opened(v, at);
     let contents = octets::part(v, o.start, o.end - o.start);
-    let accepted = plan::passes_contents(q, text, contents);
+    let accepted = plan::passes_contents(q, operand, contents);
     note(q, accepted, 0, at, o.end - at, n, out)
 }
 
 // The count of the list at a place.
-fn visit_count(
-    q: &[usize; 72],
-    text: &[u8],
-    at: usize,
-    size: usize,
-    n: usize,
-    out: &mut [u64],
-) -> State
-    ensures { λ r. ⌜ run.seen r (now (out .exit))
-        ≡ run.visited (taskOf (now (q .entry))) (now (text .entry)) (byCount at size) n (now (out .entry)) ⌝ }
+fn visit_count(q: &[usize; 72], at: usize, size: usize, n: usize, out: &mut [u64]) -> State
+    ensures { λ r. ⌜ run.seen r (now (out .exit)) ≡ run.visited (taskOf (now (q .entry))) [] (byCount at size) n (now (out .entry)) ⌝ }
 {
-    note(q, plan::passes_count(q, text, size), 2, at, size, n, out)
+    note(q, plan::passes_count(q, size), 2, at, size, n, out)
 }
 
 // The absent member of step k, at the place of its SEQUENCE.
@@ -379,19 +371,19 @@ fn walk_count(
     t: &[u8],
     q: &[usize; 72],
     v: &[u8],
-    text: &[u8],
+    operand: &[u8],
     k: usize,
     at: usize,
     n: usize,
     out: &mut [u64],
 ) -> State
-    requires goes { ⌜ walk.Goes (now t) (now q) (now text) (now v) k at ⌝ }
+    requires goes { ⌜ walk.Goes (now t) (now q) (now operand) (now v) k at ⌝ }
     requires sort { ⌜ plan.sortAt (now q) k ≡ sort.count ⌝ }
-    ensures { λ r. ⌜ walk.Walks (now (t .entry)) (now (q .entry)) (now (text .entry)) (now (v .entry)) k at n (now (out .entry))
+    ensures { λ r. ⌜ walk.Walks (now (t .entry)) (now (q .entry)) (now (operand .entry)) (now (v .entry)) k at n (now (out .entry))
         (run.seen r (now (out .exit))) ⌝ }
 {
     let o = opened(v, at);
-    visit_count(q, text, at, count(v, o.start, o.end), n, out)
+    visit_count(q, at, count(v, o.start, o.end), n, out)
 }
 
 // From a value, along the steps of a plan, after n components.
@@ -400,25 +392,25 @@ fn walk(
     w: &[u64; 256],
     q: &[usize; 72],
     v: &[u8],
-    text: &[u8],
+    operand: &[u8],
     here: Place,
     n: usize,
     out: &mut [u64],
 ) -> State
     requires worded { ⌜ Worded (now t) (now w) ⌝ }
-    requires goes { ⌜ walk.Goes (now t) (now q) (now text) (now v) (here .step) (here .at) ⌝ }
-    ensures { λ r. ⌜ walk.Walks (now (t .entry)) (now (q .entry)) (now (text .entry)) (now (v .entry)) (here .step) (here .at) n (now (out .entry))
+    requires goes { ⌜ walk.Goes (now t) (now q) (now operand) (now v) (here .step) (here .at) ⌝ }
+    ensures { λ r. ⌜ walk.Walks (now (t .entry)) (now (q .entry)) (now (operand .entry)) (now (v .entry)) (here .step) (here .at) n (now (out .entry))
         (run.seen r (now (out .exit))) ⌝ }
 {
     let sort = plan::sort_at(q, here.step);
     if sort == Sort::END {
-        return visit(q, v, text, here.at, n, out);
+        return visit(q, v, operand, here.at, n, out);
     }
     if sort == Sort::COUNT {
-        return walk_count(t, q, v, text, here.step, here.at, n, out);
+        return walk_count(t, q, v, operand, here.step, here.at, n, out);
     }
     if sort == Sort::ALL {
-        return walk_each(t, w, q, v, text, here, n, out);
+        return walk_each(t, w, q, v, operand, here, n, out);
     }
     match one_move(t, w, q, v, here.step, here.at) {
         Move::To(p) => walk(
@@ -426,7 +418,7 @@ fn walk(
             w,
             q,
             v,
-            text,
+            operand,
             Place {
                 step: here.step + 1,
                 at: p,
@@ -445,15 +437,15 @@ fn walk_each(
     w: &[u64; 256],
     q: &[usize; 72],
     v: &[u8],
-    text: &[u8],
+    operand: &[u8],
     here: Place,
     n: usize,
     out: &mut [u64],
 ) -> State
     requires worded { ⌜ Worded (now t) (now w) ⌝ }
-    requires goes { ⌜ walk.Goes (now t) (now q) (now text) (now v) (here .step) (here .at) ⌝ }
+    requires goes { ⌜ walk.Goes (now t) (now q) (now operand) (now v) (here .step) (here .at) ⌝ }
     requires sort { ⌜ plan.sortAt (now q) (here .step) ≡ sort.all ⌝ }
-    ensures { λ r. ⌜ walk.Walks (now (t .entry)) (now (q .entry)) (now (text .entry)) (now (v .entry)) (here .step) (here .at) n (now (out .entry))
+    ensures { λ r. ⌜ walk.Walks (now (t .entry)) (now (q .entry)) (now (operand .entry)) (now (v .entry)) (here .step) (here .at) n (now (out .entry))
         (run.seen r (now (out .exit))) ⌝ }
 {
     let k = here.step;
@@ -463,7 +455,7 @@ fn walk_each(
     let mut i = o.start;
     let mut made = n;
     while i < stop {
-        match walk(t, w, q, v, text, Place { step: k + 1, at: i }, made, out) {
+        match walk(t, w, q, v, operand, Place { step: k + 1, at: i }, made, out) {
             State::Going(more) => {
                 i = next_after(v, i);
                 made = more;
@@ -485,14 +477,14 @@ pub fn list(t: &[u8], w: &[u64; 256], q: &[usize; 72], v: &[u8], n: usize, out: 
     walk(t, w, q, v, b"", Place { step: 1, at: 0 }, n, out)
 }
 
-// Tests of its components, after n tests: with the asserted text, and no memory.
-pub fn test(t: &[u8], w: &[u64; 256], q: &[usize; 72], v: &[u8], text: &[u8], n: usize) -> State
+// Tests of its components, after n tests: with the operand, and no memory.
+pub fn test(t: &[u8], w: &[u64; 256], q: &[usize; 72], v: &[u8], operand: &[u8], n: usize) -> State
     requires worded { ⌜ Worded (now t) (now w) ⌝ }
-    requires asks { ⌜ walk.Asks (now t) (now q) (now text) (now v) ⌝ }
-    ensures { λ r. ⌜ walk.Tests (now (t .entry)) (now (q .entry)) (now (text .entry)) (now (v .entry)) n r ⌝ }
+    requires asks { ⌜ walk.Asks (now t) (now q) (now operand) (now v) ⌝ }
+    ensures { λ r. ⌜ walk.Tests (now (t .entry)) (now (q .entry)) (now (operand .entry)) (now (v .entry)) n r ⌝ }
 {
-    let mut out = [0u64; 1];
-    walk(t, w, q, v, text, Place { step: 1, at: 0 }, n, &mut out)
+    let mut out = [0u64; 0];
+    walk(t, w, q, v, operand, Place { step: 1, at: 0 }, n, &mut out)
 }
 
 // How many they are, after n.

@@ -10,5 +10,5 @@ ask-admitted-spec =
     (tie.spec
     (λ c κs. search needs)  -- admit-table-requires
     (λ c. search admitted-not)  -- returns
-    (λ c κs. (search worded-here, (search is-admitted, search needs)))  -- ask-typed-requires
+    (λ c κs. (search worded-here, (search is-admitted, (search needs, search needs))))  -- ask-typed-requires
     (λ c. search admitted-is))  -- returns-2

@@ -1,4 +1,4 @@
-use Rattle.evaluation.proofs.ItemSteps.{conforming-unsuited, conforming-asks, conforming-tested}
+use Rattle.evaluation.proofs.ItemSteps.{value-conforms, part-stands, part-brief, squeezed-stands}
 use borrow.Author.Needs.{needs}
 use Rattle.evaluation.proofs.judge_conforming.Statement.{statement}
 use Rattle.evaluation.proofs.judge_conforming.Tie as tie
@@ -7,10 +7,12 @@ pub judge-conforming-spec : {M : Type 1} → statement M
 judge-conforming-spec =
     tie.close
     (tie.spec
-    (λ c κs. search needs)  -- plan-test-requires
-    (λ c κs. search needs)  -- resolve-component-requires
-    (λ c κs. search needs)  -- suits-target-requires
-    (λ c. search conforming-unsuited)  -- returns
-    (λ c κs. (search needs, search conforming-asks))  -- test-requires
-    (λ c κs. search needs)  -- ended-requires
-    (λ c. search conforming-tested))  -- returns-2
+    (λ c κs. search needs)  -- operand-part-requires
+    (λ c κs. search needs)  -- is-operand-requires
+    (λ c κs. (search needs, (search needs, (search value-conforms, (search part-stands, search needs)))))  -- judge-operand-requires
+    (λ c. search needs)  -- returns
+    (λ c κs. (search needs, search part-brief))  -- squeeze-requires
+    (λ c. search needs)  -- slice-aggregate-part
+    (λ c κs. search needs)  -- part-requires
+    (λ c κs. (search needs, (search needs, (search value-conforms, (search squeezed-stands, search needs)))))  -- judge-operand-requires-2
+    (λ c. search needs))  -- returns-2

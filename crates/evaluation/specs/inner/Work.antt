@@ -38,12 +38,13 @@ use Rattle.evaluation.specs.declared.Progress.{Progress}
 use Rattle.evaluation.specs.declared.Turn.{Turn}
 use Rattle.evaluation.specs.declared.Evaluated.{Evaluated}
 
--- what evaluation rests on: the words w of an admitted table t, and a stored value v of the type of row 0
-pub record Ready (t w v : List ℕ) : Type 0 where
+-- what evaluation rests on: the words w of an admitted table t, a stored value v of the type of row 0, and a filter text f within its limit
+pub record Ready (t w v f : List ℕ) : Type 0 where
   pub worded : Worded t w
   pub admits : admitted tableLimits t ≡ true
   pub short : length v ≤ 65536
   pub stored : isSome (storedValue (typeAt t 0) v) ≡ true
+  pub brief : length f ≤ 2048
 
 -- ---- truths
 abbrev pub verdictOf : Truth → Verdict
@@ -78,7 +79,7 @@ abbrev pub suitsAny : Rule → Option Target → Bool
 suitsAny r none = false
 suitsAny r (some g) = suits r g
 
--- the identifiers of a reference that leads to g are planned, for a test with the value text x
+-- the identifiers of a reference that leads to g are planned, for a test with the operand x
 unfoldable pub PlannedFor : List ℕ → List ℕ → List ℕ → Bool → Option (List ℕ) → target.Target → Type 0
 PlannedFor t q x defaults component g = (is : List Id) → identifiers component ≡ some is → Lands g → Planned t q x defaults 1 (typeAt t 0) is
 

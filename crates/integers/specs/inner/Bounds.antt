@@ -1,11 +1,13 @@
 -- Integers as numbers that keep their order, and an asserted one among those that can be stored.
 use Prim.Native.Nat.{ℕ, _+_, _-_}
 use mathlib.Core.Bool.{Bool, true, false}
+use mathlib.Core.List.{List}
+use lib.ListN.{length}
 use lib.Dec.{ltb, leb, eqb}
-use Rattle.octets.specs.Pick.{pick}
+use Rattle.octets.specs.Pick.{pick, either, no}
 use Rattle.octets.specs.Text.{within}
 use Rattle.octets.specs.declared.Size.{Size}
-use Rattle.der.specs.Meaning.{Whole}
+use Rattle.der.specs.Meaning.{Whole, integerOf}
 use Rattle.integers.specs.declared.Bound.{Bound}
 
 -- zero has no sign
@@ -49,3 +51,10 @@ abbrev pub lessBound : ℕ → Bound → Bool
 lessBound n (Bound.At m) = ltb n m
 lessBound n Bound.Under = false
 lessBound n Bound.Over = true
+
+-- contents of one to eight octets; as octets they fit
+abbrev pub isShort : List ℕ → Bool
+isShort c = within 1 8 (length c)
+
+unfoldable pub shortFits : List ℕ → Bool
+shortFits c = either (no (isShort c)) (fits (integerOf c))

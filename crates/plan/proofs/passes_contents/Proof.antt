@@ -9,6 +9,7 @@ passes-contents-spec =
     (tie.spec
     (λ c κs. search needs)  -- task-requires
     (λ c. search contents-pass)  -- returns
-    (λ c κs. search needs)  -- rule-requires
-    (λ c κs. search needs)  -- accepts-contents-requires
+    (λ c κs. search needs)  -- comparing-requires
+    (λ c κs. search needs)  -- compared-number-requires
+    (λ c κs. search needs)  -- accepts-requires
     (λ c. search contents-tested))  -- returns-2

@@ -9,6 +9,7 @@ passes-count-spec =
     (tie.spec
     (λ c κs. search needs)  -- task-requires
     (λ c. search count-passes)  -- returns
-    (λ c κs. search needs)  -- rule-requires
+    (λ c κs. search needs)  -- comparing-requires
+    (λ c κs. search needs)  -- compared-number-requires
     (λ c κs. search needs)  -- accepts-count-requires
     (λ c. search count-tested))  -- returns-2

@@ -65,7 +65,7 @@ pub record ByName (t q : List ℕ) (k row j : ℕ) (x : List ℕ) : Type 0 where
   pub one : j < membersAt t (placeAt t row)
   pub named : Names x (membersAfter t row) j (memberAt t (row + 1 + j)) (memberTypeAt t (row + 1 + j))
 
--- ---- the numbers from step k on stand for identifiers on a type, for a task with the asserted text x
+-- ---- the numbers from step k on stand for identifiers on a type, for a task with the operand x
 pub data Planned (t q x : List ℕ) (defaults : Bool) : ℕ → Ty → List Id → Type 0 where
   over : {k : ℕ} {ty : Ty} → sortAt q k ≡ sort.end → Planned t q x defaults k ty []
   member : {k row j : ℕ} {nm : List ℕ} {is : List Id} → sortAt q k ≡ sort.member → ByName t q k row j nm

@@ -1,10 +1,9 @@
 -- What the code's rules and answers say.
 use Prim.Native.Nat.{ℕ, _+_}
-use mathlib.Core.Bool.{Bool, true}
+use mathlib.Core.Bool.{Bool}
 use mathlib.Core.Option.{Option, none, some}
 use mathlib.Core.List.{List}
-use lib.Dec.{leb, eqb}
-use lib.ListN.{length}
+use lib.Dec.{eqb}
 use Rattle.octets.specs.Pick.{both, either, isSome}
 use Rattle.octets.specs.Octets.{same, bytes}
 use Rattle.der.specs.Kind.{isString}
@@ -19,7 +18,6 @@ use Rattle.table.specs.inner.Rows.{placeAt, memberKindAt}
 use Rattle.rules.specs.Rule.{Syntax, booleans, integers, objectIdentifiers, octetStrings, bitStrings, strings, times, Rule, present, equal, less}
 use Rattle.rules.specs.Rule.{sameName}
 use Rattle.rules.specs.Asserted.{Asserted, anyValue, truth, integer, arcs, octets, bits, text, time, isTruth}
-use Rattle.rules.specs.Accepts.{isEqual, isLess, acceptsContents, acceptsCount}
 use Rattle.rules.specs.declared.Syntax as syntax
 use Rattle.rules.specs.declared.Rule as rule
 use Rattle.rules.specs.declared.Named as named
@@ -79,36 +77,6 @@ unfoldable pub said : Rule → List ℕ → Asserted
 said present t = anyValue
 said (equal s) t = saidIn s t
 said (less s) t = saidIn s t
-
--- ---- what the code reads to the end: a truth that conforms, INTEGER contents of up to 8 octets, BIT STRING contents of up to 65,536, and a time that
--- conforms. Contents that the check of a value lets through and a text that conforms are such; of others the code's answer is false.
-unfoldable pub isRead : Syntax → List ℕ → List ℕ → Bool
-isRead booleans t c = isTruth t
-isRead integers t c = leb (length c) 8
-isRead objectIdentifiers t c = true
-isRead octetStrings t c = true
-isRead bitStrings t c = leb (length c) 65536
-isRead (strings fold) t c = true
-isRead times t c = isSome (assertedTime t)
-
-unfoldable pub isReadBy : Rule → List ℕ → List ℕ → Bool
-isReadBy present t c = true
-isReadBy (equal s) t c = isRead s t c
-isReadBy (less s) t c = isRead s t c
-
--- the code's answers
-abbrev pub isEqualRead : Syntax → List ℕ → List ℕ → Bool
-isEqualRead x t c = both (isRead x t c) (isEqual (saidIn x t) c)
-
-abbrev pub isLessRead : Syntax → List ℕ → List ℕ → Bool
-isLessRead x t c = both (isRead x t c) (isLess (saidIn x t) c)
-
-unfoldable pub acceptsContentsRead : Rule → List ℕ → List ℕ → Bool
-acceptsContentsRead r t c = both (isReadBy r t c) (acceptsContents r (said r t) c)
-
--- the text of a rule that is for a count asserts an integer
-unfoldable pub acceptsCountRead : Rule → List ℕ → ℕ → Bool
-acceptsCountRead r t n = acceptsCount r (integer (assertedInteger t)) n
 
 -- ---- the target as row i of a table t
 -- alternative j of row i has no tag and is a string

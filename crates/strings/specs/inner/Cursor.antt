@@ -4,7 +4,7 @@ use mathlib.Core.Bool.{Bool, true, false}
 use mathlib.Core.List.{List, [], _∷_}
 use lib.Dec.{eqb}
 use lib.ListN.{drop}
-use Rattle.octets.specs.Pick.{pick}
+use Rattle.octets.specs.Pick.{pick, both, either, no}
 use Rattle.octets.specs.Text.{lower}
 use Rattle.octets.specs.Quoted.{undoubled}
 use Rattle.strings.specs.Prepared.{folded, afterSpace, spaced}
@@ -34,6 +34,10 @@ abbrev pub reportLetter : Bool → Bool → List ℕ → Letter → List ℕ
 reportLetter fold quoted s Letter.End = []
 reportLetter fold quoted s (Letter.Got b next) = b ∷ lettersAt fold quoted s next
 
+abbrev pub isLast : Letter → Bool
+isLast Letter.End = true
+isLast (Letter.Got b next) = false
+
 -- ---- octets whose spaces are dropped and joined, after what stands before them
 unfoldable pub squeezed : Before → List ℕ → List ℕ
 squeezed p [] = []
@@ -59,6 +63,12 @@ emitted b before.Space at after = Step.Octet 32 (record { at = at; before = befo
 emitted b before.Nothing at after = Step.Octet b (record { at = after; before = before.Character })
 emitted b before.Character at after = Step.Octet b (record { at = after; before = before.Character })
 
-abbrev pub isEnd : Step → Bool
-isEnd Step.End = true
-isEnd (Step.Octet b c) = false
+-- ---- octets that are as prepared, but for folding
+-- an octet that can't stand in them, behind a space or at the start (`space`), or behind a character
+abbrev pub isLoose : Bool → ℕ → Bool
+isLoose space b = either (eqb b 34) (both space (eqb b 32))
+
+-- no quote, no space first, last or twice
+unfoldable pub isSqueezed : Bool → List ℕ → Bool
+isSqueezed space [] = no space
+isSqueezed space (b ∷ bs) = let r = isSqueezed (eqb b 32) bs in pick (isLoose space b) false r

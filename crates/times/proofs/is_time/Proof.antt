@@ -1,4 +1,4 @@
-use Rattle.times.proofs.Steps.{time-is}
+use Rattle.times.proofs.Laws.{time-is}
 use borrow.Author.Needs.{needs}
 use Rattle.times.proofs.is_time.Statement.{statement}
 use Rattle.times.proofs.is_time.Tie as tie

@@ -18,7 +18,7 @@ use Rattle.walk.specs.inner.Run.{Seen, seen, run, ranTo, countedTo, abse
 use Rattle.walk.specs.declared.Move.{Move}
 use Rattle.walk.specs.declared.State.{State}
 
--- what a function of the walk is told: a plan from step k on, with the asserted text x, and a value of its type at a place
+-- what a function of the walk is told: a plan from step k on, with the operand x, and a value of its type at a place
 pub record Goes (t q x v : List ℕ) (k at : ℕ) : Type 0 where
   pub defaults : Bool
   pub ty : Ty
@@ -28,10 +28,10 @@ pub record Goes (t q x v : List ℕ) (k at : ℕ) : Type 0 where
   pub planned : Planned t q x defaults k ty ids
   pub stands : Stands ty v at val
 
--- the same, whatever the text
+-- the same, whatever the operand
 pub record Steps (t q v : List ℕ) (k at : ℕ) : Type 0 where
-  pub text : List ℕ
-  pub goes : Goes t q text v k at
+  pub operand : List ℕ
+  pub goes : Goes t q operand v k at
 
 -- what the plan names there
 abbrev pub names : (t q x v : List ℕ) (k at : ℕ) → Goes t q x v k at → List Held

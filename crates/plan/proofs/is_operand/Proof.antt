@@ -1,0 +1,17 @@
+use Rattle.plan.proofs.TestSteps.{stands-quoted, stands-squeezed, stands-whole}
+use borrow.Author.Needs.{needs}
+use Rattle.plan.proofs.is_operand.Statement.{statement}
+use Rattle.plan.proofs.is_operand.Tie as tie
+
+pub is-operand-spec : {M : Type 1} → statement M
+is-operand-spec =
+    tie.close
+    (tie.spec
+    (λ c κs. search needs)  -- rule-form-requires
+    (λ c. search needs)  -- enum-told
+    (λ c. search needs)  -- enum-told-2
+    (λ c. search needs)  -- enum-told-3
+    (λ c κs. search needs)  -- is-squeezed-requires
+    (λ c. search stands-whole)  -- returns
+    (λ c. search stands-quoted)  -- returns-2
+    (λ c. search stands-squeezed))  -- returns-3
