@@ -12,9 +12,10 @@ use Rattle.rows.specs.Row.{membersAt}
 use Rattle.types.specs.Types.{Member, Ty, memberOf}
 use Rattle.table.specs.inner.Rows.{tableRows, MemberRow, placeAt, membersAfter, memberAt, memberTypeAt, taggingAt, typeAt}
 use Rattle.table.specs.inner.Words.{Worded}
-use Rattle.value.specs.Value.{Spot, spotAt, spotOf, Value, fields, chosen, elements, Fields, Values}
+use Rattle.value.specs.Value.{Spot, spotAt, spotOf, Value, fields, chosen, elements, Fields, Values, endValues, next}
 use Rattle.value.specs.Decode.{startsHere}
-use Rattle.value.specs.inner.Decodes.{Tagged, Fielded, Elements}
+use Rattle.value.specs.inner.Decodes.{Tagged, Fielded, Elements, ends, goes}
+use Rattle.value.proofs.Decodes.{decodes-stored}
 use Rattle.reference.specs.Reference.{Index, position, fromEnd, count, all, Id, name, index}
 use Rattle.reference.specs.inner.Work.{cap}
 use Rattle.reference.specs.Named.{Held, value, countValue, memberNamed, size, each, elementAt, elementFromEnd, indexedBy, step, held, named}
@@ -29,11 +30,12 @@ use Rattle.walk.specs.inner.Raw.{startOf, nextAfter}
 use Rattle.walk.specs.inner.Stands.{Stands, within, InList, InRow}
 use Rattle.walk.specs.inner.Leads.{One, Counts, FindsNth, FindsLast, Picked, lacking, pickedAt, FieldIs, FindsMember, alternativeMove}
 use Rattle.walk.specs.inner.Run.{Seen, seen, noted, visited, run, countedTo, ranTo, absentNumbers, absentRun}
-use Rattle.walk.specs.inner.Walk.{Goes, Steps, names, Walks, Moved, Moves, IsMove, Asks, Answers, Tests, Tallies}
+use Rattle.walk.specs.inner.Walk.{Goes, Steps, names, Walks, Moved, Moves, Stops, Reaching, Reaches, GoesEach, namesEach, WalksEach, IsMove, Asks, Answers, Tests, Tallies}
 use Rattle.walk.specs.declared.Move.{Move}
+use Rattle.walk.specs.declared.Reached.{Reached}
 use Rattle.walk.specs.declared.State.{State}
 use Rattle.walk.proofs.RawLaws.{start-long, start-before}
-use Rattle.walk.proofs.Standing.{tagged-stands, stands-within, stands-spot, stands-place, whole-stands}
+use Rattle.walk.proofs.Standing.{decodes-next, tagged-stands, stands-within, stands-spot, stands-place}
 use Rattle.walk.proofs.Leaves.{Next, turn-next, turn-end, turn-size, element-capped, from-end-capped}
 use Rattle.walk.proofs.PlanViews.{MemberStep, AlternativeStep, ListStep, ListOn, over-view, member-view, alternative-view, position-view, end-view, count-view, all-view}
 use Rattle.walk.proofs.Naming.{held-done, run-none, run-one, run-append, run-accepted, run-over, absent-runs}
@@ -354,123 +356,193 @@ module _ (t q x v : List ℕ) (k at n : ℕ) (m : List ℕ) where
       ∙ sym (run-one (taskOf q) x n m (countValue (l .spot .place) (size (l .xs))))
       ∙ ap (run (taskOf q) x (seen (State.Going n) m)) (sym (list-names t q v k at x g l count (z .1) ∙ ap (λ (y : List Id). held (g .defaults) y (countValue (l .spot .place) (size (l .xs)) ∷ [])) (z .2) ∙ held-done (g .defaults) _))
 
+  -- where the steps that lead to one value at most end
+  module _ (c : Reached) (told : Reaches t q v k at c) where
+    module _ (j p : ℕ) (e : c ≡ Reached.At j p) (g : Goes t q x v k at) where
+      there : Reaching t q x v k (names t q x v k at g) (Reached.At j p)
+      unfolding Reaches
+      there = subst (Reaching t q x v k (names t q x v k at g)) e (told x g)
+
+      pub one-goes : Goes t q x v j p
+      one-goes = there .0
+
+      pub one-stops : Stops q j
+      one-stops = there .1 .1 .1
+
+      pub one-falls : (z : ℕ) → 3 * (18 - k) + 1 ≡ z → 3 * (18 - j) < z
+      one-falls z y = let l = there .1 .1 .0 in omega arith
+
+    pub one-at : (j p : ℕ) → c ≡ Reached.At j p → (w : Seen) → Walks t q x v j p n m w → Walks t q x v k at n m w
+    unfolding Walks there
+    one-at j p e w f g = let z = there j p e g in f (z .0) ∙ ap (run (taskOf q) x (seen (State.Going n) m)) (sym (z .1 .0))
+
+    module _ (j p : ℕ) (e : c ≡ Reached.Absent j p) where
+      lacking-there : (g : Goes t q x v k at) → Reaching t q x v k (names t q x v k at g) (Reached.Absent j p)
+      unfolding Reaches
+      lacking-there g = subst (Reaching t q x v k (names t q x v k at g)) e (told x g)
+
+      pub one-low : Goes t q x v k at → plan.Low j
+      one-low g = lacking-there g .0
+
+      pub one-fits : Goes t q x v k at → firstAt q j + 1 + secondAt q j < 18446744073709551616
+      one-fits g = lacking-there g .1 .0
+
+      pub one-absent : (w : Seen) → w ≡ absentRun q j p n m → Walks t q x v k at n m w
+      unfolding Walks
+      one-absent w f g = f ∙ lacking-there g .1 .1 n m
+
+    pub one-nothing : c ≡ Reached.Nothing → Walks t q x v k at n m (seen (State.Going n) m)
+    unfolding Walks Reaches
+    one-nothing e g =
+        let z : names t q x v k at g ≡ [] = subst (Reaching t q x v k (names t q x v k at g)) e (told x g) in
+        sym (ap (run (taskOf q) x (seen (State.Going n) m)) z ∙ run-none (taskOf q) x (seen (State.Going n) m))
+
+-- ---- steps that lead to one value at most: what is named at the start is named at step k, from a place
+pub record On (t q v : List ℕ) (first place k at : ℕ) : Type 0 where
+  pub from : first ≤ k
+  pub on : (x : List ℕ) (g : Goes t q x v first place) → (h : Goes t q x v k at) × (names t q x v first place g ≡ names t q x v k at h)
+
+pub reach-start : (t q v : List ℕ) (k at : ℕ) → On t q v k at k at
+reach-start t q v k at = record { from = omega arith; on = λ x g. (g, refl) }
+
+module _ (t q v : List ℕ) (first place k at : ℕ) (inv : On t q v first place k at) where
+  pub reach-steps : Steps t q v first place → Steps t q v k at
+  reach-steps st = record { operand = st .operand; goes = inv .on (st .operand) (st .goes) .0 }
+
+  pub reach-low : Steps t q v first place → plan.Low k
+  reach-low st = inv .on (st .operand) (st .goes) .0 .low
+
+  pub reach-fits : Steps t q v first place → k + 1 < 18446744073709551616
+  reach-fits st = let l = reach-low st in omega arith
+
+  module _ (op : ℕ) (read : op ≡ sortAt q k) where
+    stop-here : Stops q k → Reaches t q v first place (Reached.At k at)
+    unfolding Reaches
+    stop-here s x g = let z = inv .on x g in (z .0, (z .1, (inv .from, s)))
+
+    pub reach-end : op ≡ sort.end → Reaches t q v first place (Reached.At k at)
+    reach-end e = stop-here (λ a b. absurd (a (sym read ∙ e)))
+
+    pub reach-count : op ≡ sort.count → Reaches t q v first place (Reached.At k at)
+    reach-count e = stop-here (λ a b. absurd (b (sym read ∙ e)))
+
+    pub reach-all : op ≡ sort.all → Reaches t q v first place (Reached.At k at)
+    reach-all e = stop-here (λ a b. sym read ∙ e)
+
   module _ (c : Move) (told : Moves t q v k at c) where
-    pub walk-to-goes : (p : ℕ) → c ≡ Move.To p → Goes t q x v k at → Goes t q x v (k + 1) p
+    moved : (y : Move) → c ≡ y → (x : List ℕ) (g : Goes t q x v first place) → Moved t q x v k at (names t q x v k at (inv .on x g .0)) y
     unfolding Moves
-    walk-to-goes p e g = subst (Moved t q x v k at (names t q x v k at g)) e (told x g) .0
+    moved y e x g = subst (Moved t q x v k at (names t q x v k at (inv .on x g .0))) e (told x (inv .on x g .0))
 
-    pub walk-to : (p : ℕ) → c ≡ Move.To p → (w : Seen) → Walks t q x v (k + 1) p n m w → Walks t q x v k at n m w
-    unfolding Moves Walks
-    walk-to p e w f g = let z = subst (Moved t q x v k at (names t q x v k at g)) e (told x g) in f (z .0) ∙ ap (run (taskOf q) x (seen (State.Going n) m)) (sym (z .1))
+    pub reach-on : (p : ℕ) → c ≡ Move.To p → On t q v first place (k + 1) p
+    reach-on p e = record { from = let f = inv .from in omega arith; on = λ x g. let z = moved (Move.To p) e x g in (z .0, inv .on x g .1 ∙ z .1) }
 
-    pub walk-absent-fits : c ≡ Move.Absent → Goes t q x v k at → firstAt q k + 1 + secondAt q k < 18446744073709551616
-    unfolding Moves
-    walk-absent-fits e g = subst (Moved t q x v k at (names t q x v k at g)) e (told x g) .0
+    pub reach-absent : c ≡ Move.Absent → Reaches t q v first place (Reached.Absent k at)
+    unfolding Reaches
+    reach-absent e x g =
+        let h = inv .on x g in
+        let z = moved Move.Absent e x g in
+        (h .0 .low, (z .0, λ n m. z .1 n m ∙ ap (run (taskOf q) x (seen (State.Going n) m)) (sym (h .1))))
 
-    pub walk-absent : c ≡ Move.Absent → (w : Seen) → w ≡ absentRun q k at n m → Walks t q x v k at n m w
-    unfolding Moves Walks
-    walk-absent e w f g = let z = subst (Moved t q x v k at (names t q x v k at g)) e (told x g) in f ∙ z .1 n m
+    pub reach-nothing : c ≡ Move.Nothing → Reaches t q v first place Reached.Nothing
+    unfolding Reaches
+    reach-nothing e x g = inv .on x g .1 ∙ moved Move.Nothing e x g
 
-    pub walk-nothing : c ≡ Move.Nothing → Walks t q x v k at n m (seen (State.Going n) m)
-    unfolding Moves Walks
-    walk-nothing e g = let z = subst (Moved t q x v k at (names t q x v k at g)) e (told x g) in sym (ap (run (taskOf q) x (seen (State.Going n) m)) z ∙ run-none (taskOf q) x (seen (State.Going n) m))
-
--- ---- each element of a list
-pub record Each (t q x v : List ℕ) (k at n : ℕ) (m₀ : List ℕ) (stop i made : ℕ) (m : List ℕ) (g : Goes t q x v k at) : Type 0 where
-  pub low : Within k
-  pub inside : stop ≤ length v
-  pub element : Ty
-  pub is : List Id
-  pub rest : Planned t q x (g .defaults) (k + 1) element is
+-- ---- values one after another: those from place i on
+pub record Each (t q x v : List ℕ) (k start stop n : ℕ) (m₀ : List ℕ) (i made : ℕ) (m : List ℕ) (g : GoesEach t q x v k start stop) : Type 0 where
   pub ys : Values
   pub most : ℕ
-  pub turn : Elements v element stop most i ys
-  pub same-run : run (taskOf q) x (seen (State.Going made) m) (held (g .defaults) is (each ys)) ≡ run (taskOf q) x (seen (State.Going n) m₀) (names t q x v k at g)
+  pub turn : Elements v (g .ty) stop most i ys
+  pub same-run : run (taskOf q) x (seen (State.Going made) m) (held (g .defaults) (g .ids) (each ys)) ≡ run (taskOf q) x (seen (State.Going n) m₀) (namesEach t q x v k start stop g)
 
-pub record AllEach (t q x v : List ℕ) (k at n : ℕ) (m₀ : List ℕ) (stop i made : ℕ) (m : List ℕ) : Type 0 where
+pub record AllEach (t q x v : List ℕ) (k start stop n : ℕ) (m₀ : List ℕ) (i made : ℕ) (m : List ℕ) : Type 0 where
   pub length-same : length m ≡ length m₀
-  pub of : (g : Goes t q x v k at) → Each t q x v k at n m₀ stop i made m g
+  pub of : (g : GoesEach t q x v k start stop) → Each t q x v k start stop n m₀ i made m g
 
-module _ (t q x v : List ℕ) (k at n : ℕ) (m₀ : List ℕ) (stop : ℕ) where
-  pub each-start : sortAt q k ≡ sort.all → stop ≡ nextAfter v at → (start : ℕ) → start ≡ startOf v at → AllEach t q x v k at n m₀ stop start n m₀
-  each-start op b start a = record {
-    length-same = refl;
-    of = λ g.
-        let w = all-view t q x v k at g op in
-        let l = w .list in
-        let h = stands-within (g .stands) in
-        record {
-          low = w .low;
-          inside = omega arith;
-          element = l .element;
-          is = l .is;
-          rest = w .rest;
-          ys = l .xs;
-          most = l .most;
-          turn = subst (λ (y : ℕ). Elements v (l .element) stop (l .most) y (l .xs)) (sym a) (subst (λ (y : ℕ). Elements v (l .element) y (l .most) (startOf v at) (l .xs)) (sym b) (l .turn));
-          same-run = ap (run (taskOf q) x (seen (State.Going n) m₀)) (sym (list-names t q v k at x g l all (w .index-is)));
-        };
-  }
+module _ (t q x v : List ℕ) (k start stop n : ℕ) (m₀ : List ℕ) where
+  pub each-start : AllEach t q x v k start stop n m₀ start n m₀
+  each-start = record { length-same = refl; of = λ g. record { ys = g .xs; most = g .most; turn = g .turn; same-run = refl } }
 
-  module _ (i made : ℕ) (m : List ℕ) (w : AllEach t q x v k at n m₀ stop i made m) where
+  module _ (i made : ℕ) (m : List ℕ) (w : AllEach t q x v k start stop n m₀ i made m) where
     pub each-length : length m ≡ length m₀
     each-length = w .length-same
 
-    pub each-done : stop ≤ i → Walks t q x v k at n m₀ (seen (State.Going made) m)
-    unfolding Walks each
+    pub each-done : stop ≤ i → WalksEach t q x v k start stop n m₀ (seen (State.Going made) m)
+    unfolding WalksEach each
     each-done h g =
         let e = w .of g in
         let z = turn-end (e .turn) h in
         sym (run-none (taskOf q) x (seen (State.Going made) m))
-        ∙ ap (run (taskOf q) x (seen (State.Going made) m)) (sym (ap (λ (y : Values). held (g .defaults) (e .is) (each y)) (sym z) ∙ held-none (g .defaults) (e .is))) ∙ e .same-run
+        ∙ ap (run (taskOf q) x (seen (State.Going made) m)) (sym (ap (λ (y : Values). held (g .defaults) (g .ids) (each y)) (sym z) ∙ held-none (g .defaults) (g .ids))) ∙ e .same-run
 
     module _ (h : i < stop) where
-      first : (g : Goes t q x v k at) → Next v (w .of g .element) stop i (w .of g .ys)
-      first g = turn-next (w .of g .inside) (w .of g .turn) h
+      first : (g : GoesEach t q x v k start stop) → Next v (g .ty) stop i (w .of g .ys)
+      first g = turn-next (g .inside) (w .of g .turn) h
 
-      pub each-within : Goes t q x v k at → nextAfter v i ≤ length v
+      pub each-within : GoesEach t q x v k start stop → nextAfter v i ≤ length v
       each-within g = stands-within (first g .stands)
 
-      pub each-goes : Goes t q x v k at → Goes t q x v (k + 1) i
-      each-goes g = let l = w .of g .low in record { defaults = g .defaults; ty = w .of g .element; ids = w .of g .is; val = first g .x; low = omega arith; planned = w .of g .rest; stands = first g .stands }
+      pub each-goes : GoesEach t q x v k start stop → Goes t q x v k i
+      each-goes g = record { defaults = g .defaults; ty = g .ty; ids = g .ids; val = first g .x; low = g .low; planned = g .planned; stands = first g .stands }
 
-      module _ (c : State) (m₁ : List ℕ) (told : Walks t q x v (k + 1) i made m (seen c m₁)) where
-        -- the state after the element, and the elements after it
-        runs-on : (g : Goes t q x v k at) → run (taskOf q) x (seen c m₁) (held (g .defaults) (w .of g .is) (each (first g .ys))) ≡ run (taskOf q) x (seen (State.Going n) m₀) (names t q x v k at g)
+      module _ (c : State) (m₁ : List ℕ) (told : Walks t q x v k i made m (seen c m₁)) where
+        -- the state after the value, and the values after it
+        runs-on : (g : GoesEach t q x v k start stop) → run (taskOf q) x (seen c m₁) (held (g .defaults) (g .ids) (each (first g .ys))) ≡ run (taskOf q) x (seen (State.Going n) m₀) (namesEach t q x v k start stop g)
         unfolding Walks each each-goes
         runs-on g =
-            let e = w .of g in
             let f = first g in
-            ap (λ (y : Seen). run (taskOf q) x y (held (g .defaults) (e .is) (each (f .ys)))) (told (each-goes g))
-            ∙ sym (run-append (taskOf q) x (seen (State.Going made) m) (held (g .defaults) (e .is) (value (f .x) ∷ [])) (held (g .defaults) (e .is) (each (f .ys))))
-            ∙ ap (run (taskOf q) x (seen (State.Going made) m)) (sym (held-append (g .defaults) (e .is) (value (f .x) ∷ []) (each (f .ys))) ∙ ap (λ (y : Values). held (g .defaults) (e .is) (each y)) (f .whole))
-            ∙ e .same-run
+            ap (λ (y : Seen). run (taskOf q) x y (held (g .defaults) (g .ids) (each (f .ys)))) (told (each-goes g))
+            ∙ sym (run-append (taskOf q) x (seen (State.Going made) m) (held (g .defaults) (g .ids) (value (f .x) ∷ [])) (held (g .defaults) (g .ids) (each (f .ys))))
+            ∙ ap (run (taskOf q) x (seen (State.Going made) m)) (sym (held-append (g .defaults) (g .ids) (value (f .x) ∷ []) (each (f .ys))) ∙ ap (λ (y : Values). held (g .defaults) (g .ids) (each y)) (f .whole))
+            ∙ w .of g .same-run
 
-        pub each-again : length m₁ ≡ length m → (more j : ℕ) → c ≡ State.Going more → j ≡ nextAfter v i → AllEach t q x v k at n m₀ stop j more m₁
+        pub each-again : length m₁ ≡ length m → (more j : ℕ) → c ≡ State.Going more → j ≡ nextAfter v i → AllEach t q x v k start stop n m₀ j more m₁
         each-again len more j e f = record {
           length-same = len ∙ w .length-same;
-          of = λ g.
-              let z = w .of g in
-              record {
-                low = z .low;
-                inside = z .inside;
-                element = z .element;
-                is = z .is;
-                rest = z .rest;
-                ys = first g .ys;
-                most = first g .most;
-                turn = subst (λ (y : ℕ). Elements v (z .element) stop (first g .most) y (first g .ys)) (sym f) (first g .turn);
-                same-run = ap (λ (y : State). run (taskOf q) x (seen y m₁) (held (g .defaults) (z .is) (each (first g .ys)))) (sym e) ∙ runs-on g;
-              };
+          of = λ g. record {
+            ys = first g .ys;
+            most = first g .most;
+            turn = subst (λ (y : ℕ). Elements v (g .ty) stop (first g .most) y (first g .ys)) (sym f) (first g .turn);
+            same-run = ap (λ (y : State). run (taskOf q) x (seen y m₁) (held (g .defaults) (g .ids) (each (first g .ys)))) (sym e) ∙ runs-on g;
+          };
         }
 
-        pub each-accepted : (more : ℕ) → c ≡ State.Accepted more → Walks t q x v k at n m₀ (seen (State.Accepted more) m₁)
-        unfolding Walks
-        each-accepted more e g = sym (ap (λ (y : State). run (taskOf q) x (seen y m₁) (held (g .defaults) (w .of g .is) (each (first g .ys)))) e ∙ run-accepted (taskOf q) x more m₁ _) ∙ runs-on g
+        pub each-accepted : (more : ℕ) → c ≡ State.Accepted more → WalksEach t q x v k start stop n m₀ (seen (State.Accepted more) m₁)
+        unfolding WalksEach
+        each-accepted more e g = sym (ap (λ (y : State). run (taskOf q) x (seen y m₁) (held (g .defaults) (g .ids) (each (first g .ys)))) e ∙ run-accepted (taskOf q) x more m₁ _) ∙ runs-on g
 
-        pub each-over : c ≡ State.Over → Walks t q x v k at n m₀ (seen State.Over m₁)
-        unfolding Walks
-        each-over e g = sym (ap (λ (y : State). run (taskOf q) x (seen y m₁) (held (g .defaults) (w .of g .is) (each (first g .ys)))) e ∙ run-over (taskOf q) x m₁ _) ∙ runs-on g
+        pub each-over : c ≡ State.Over → WalksEach t q x v k start stop n m₀ (seen State.Over m₁)
+        unfolding WalksEach
+        each-over e g = sym (ap (λ (y : State). run (taskOf q) x (seen y m₁) (held (g .defaults) (g .ids) (each (first g .ys)))) e ∙ run-over (taskOf q) x m₁ _) ∙ runs-on g
+
+-- ---- all elements of a list
+module _ (t q x v : List ℕ) (k at : ℕ) (op : ℕ) (read : op ≡ sortAt q k) (no-end : op ≡ sort.end → ⊥) (no-count : op ≡ sort.count → ⊥) (stops : Stops q k) (start stop : ℕ) (a : start ≡ startOf v at) (b : stop ≡ nextAfter v at) where
+  all-here : sortAt q k ≡ sort.all
+  all-here = stops (λ e. no-end (read ∙ e)) (λ e. no-count (read ∙ e))
+
+  pub all-each : Goes t q x v k at → GoesEach t q x v (k + 1) start stop
+  all-each g =
+      let w = all-view t q x v k at g all-here in
+      let l = w .list in
+      let h = stands-within (g .stands) in
+      let low = w .low in
+      record {
+        defaults = g .defaults;
+        ty = l .element;
+        ids = l .is;
+        xs = l .xs;
+        most = l .most;
+        low = omega arith;
+        planned = w .rest;
+        turn = subst (λ (y : ℕ). Elements v (l .element) stop (l .most) y (l .xs)) (sym a) (subst (λ (y : ℕ). Elements v (l .element) y (l .most) (startOf v at) (l .xs)) (sym b) (l .turn));
+        inside = omega arith;
+      }
+
+  pub all-walked : (n : ℕ) (m : List ℕ) (w : Seen) → WalksEach t q x v (k + 1) start stop n m w → Walks t q x v k at n m w
+  unfolding Walks WalksEach all-each
+  all-walked n m w f g =
+      let z = all-view t q x v k at g all-here in
+      f (all-each g) ∙ ap (run (taskOf q) x (seen (State.Going n) m)) (sym (list-names t q v k at x g (z .list) all (z .index-is)))
 
 -- ---- the walk ends: each step is a step further in the plan
 pub low-after : (t q x v : List ℕ) (k at op : ℕ) → Goes t q x v k at → op ≡ sortAt q k → (op ≡ sort.end → ⊥) → k < 17
@@ -488,28 +560,46 @@ low-after t q x v k at op g read other = go (g .planned)
 pub is-move : (q : List ℕ) (k op : ℕ) → op ≡ sortAt q k → (op ≡ sort.end → ⊥) → (op ≡ sort.count → ⊥) → (op ≡ sort.all → ⊥) → IsMove (sortAt q k)
 is-move q k op read a b c = (λ e. a (read ∙ e), λ e. b (read ∙ e), λ e. c (read ∙ e))
 
-pub all-falls : (k z : ℕ) → 2 * (18 - k) + 1 ≡ z → 2 * (18 - k) < z
-all-falls k z e = omega arith
+module _ (t q x v : List ℕ) (k at : ℕ) (g : Goes t q x v k at) (op : ℕ) (read : op ≡ sortAt q k) (other : op ≡ sort.end → ⊥) where
+  pub each-falls : (z : ℕ) → 3 * (18 - k) ≡ z → 3 * (18 - (k + 1)) + 2 < z
+  each-falls z e = let l = low-after t q x v k at op g read other in omega arith
 
-module _ (t q x v : List ℕ) (k at : ℕ) (g : Goes t q x v k at) (z : ℕ) where
-  pub step-falls : (op : ℕ) → op ≡ sortAt q k → (op ≡ sort.end → ⊥) → 2 * (18 - k) + 1 ≡ z → 2 * (18 - (k + 1)) + 1 < z
-  step-falls op read other e = let l = low-after t q x v k at op g read other in omega arith
+pub one-less : (k z : ℕ) → 3 * (18 - k) + 2 ≡ z → 3 * (18 - k) + 1 < z
+one-less k z e = omega arith
 
-  pub element-falls : sortAt q k ≡ sort.all → 2 * (18 - k) ≡ z → 2 * (18 - (k + 1)) + 1 < z
-  element-falls op e = let l = low-after t q x v k at (sortAt q k) g refl (λ y. absurd (omega arith)) in omega arith
+pub reach-falls : (t q v : List ℕ) (first place k at : ℕ) → On t q v first place k at → Steps t q v first place → (op : ℕ) → op ≡ sortAt q k → (op ≡ sort.end → ⊥) → 18 - (k + 1) < 18 - k
+reach-falls t q v first place k at inv st op read other =
+    let l = low-after t q (st .operand) v k at op (inv .on (st .operand) (st .goes) .0) read other in omega arith
 
 -- ---- the whole value
-pub asks-goes : (t q x v : List ℕ) → Asks t q x v → Goes t q x v 1 0
-asks-goes t q x v g = record { defaults = g .defaults; ty = typeAt t 0; ids = g .ids; val = g .val; low = omega arith; planned = g .planned; stands = whole-stands (typeAt t 0) v (g .val) (g .stored) }
+pub asks-each : (t q x v : List ℕ) → Asks t q x v → GoesEach t q x v 1 0 (length v)
+asks-each t q x v g =
+    let d = decodes-stored (typeAt t 0) v (g .val) (g .stored) in
+    let e : nextAfter v 0 ≡ length v = decodes-next d in
+    let a = start-before v 0 in
+    let b = start-long v 0 in
+    let some-octets : 0 < length v = omega arith in
+    let at-end : length v ≤ length v = omega arith in
+    record {
+      defaults = g .defaults;
+      ty = typeAt t 0;
+      ids = g .ids;
+      xs = next (g .val) endValues;
+      most = 1;
+      low = omega arith;
+      planned = g .planned;
+      turn = goes some-octets d (ends at-end);
+      inside = omega arith;
+    }
 
-pub answers-by : (t q x v : List ℕ) (n : ℕ) (m : List ℕ) (w : Seen) → Walks t q x v 1 0 n m w → Answers t q x v n m w
-unfolding Walks Answers named asks-goes
-answers-by t q x v n m w f g = f (asks-goes t q x v g)
+pub answers-by : (t q x v : List ℕ) (n : ℕ) (m : List ℕ) (w : Seen) → WalksEach t q x v 1 0 (length v) n m w → Answers t q x v n m w
+unfolding WalksEach Answers named each asks-each
+answers-by t q x v n m w f g = f (asks-each t q x v g)
 
 -- without memory
-pub tests-by : (t q x v : List ℕ) (n : ℕ) (m m₁ : List ℕ) (r : State) → Walks t q x v 1 0 n m (seen r m₁) → Tests t q x v n r
-unfolding Walks Tests named asks-goes
-tests-by t q x v n m m₁ r f g other = seen-state r _ m₁ m (f (asks-goes t q x v g) ∙ ran (taskOf q) x n m (named (g .defaults) (g .ids) (g .val)) other)
+pub tests-by : (t q x v : List ℕ) (n : ℕ) (m m₁ : List ℕ) (r : State) → WalksEach t q x v 1 0 (length v) n m (seen r m₁) → Tests t q x v n r
+unfolding WalksEach Tests named each asks-each
+tests-by t q x v n m m₁ r f g other = seen-state r _ m₁ m (f (asks-each t q x v g) ∙ ran (taskOf q) x n m (named (g .defaults) (g .ids) (g .val)) other)
 
 module _ (t q v : List ℕ) (n : ℕ) (r : State) (told : Tests t q [] v n r) where
   pub tally-is : (k : ℕ) → r ≡ State.Going k → Tallies t q v n k

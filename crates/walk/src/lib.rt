@@ -30,6 +30,21 @@ pub struct Place {
     pub at: usize,
 }
 
+// A step of a plan, and the values that it starts from, one after another from start up to stop.
+pub struct Places {
+    pub step: usize,
+    pub start: usize,
+    pub stop: usize,
+}
+
+// Where steps that lead to one value at most end: at a step that does not, and the place of the value that it starts from; at a step whose member is absent,
+// and the place of its SEQUENCE; or they lead to nothing.
+pub enum Reached {
+    At(usize, usize),
+    Absent(usize, usize),
+    Nothing,
+}
+
 // Where one step leads: to a value at a place; to a member that is absent; to nothing.
 pub enum Move {
     To(usize),
@@ -386,8 +401,38 @@ fn walk_count(
     visit_count(q, at, count(v, o.start, o.end), n, out)
 }
 
-// From a value, along the steps of a plan, after n components.
-fn walk(
+// Where the steps from a value that lead to one value at most end.
+fn reach(t: &[u8], w: &[u64; 256], q: &[usize; 72], v: &[u8], here: Place) -> Reached
+    requires worded { ⌜ Worded (now t) (now w) ⌝ }
+    requires steps { ⌜ walk.Steps (now t) (now q) (now v) (here .step) (here .at) ⌝ }
+    ensures { λ r. ⌜ walk.Reaches (now (t .entry)) (now (q .entry)) (now (v .entry)) (here .step) (here .at) r ⌝ }
+{
+    let mut k = here.step;
+    let mut at = here.at;
+    loop {
+        let sort = plan::sort_at(q, k);
+        if sort == Sort::END {
+            return Reached::At(k, at);
+        }
+        if sort == Sort::COUNT {
+            return Reached::At(k, at);
+        }
+        if sort == Sort::ALL {
+            return Reached::At(k, at);
+        }
+        match one_move(t, w, q, v, k, at) {
+            Move::To(p) => {
+                k += 1;
+                at = p;
+            }
+            Move::Absent => return Reached::Absent(k, at),
+            Move::Nothing => return Reached::Nothing,
+        }
+    }
+}
+
+// From a value where the plan ends, counts, or goes on with all elements.
+fn walk_on(
     t: &[u8],
     w: &[u64; 256],
     q: &[usize; 72],
@@ -399,6 +444,7 @@ fn walk(
 ) -> State
     requires worded { ⌜ Worded (now t) (now w) ⌝ }
     requires goes { ⌜ walk.Goes (now t) (now q) (now operand) (now v) (here .step) (here .at) ⌝ }
+    requires stops { ⌜ walk.Stops (now q) (here .step) ⌝ }
     ensures { λ r. ⌜ walk.Walks (now (t .entry)) (now (q .entry)) (now (operand .entry)) (now (v .entry)) (here .step) (here .at) n (now (out .entry))
         (run.seen r (now (out .exit))) ⌝ }
 {
@@ -409,30 +455,17 @@ fn walk(
     if sort == Sort::COUNT {
         return walk_count(t, q, v, operand, here.step, here.at, n, out);
     }
-    if sort == Sort::ALL {
-        return walk_each(t, w, q, v, operand, here, n, out);
-    }
-    match one_move(t, w, q, v, here.step, here.at) {
-        Move::To(p) => walk(
-            t,
-            w,
-            q,
-            v,
-            operand,
-            Place {
-                step: here.step + 1,
-                at: p,
-            },
-            n,
-            out,
-        ),
-        Move::Absent => visit_absent(q, here.step, here.at, n, out),
-        Move::Nothing => State::Going(n),
-    }
+    let o = opened(v, here.at);
+    let each = Places {
+        step: here.step + 1,
+        start: o.start,
+        stop: o.end,
+    };
+    walk_each(t, w, q, v, operand, each, n, out)
 }
 
-// From each element of a list.
-fn walk_each(
+// From a value, along the steps of a plan, after n components.
+fn walk_one(
     t: &[u8],
     w: &[u64; 256],
     q: &[usize; 72],
@@ -444,20 +477,40 @@ fn walk_each(
 ) -> State
     requires worded { ⌜ Worded (now t) (now w) ⌝ }
     requires goes { ⌜ walk.Goes (now t) (now q) (now operand) (now v) (here .step) (here .at) ⌝ }
-    requires sort { ⌜ plan.sortAt (now q) (here .step) ≡ sort.all ⌝ }
     ensures { λ r. ⌜ walk.Walks (now (t .entry)) (now (q .entry)) (now (operand .entry)) (now (v .entry)) (here .step) (here .at) n (now (out .entry))
         (run.seen r (now (out .exit))) ⌝ }
 {
-    let k = here.step;
-    let at = here.at;
-    let o = opened(v, at);
-    let stop = o.end;
-    let mut i = o.start;
+    match reach(t, w, q, v, here) {
+        Reached::At(step, at) => walk_on(t, w, q, v, operand, Place { step, at }, n, out),
+        Reached::Absent(k, at) => visit_absent(q, k, at, n, out),
+        Reached::Nothing => State::Going(n),
+    }
+}
+
+// From each of the values at some places.
+fn walk_each(
+    t: &[u8],
+    w: &[u64; 256],
+    q: &[usize; 72],
+    v: &[u8],
+    operand: &[u8],
+    here: Places,
+    n: usize,
+    out: &mut [u64],
+) -> State
+    requires worded { ⌜ Worded (now t) (now w) ⌝ }
+    requires goes { ⌜ walk.GoesEach (now t) (now q) (now operand) (now v) (here .step) (here .start) (here .stop) ⌝ }
+    ensures { λ r. ⌜ walk.WalksEach (now (t .entry)) (now (q .entry)) (now (operand .entry)) (now (v .entry)) (here .step) (here .start) (here .stop) n
+        (now (out .entry)) (run.seen r (now (out .exit))) ⌝ }
+{
+    let step = here.step;
+    let stop = here.stop;
+    let mut at = here.start;
     let mut made = n;
-    while i < stop {
-        match walk(t, w, q, v, operand, Place { step: k + 1, at: i }, made, out) {
+    while at < stop {
+        match walk_one(t, w, q, v, operand, Place { step, at }, made, out) {
             State::Going(more) => {
-                i = next_after(v, i);
+                at = next_after(v, at);
                 made = more;
             }
             State::Accepted(more) => return State::Accepted(more),
@@ -474,7 +527,12 @@ pub fn list(t: &[u8], w: &[u64; 256], q: &[usize; 72], v: &[u8], n: usize, out: 
     requires asks { ⌜ walk.Asks (now t) (now q) [] (now v) ⌝ }
     ensures { λ r. ⌜ walk.Answers (now (t .entry)) (now (q .entry)) [] (now (v .entry)) n (now (out .entry)) (run.seen r (now (out .exit))) ⌝ }
 {
-    walk(t, w, q, v, b"", Place { step: 1, at: 0 }, n, out)
+    let whole = Places {
+        step: 1,
+        start: 0,
+        stop: v.len(),
+    };
+    walk_each(t, w, q, v, b"", whole, n, out)
 }
 
 // Tests of its components, after n tests: with the operand, and no memory.
@@ -484,7 +542,12 @@ pub fn test(t: &[u8], w: &[u64; 256], q: &[usize; 72], v: &[u8], operand: &[u8],
     ensures { λ r. ⌜ walk.Tests (now (t .entry)) (now (q .entry)) (now (operand .entry)) (now (v .entry)) n r ⌝ }
 {
     let mut out = [0u64; 0];
-    walk(t, w, q, v, operand, Place { step: 1, at: 0 }, n, &mut out)
+    let whole = Places {
+        step: 1,
+        start: 0,
+        stop: v.len(),
+    };
+    walk_each(t, w, q, v, operand, whole, n, &mut out)
 }
 
 // How many they are, after n.

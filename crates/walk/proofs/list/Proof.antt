@@ -1,4 +1,4 @@
-use Rattle.walk.proofs.WalkSteps.{asks-goes, answers-by}
+use Rattle.walk.proofs.WalkSteps.{asks-each, answers-by}
 use borrow.Author.Needs.{needs}
 use Rattle.walk.proofs.list.Statement.{statement}
 use Rattle.walk.proofs.list.Tie as tie
@@ -7,7 +7,7 @@ pub list-spec : {M : Type 1} → statement M
 list-spec =
     tie.close
     (tie.spec
-    (λ c. search needs)  -- slice-aggregate-walk
-    (λ c κs. (search needs, search asks-goes))  -- walk-requires
+    (λ c. search needs)  -- slice-aggregate-walk-each
+    (λ c κs. (search needs, search asks-each))  -- walk-each-requires
     (λ c. search needs)  -- same-length
     (λ c. search answers-by))  -- returns

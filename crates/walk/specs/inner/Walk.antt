@@ -3,19 +3,22 @@ use mathlib.Core.Path.{_≡_}
 use mathlib.Core.Bool.{Bool}
 use mathlib.Core.Option.{some}
 use mathlib.Core.List.{List, [], _∷_}
-use Prim.Native.Nat.{ℕ, _+_, _<_}
+use Prim.Native.Nat.{ℕ, _+_, _≤_, _<_}
+use lib.ListN.{length}
 use Rattle.types.specs.Types.{Ty}
 use Rattle.table.specs.inner.Rows.{typeAt}
-use Rattle.value.specs.Value.{Value}
+use Rattle.value.specs.Value.{Value, Values}
+use Rattle.value.specs.inner.Decodes.{Elements}
 use Rattle.value.specs.Decode.{storedValue}
 use Rattle.reference.specs.Reference.{Id}
-use Rattle.reference.specs.Named.{Held, value, held, named}
+use Rattle.reference.specs.Named.{Held, value, each, held, named}
 use Rattle.plan.specs.inner.Sort as sort
 use Rattle.plan.specs.inner.Task.{counting, listing, taskOf}
-use Rattle.plan.specs.inner.Plan.{firstAt, secondAt, Low, Planned}
+use Rattle.plan.specs.inner.Plan.{sortAt, firstAt, secondAt, Low, Planned}
 use Rattle.walk.specs.inner.Stands.{Stands}
 use Rattle.walk.specs.inner.Run.{Seen, seen, run, ranTo, countedTo, absentRun}
 use Rattle.walk.specs.declared.Move.{Move}
+use Rattle.walk.specs.declared.Reached.{Reached}
 use Rattle.walk.specs.declared.State.{State}
 
 -- what a function of the walk is told: a plan from step k on, with the operand x, and a value of its type at a place
@@ -50,6 +53,38 @@ Moved t q x v k at hs Move.Nothing = hs ≡ []
 
 unfoldable pub Moves : List ℕ → List ℕ → List ℕ → ℕ → ℕ → Move → Type 0
 Moves t q v k at r = (x : List ℕ) (g : Goes t q x v k at) → Moved t q x v k at (names t q x v k at g) r
+
+-- a step that leads to more than one value, or to none: the end, a count, all elements
+abbrev pub Stops : List ℕ → ℕ → Type 0
+Stops q k = (sortAt q k ≡ sort.end → ⊥) → (sortAt q k ≡ sort.count → ⊥) → sortAt q k ≡ sort.all
+
+-- steps from step k on end at such a step, at an absent member, or lead to nothing
+abbrev pub Reaching : (t q x v : List ℕ) (k : ℕ) → List Held → Reached → Type 0
+Reaching t q x v k hs (Reached.At j p) = (h : Goes t q x v j p) × ((hs ≡ names t q x v j p h) × ((k ≤ j) × Stops q j))
+Reaching t q x v k hs (Reached.Absent j p) =
+    Low j × ((firstAt q j + 1 + secondAt q j < 18446744073709551616) × ((n : ℕ) (m : List ℕ) → absentRun q j p n m ≡ run (taskOf q) x (seen (State.Going n) m) hs))
+Reaching t q x v k hs Reached.Nothing = hs ≡ []
+
+unfoldable pub Reaches : List ℕ → List ℕ → List ℕ → ℕ → ℕ → Reached → Type 0
+Reaches t q v k at r = (x : List ℕ) (g : Goes t q x v k at) → Reaching t q x v k (names t q x v k at g) r
+
+-- ---- values one after another, and a plan for their type from step k on
+pub record GoesEach (t q x v : List ℕ) (k start stop : ℕ) : Type 0 where
+  pub defaults : Bool
+  pub ty : Ty
+  pub ids : List Id
+  pub xs : Values
+  pub most : ℕ
+  pub low : Low k
+  pub planned : Planned t q x defaults k ty ids
+  pub turn : Elements v ty stop most start xs
+  pub inside : stop ≤ length v
+
+abbrev pub namesEach : (t q x v : List ℕ) (k start stop : ℕ) → GoesEach t q x v k start stop → List Held
+namesEach t q x v k start stop g = held (g .defaults) (g .ids) (each (g .xs))
+
+unfoldable pub WalksEach : List ℕ → List ℕ → List ℕ → List ℕ → ℕ → ℕ → ℕ → ℕ → List ℕ → Seen → Type 0
+WalksEach t q x v k start stop n m w = (g : GoesEach t q x v k start stop) → w ≡ run (taskOf q) x (seen (State.Going n) m) (namesEach t q x v k start stop g)
 
 -- the sort of a step that leads to one value at most
 abbrev pub IsMove : ℕ → Type 0
