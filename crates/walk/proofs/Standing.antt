@@ -1,7 +1,6 @@
 -- Decoded values on the octets: a value that is decoded stands where headers that are not doubted put it.
 use mathlib.Core.Path.{_≡_, refl, sym, ap, ap₂, _∙_, subst}
 use mathlib.Core.Bool.{true, false≢true}
-use mathlib.Core.Option.{some}
 use mathlib.Core.List.{List}
 use Prim.Native.Nat.{ℕ, _≤_, _<_, _+_}
 use native.Mathlib.Omega.{arith}
@@ -10,9 +9,8 @@ use Rattle.der.specs.Tag.{wrapperOctet}
 use Rattle.der.proofs.Laws.{inside-view, header-within}
 use Rattle.types.specs.Types.{Tagging, untagged, explicit, implicit, Ty, sequence, choice, listOf, Members}
 use Rattle.value.specs.Value.{Spot, spotAt, spotOf, Value, fields, elements, Fields, Values}
-use Rattle.value.specs.Decode.{storedValue}
 use Rattle.value.specs.inner.Decodes.{isBare, Behind, Decodes, is-sequence, is-choice, is-list, Tagged, bare, filling, Fielded, Chosen, Elements}
-use Rattle.value.proofs.Decodes.{Framed, Own, own, framed, framed-by, decodes-stored}
+use Rattle.value.proofs.Decodes.{Framed, Own, own, framed, framed-by}
 use Rattle.value.proofs.Laws.{framed-within}
 use Rattle.value.proofs.Before.{before}
 use Rattle.walk.specs.inner.Raw.{startOf, nextAfter}
@@ -100,7 +98,3 @@ module _ {v : List ℕ} {at : ℕ} {x : Value} where
 
   pub choice-stands : {ms : Members} → Stands (choice ms) v at x → Chosen v (length v) at ms x (nextAfter v at)
   choice-stands s = choice-from (s .decoded)
-
--- the whole stored value stands at its first octet
-pub whole-stands : (ty : Ty) (v : List ℕ) (x : Value) → storedValue ty v ≡ some x → Stands ty v 0 x
-whole-stands ty v x e = decodes-stands (decodes-stored ty v x e) (omega arith)
