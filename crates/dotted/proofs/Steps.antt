@@ -19,7 +19,7 @@ use Rattle.der.proofs.DottedLaws.{numbers-nil, numbers-cons, dotted-pieces}
 use Rattle.dotted.specs.inner.Arcs.{isJoint, arcAt, restPieces, areRoots, underRoot, dottedUnder}
 use Rattle.dotted.specs.declared.Dots.{Dots}
 use Rattle.dotted.specs.declared.Arc.{Arc}
-use Rattle.dotted.proofs.ArcSteps.{Cut, cut, Headed, arc-headed}
+use Rattle.dotted.proofs.ArcSteps.{cut, Headed, arc-headed}
 
 -- ---- the first two arcs
 module _ (a b : Size) (m : ℕ) (e : a ≡ Size.Of m) where

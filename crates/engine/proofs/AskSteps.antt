@@ -23,9 +23,8 @@ use Rattle.value.specs.Decode.{storedValue}
 use Rattle.value.specs.Check.{valueFits}
 use Rattle.value.proofs.EntrySteps.{not-admitted, is-admitted}
 use Rattle.rules.specs.Rule.{knownRules}
-use Rattle.assertion.specs.Assertion.{Read}
 use Rattle.filter.specs.Filter.{Item, Filter}
-use Rattle.filter.specs.Parse.{filterFits, filterAt, parse}
+use Rattle.filter.specs.Parse.{filterFits, parse}
 use Rattle.filter.specs.Paper.{filterLimits}
 use Rattle.filter.specs.inner.Answers as filter
 use Rattle.filter.specs.declared.Filter as declared
@@ -38,7 +37,7 @@ use Rattle.evaluation.proofs.ItemSteps.{some-there}
 use Rattle.evaluation.specs.declared.Verdict.{Verdict}
 use Rattle.evaluation.specs.declared.Judged.{Judged}
 use Rattle.evaluation.specs.declared.Evaluated.{Evaluated}
-use Rattle.engine.specs.Answer.{Report, refused, budgeted, questionFits, evaluated, withValue, withFilter, questionOf, askReport, report}
+use Rattle.engine.specs.Answer.{refused, budgeted, questionFits, evaluated, withValue, withFilter, questionOf, askReport, report}
 use Rattle.engine.specs.inner.Judged.{refusedBehind, settledAs, judgedReport}
 use Rattle.engine.specs.Paper.{limits}
 use Rattle.engine.specs.declared.Answer.{Answer}

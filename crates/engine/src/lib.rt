@@ -10,7 +10,6 @@ ghost use mathlib.Core.Path.{_≡_};
 ghost use mathlib.Core.Bool.{true};
 ghost use Prim.Native.Nat.{_≤_, _+_, _/_};
 ghost use lib.ListN.{length};
-ghost use Rattle.octets.specs.Pick.{isSome};
 ghost use Rattle.rows.specs.Paper.{tableLimits};
 ghost use Rattle.types.specs.Admitted.{admitted};
 ghost use Rattle.table.specs.inner.Rows.{typeAt};

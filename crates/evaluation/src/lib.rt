@@ -15,7 +15,6 @@ ghost use mathlib.Core.Path.{_≡_};
 ghost use mathlib.Core.Bool.{true};
 ghost use mathlib.Core.Option.{some};
 ghost use lib.ListN.{length};
-ghost use Rattle.octets.specs.Pick.{isSome};
 ghost use Rattle.rows.specs.Paper.{tableLimits};
 ghost use Rattle.types.specs.Admitted.{admitted};
 ghost use Rattle.table.specs.inner.Rows.{tableRows, typeAt};

@@ -16,8 +16,8 @@ use Rattle.assertion.specs.Assertion.{Read, readTo}
 use Rattle.assertion.proofs.Laws.{some-is, none-not, if-some, bind-some}
 use Rattle.assertion.proofs.Progress.{Further}
 use Rattle.filter.specs.Limits.{Limits}
-use Rattle.filter.specs.Filter.{Item, Filter, Filters, endFilters, next, depth, items}
-use Rattle.filter.specs.Parse.{Head, headAt, Tail, another, closed, noTail, tailAt, made, byHead, byTail, afterFirst, filterFrom, filtersFrom, filterAt, ifWhole, withinLimits, whole, parse, parseWithin}
+use Rattle.filter.specs.Filter.{Item, Filter, Filters, depth, items}
+use Rattle.filter.specs.Parse.{Head, headAt, Tail, tailAt, made, byHead, byTail, afterFirst, filterFrom, filtersFrom, filterAt, ifWhole, withinLimits, whole, parse, parseWithin}
 use Rattle.filter.specs.inner.Answers.{filtersAt}
 use Rattle.filter.specs.inner.Answers.{itemsOf}
 use Rattle.filter.proofs.Progress.{read-on, from-on, head-on, same-head, same-first, same-filter, same-filters}
@@ -65,18 +65,6 @@ module _ (s : List ℕ) (at : ℕ) where
 
   pub read-first : (r : Read (Filters Item)) → filtersAt s at ≡ some r → (f : Read (Filter Item)) × ((filterAt s at ≡ some f) × (byTail (filtersAt s) (f .is) (tailAt s (f .after)) ≡ some r))
   read-first r e = bind-some (filterAt s at) (afterFirst s (filtersAt s)) r (sym (filters-step s at) ∙ e)
-
-module _ (s : List ℕ) (at : ℕ) (r : Read (Filters Item)) (f : Read (Filter Item)) (read : filtersAt s at ≡ some r) (first : filterAt s at ≡ some f) where
-  pub read-another : (p : ℕ) → tailAt s (f .after) ≡ another p → (l : Read (Filters Item)) × ((filtersAt s p ≡ some l) × ((next (f .is) (l .is) ≡ r .is) × (l .after ≡ r .after)))
-  read-another p e = made-some (next (f .is)) (filtersAt s p) r (sym (filters-by s at f first e) ∙ read)
-
-  pub read-closed : (p : ℕ) → tailAt s (f .after) ≡ closed p → (next (f .is) endFilters ≡ r .is) × (p ≡ r .after)
-  read-closed p e =
-      let z = some-is (sym (filters-by s at f first e) ∙ read) in
-      (ap (λ (q : Read (Filters Item)). q .is) z, ap (λ (q : Read (Filters Item)). q .after) z)
-
-  pub read-tail : tailAt s (f .after) ≡ noTail → ⊥
-  read-tail e = none-not (sym (filters-by s at f first e) ∙ read)
 
 -- ---- a parsed text
 pub whole-read : (s : List ℕ) (f : Filter Item) → whole s ≡ some f → (utf8 s ≡ true) × (filterAt s 0 ≡ readTo f (length s))

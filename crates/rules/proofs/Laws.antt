@@ -17,7 +17,7 @@ use Rattle.der.proofs.MeaningLaws.{string-kinds}
 use Rattle.rows.specs.Paper.{tableLimits}
 use Rattle.rows.specs.Row.{rowAt, kindAt, namedAt, modeAt, numberAt, isList, membersAt}
 use Rattle.rows.proofs.KindLaws.{list-kinds}
-use Rattle.types.specs.Types.{untagged, explicit, implicit, Ty, basic, choice, Members, taggingOf, membersFrom, typed, typeFrom}
+use Rattle.types.specs.Types.{untagged, explicit, implicit, Ty, Members, taggingOf, membersFrom, typed, typeFrom}
 use Rattle.types.proofs.TypeCases.{tagging-cases, member-tagging, members-none, members-more, typed-cases}
 use Rattle.table.specs.inner.Rows.{tableRows, placeAt, typeAt, membersAfter, memberKindAt}
 use Rattle.table.specs.inner.Words.{Worded}

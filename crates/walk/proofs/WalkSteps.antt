@@ -24,7 +24,7 @@ use Rattle.reference.proofs.HeldLaws.{held-none, held-append, held-step}
 use Rattle.plan.specs.inner.Sort as sort
 use Rattle.plan.specs.inner.Task.{Task, counting, taskOf, passes}
 use Rattle.plan.specs.inner.Plan as plan
-use Rattle.plan.specs.inner.Plan.{sortAt, firstAt, secondAt, absentAt, Within, absentOf, Planned}
+use Rattle.plan.specs.inner.Plan.{sortAt, firstAt, secondAt, absentAt, absentOf, Planned}
 use Rattle.plan.proofs.RowLaws.{member-here, member-kind, member-fits}
 use Rattle.walk.specs.inner.Raw.{startOf, nextAfter}
 use Rattle.walk.specs.inner.Stands.{Stands, within, InList, InRow}

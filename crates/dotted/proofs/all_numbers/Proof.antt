@@ -4,7 +4,7 @@ use Rattle.dotted.specs.inner.Arcs.{numbersAfter}
 use Rattle.octets.specs.Text.{pieces}
 use borrow.Author.Needs.{needs}
 use lib.ListN.{drop, length}
-use mathlib.Core.Path.{_≡_, refl}
+use mathlib.Core.Path.{_≡_}
 use Prim.Native.Nat.{_-_}
 use Rattle.dotted.proofs.all_numbers.Statement.{statement}
 use Rattle.dotted.proofs.all_numbers.Tie as tie
