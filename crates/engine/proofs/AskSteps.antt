@@ -123,7 +123,7 @@ typed-bad ty v s budget x a stored e q = ap report q ∙ go (parse filterLimits 
     go (some f) = not-stored ty v budget f (sym stored ∙ not-true x e)
 
 -- 3, then 5, or a truth
-module _ (t w v s : List ℕ) (budget : ℕ) (ready : Ready t w v) (r : Evaluated) (told : Evaluates (storedOutcome (words.typeAt t 0) v) budget (parse filterLimits s) r) where
+module _ (t w v s : List ℕ) (budget : ℕ) (ready : Ready t w v s) (r : Evaluated) (told : Evaluates (storedOutcome (words.typeAt t 0) v) budget (parse filterLimits s) r) where
   abbrev ty : Ty
   ty = words.typeAt t 0
 

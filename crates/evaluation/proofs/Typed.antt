@@ -18,7 +18,7 @@ use Rattle.rows.specs.Row.{nameAt, kindAt, namedAt, presenceAt, defaultLengthAt
 use Rattle.rows.proofs.KindLaws.{list-names}
 use Rattle.clauses.specs.Clauses.{memberPlace, defaultAllowed, defaultLegal}
 use Rattle.types.proofs.TypeCases.{typed-cases, typed-small}
-use Rattle.types.specs.Types.{Presence, mandatory, optional, default, Ty, basic, sequence, choice, listOf, Members, noMore, more, unfilled, presenceOf, memberOf, membersFrom, typeFrom}
+use Rattle.types.specs.Types.{Presence, mandatory, optional, default, Ty, basic, sequence, choice, listOf, Members, noMore, more, unfilled, presenceOf, memberOf, membersFrom, typed, typeFrom}
 use Rattle.types.specs.Admitted.{admitted}
 use Rattle.types.specs.inner.Work.{Sound}
 use Rattle.types.proofs.NameLaws.{unfilled-differ}
@@ -162,19 +162,21 @@ module _ (chain : ℕ) (t s m : List ℕ) (ok : Sound chain t s m) (names : Name
       shift : (P : ℕ → Type 0) (j : ℕ) → P (a + suc j) → P (a + 1 + j)
       shift P j w = let e : a + suc j ≡ a + 1 + j = omega arith in subst P e w
 
-  -- the type of a row: the rows that it names come later
-  fine-type : (n i : ℕ) → i < length s → length s ≤ i + n → Fine (typeFrom chain t s i)
+  -- the type of a row, where those of later rows are fine
+  fine-typed : (i : ℕ) → i < length s → ((j : ℕ) → i < j → j < length s → Fine (typeFrom chain t s j))
+      → Fine (typed t s i (typeFrom chain t s (namedAt t (rowAt s i))) (membersFrom (typeFrom chain t s) t s (i + 1) (membersAt t (rowAt s i))))
   unfolding Fine
-  fine-type zero i h l = absurd (omega arith)
-  fine-type (suc n) i h l = subst Fine (sym (ok .step i h))
-      (typed-cases t s i (typeFrom chain t s (namedAt t (rowAt s i))) (membersFrom (typeFrom chain t s) t s (i + 1) (membersAt t (rowAt s i))) (λ (y : Ty). Fine y)
-      (λ _. members) (λ _. members) (λ e. let w = ok .later .of-row i h (list-names t (rowAt s i) e) in later (namedAt t (rowAt s i)) (w .0) (w .1)) (λ _ _ _. tt))
+  fine-typed i h later =
+      typed-cases t s i (typeFrom chain t s (namedAt t (rowAt s i))) (membersFrom (typeFrom chain t s) t s (i + 1) (membersAt t (rowAt s i))) (λ (y : Ty). Fine y)
+      (λ _. members) (λ _. members) (λ e. let w = ok .later .of-row i h (list-names t (rowAt s i) e) in later (namedAt t (rowAt s i)) (w .0) (w .1)) (λ _ _ _. tt)
     where
-      later : (j : ℕ) → i < j → j < length s → Fine (typeFrom chain t s j)
-      later j a d = fine-type n j d (omega arith)
-
       members : FineIn (membersFrom (typeFrom chain t s) t s (i + 1) (membersAt t (rowAt s i)))
       members = fine-rows i later (membersAt t (rowAt s i)) (i + 1) (λ j d. (ok .stands i h j d, ok .members i h j d, ok .later .of-member i h j d .0, ok .later .of-member i h j d .1)) (λ a b l d. names .differ i h a b l d)
+
+  -- the rows that a row names come later
+  fine-type : (n i : ℕ) → i < length s → length s ≤ i + n → Fine (typeFrom chain t s i)
+  fine-type zero i h l = absurd (omega arith)
+  fine-type (suc n) i h l = subst Fine (sym (ok .step i h)) (fine-typed i h (λ j a d. fine-type n j d (omega arith)))
 
 -- the type of row 0 of an admitted table
 pub fine-first : (t w : List ℕ) → Worded t w → admitted tableLimits t ≡ true → Fine (typeAt t 0)
