@@ -58,9 +58,8 @@ pub enum Evaluated {
     Malformed,
 }
 
-// A place in a filter text: the depth and the items left there, and whether what stands there is judged or passed over.
-pub struct Spot {
-    pub at: usize,
+// What is left at a place of a filter text: the depth and the items; and whether what stands there is judged or passed over.
+pub struct Left {
     pub depth: usize,
     pub items: usize,
     pub live: bool,
@@ -366,26 +365,27 @@ fn judge_assertion(
     w: &[u64; 256],
     v: &[u8],
     f: &[u8],
-    here: Spot,
+    at: usize,
+    left: Left,
     tests: Tests,
 ) -> Judging
     requires ready { ⌜ work.Ready (now t) (now w) (now v) (now f) ⌝ }
     requires within { ⌜ tests .made ≤ tests .budget ⌝ }
-    ensures { λ r. ⌜ work.Judges (work.storedOutcome (typeAt (now (t .entry)) 0) (now (v .entry))) 1 (here .items) (here .live)
-        (tests .budget) (tests .made) (parsing.made item (assertionAt (now (f .entry)) (here .at))) r ⌝ }
+    ensures { λ r. ⌜ work.Judges (work.storedOutcome (typeAt (now (t .entry)) 0) (now (v .entry))) 1 (left .items) (left .live)
+        (tests .budget) (tests .made) (parsing.made item (assertionAt (now (f .entry)) at)) r ⌝ }
 {
-    if here.items == 0 {
+    if left.items == 0 {
         return Judging::Bad;
     }
-    let Assertion::Good(parts) = assertion::read_assertion(f, here.at) else {
+    let Assertion::Good(parts) = assertion::read_assertion(f, at) else {
         return Judging::Bad;
     };
     let after = parts.after;
-    let left = here.items - 1;
-    if !here.live {
-        return Judging::At(Verdict::Undefined, tests.made, after, left);
+    let items = left.items - 1;
+    if !left.live {
+        return Judging::At(Verdict::Undefined, tests.made, after, items);
     }
-    placed(judge_parts(t, w, v, f, parts, tests), after, left)
+    placed(judge_parts(t, w, v, f, parts, tests), after, items)
 }
 
 // An empty list.
@@ -418,61 +418,35 @@ fn next_turn(f: &[u8], join: Join, p: Progress, w: Judging) -> Turn
 }
 
 // The filter at a place, read, and judged or passed over.
-fn judge_filter(t: &[u8], w: &[u64; 256], v: &[u8], f: &[u8], here: Spot, tests: Tests) -> Judging
+fn judge_filter(
+    t: &[u8],
+    w: &[u64; 256],
+    v: &[u8],
+    f: &[u8],
+    at: usize,
+    left: Left,
+    tests: Tests,
+) -> Judging
     requires ready { ⌜ work.Ready (now t) (now w) (now v) (now f) ⌝ }
     requires within { ⌜ tests .made ≤ tests .budget ⌝ }
-    ensures { λ r. ⌜ work.Judges (work.storedOutcome (typeAt (now (t .entry)) 0) (now (v .entry))) (here .depth) (here .items) (here .live)
-        (tests .budget) (tests .made) (parsing.filterAt (now (f .entry)) (here .at)) r ⌝ }
+    ensures { λ r. ⌜ work.Judges (work.storedOutcome (typeAt (now (t .entry)) 0) (now (v .entry))) (left .depth) (left .items) (left .live)
+        (tests .budget) (tests .made) (parsing.filterAt (now (f .entry)) at) r ⌝ }
 {
-    let depth = here.depth;
-    let items = here.items;
-    let live = here.live;
-    if depth == 0 {
+    let items = left.items;
+    let live = left.live;
+    if left.depth == 0 {
         return Judging::Bad;
     }
-    let depth = depth - 1;
-    match filter::read_head(f, here.at) {
-        Head::Assertion(at) => judge_assertion(
-            t,
-            w,
-            v,
-            f,
-            Spot {
-                at,
-                depth,
-                items,
-                live,
-            },
-            tests,
-        ),
+    let inner = Left {
+        depth: left.depth - 1,
+        items,
+        live,
+    };
+    match filter::read_head(f, at) {
+        Head::Assertion(p) => judge_assertion(t, w, v, f, p, inner, tests),
         Head::EmptyList(join, p) => empty_list(join, live, tests.made, p, items),
-        Head::OpenList(join, at) => judge_list(
-            t,
-            w,
-            v,
-            f,
-            Spot {
-                at,
-                depth,
-                items,
-                live,
-            },
-            join,
-            tests,
-        ),
-        Head::Negation(at) => inverted(judge_filter(
-            t,
-            w,
-            v,
-            f,
-            Spot {
-                at,
-                depth,
-                items,
-                live,
-            },
-            tests,
-        )),
+        Head::OpenList(join, p) => judge_list(t, w, v, f, p, inner, join, tests),
+        Head::Negation(p) => inverted(judge_filter(t, w, v, f, p, inner, tests)),
         Head::NoHead => Judging::Bad,
     }
 }
@@ -483,42 +457,32 @@ fn judge_list(
     w: &[u64; 256],
     v: &[u8],
     f: &[u8],
-    here: Spot,
+    at: usize,
+    left: Left,
     join: Join,
     tests: Tests,
 ) -> Judging
     requires ready { ⌜ work.Ready (now t) (now w) (now v) (now f) ⌝ }
     requires within { ⌜ tests .made ≤ tests .budget ⌝ }
-    ensures { λ r. ⌜ work.JudgesIn (work.storedOutcome (typeAt (now (t .entry)) 0) (now (v .entry))) (reportJoin join) (work.begun (here .live))
-        (here .depth) (here .items) (tests .budget) (tests .made) (filtersAt (now (f .entry)) (here .at)) r ⌝ }
+    ensures { λ r. ⌜ work.JudgesIn (work.storedOutcome (typeAt (now (t .entry)) 0) (now (v .entry))) (reportJoin join) (work.begun (left .live))
+        (left .depth) (left .items) (tests .budget) (tests .made) (filtersAt (now (f .entry)) at) r ⌝ }
 {
-    let depth = here.depth;
+    let depth = left.depth;
     let budget = tests.budget;
-    let mut at = here.at;
-    let mut items = here.items;
+    let mut i = at;
+    let mut items = left.items;
     let mut made = tests.made;
-    let mut p = begin(here.live);
+    let mut p = begin(left.live);
     loop {
         let live = goes_on(p);
-        let first = judge_filter(
-            t,
-            w,
-            v,
-            f,
-            Spot {
-                at,
-                depth,
-                items,
-                live,
-            },
-            Tests { made, budget },
-        );
+        let here = Left { depth, items, live };
+        let first = judge_filter(t, w, v, f, i, here, Tests { made, budget });
         match next_turn(f, join, p, first) {
-            Turn::Goes(next, k, a, left) => {
+            Turn::Goes(next, k, a, rest) => {
                 p = next;
                 made = k;
-                at = a;
-                items = left;
+                i = a;
+                items = rest;
             }
             Turn::Ends(end) => return end,
         }
@@ -533,13 +497,12 @@ pub fn judge(t: &[u8], w: &[u64; 256], v: &[u8], f: &[u8], budget: usize) -> Eva
     if !octets::utf8(f) {
         return Evaluated::Malformed;
     }
-    let whole = Spot {
-        at: 0,
+    let left = Left {
         depth: Filter::MAX_DEPTH,
         items: Filter::MAX_ITEMS,
         live: true,
     };
-    match judge_filter(t, w, v, f, whole, Tests { made: 0, budget }) {
+    match judge_filter(t, w, v, f, 0, left, Tests { made: 0, budget }) {
         Judging::At(u, k, after, _) => {
             if after != f.len() {
                 return Evaluated::Malformed;

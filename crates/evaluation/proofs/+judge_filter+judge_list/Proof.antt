@@ -25,10 +25,10 @@ use Rattle.evaluation.proofs.+judge_filter+judge_list.Tie.{close}
 
 -- the text that is left falls
 abbrev μ-judge-filter : Measures 4 judge-filter-kinds.ps ℕ
-μ-judge-filter κs a = 2 * (length (a .1 .1 .1 .0 .now) - a .1 .1 .1 .1 .0 .at)
+μ-judge-filter κs a = 2 * (length (a .1 .1 .1 .0 .now) - a .1 .1 .1 .1 .0)
 
 abbrev μ-judge-list : Measures 4 judge-list-kinds.ps ℕ
-μ-judge-list κs a = 2 * (length (a .1 .1 .1 .0 .now) - a .1 .1 .1 .1 .0 .at) + 1
+μ-judge-list κs a = 2 * (length (a .1 .1 .1 .0 .now) - a .1 .1 .1 .1 .0) + 1
 
 abbrev judge-filter-at : ℕ → In 4 judge-filter-kinds.ps
 judge-filter-at t = and 4 judge-filter-kinds.ps (is 4 judge-filter-kinds.ps μ-judge-filter t) judge-filter.Pre
@@ -50,11 +50,11 @@ abbrev judge-list-claims : ℕ → judge-list-lts.Claims
 judge-list-claims t = (begin-reads.Asked, begin-reads.Learnt, goes-on-reads.Asked, goes-on-reads.Learnt, judge-filter-below t, judge-filter.Post, next-turn-reads.Asked, next-turn-reads.Learnt)
 
 abbrev judge-list-Inv-loop : judge-list-lts.InvT-loop
-judge-list-Inv-loop t w v f join depth budget at₀ items₀ made₀ p₀ at items made p =
-    Listing (storedOutcome (typeAt t 0) v) f (reportJoin join) p₀ depth items₀ budget made₀ at₀ p made at items
+judge-list-Inv-loop t w v f at join depth budget i₀ items₀ made₀ p₀ i items made p =
+    Listing (storedOutcome (typeAt t 0) v) f (reportJoin join) p₀ depth items₀ budget made₀ i₀ p made i items
 
 abbrev judge-list-μ-loop : judge-list-lts.MeasureT-loop
-judge-list-μ-loop t w v f join depth budget at₀ items₀ made₀ p₀ at items made p = length f - at
+judge-list-μ-loop t w v f at join depth budget i₀ items₀ made₀ p₀ i items made p = length f - i
 
 pub +judge-filter+judge-list-spec : {M : Type 1} → statement M
 +judge-filter+judge-list-spec =
