@@ -84,8 +84,16 @@ def fills(name, row, element, rule, before, fill, after):
     return asks(name, of(14, 1) + row, tlv(0x30, contents(element)), start + fill * (room // len(fill)) + end)
 
 
+def names(name, stored, count, asserted):
+    """An item over a list of names that begin as the asserted one does."""
+    elements = [tlv(12, (stored % at).encode()) for at in range(count)]
+    return asks(name, of(14, 1) + UTF8_ROW, tlv(0x30, *elements), item("*", "caseIgnoreMatch", '"%s"' % asserted))
+
+
 def questions_of_strings():
-    """Strings against long texts of spaces, quotes and letters; a long string of spaces against many texts."""
+    """Names, plain and with accents; strings against long texts of spaces, quotes and letters; a long string of spaces against many texts."""
+    yield names("plain-names", "Elan no. %03d", 292, "elan NO. 999")
+    yield names("accented-names", "\u00c9lan no. %03d", 272, "\u00e9lan NO. 999")
     one, two, quote = tlv(12, b"a"), tlv(12, b"a b"), tlv(12, b'"')
     for name, element, before, after in (("spaces-last", one, '"a', 'b"'), ("spaces-between", two, '"a', 'c"'), ("spaces-first", two, '"', 'c"'),
                                          ("spaces-at-end", two, '"a c', '"'), ("spaces-alone", one, '"', '"')):

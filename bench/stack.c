@@ -74,6 +74,7 @@ static const leaf leaves[] = {
     {"caseIgnoreMatch, inner spaces", 8, OCTETS("\x0c\x03" "a b"), "caseIgnoreMatch", "\"A", " ", "B\""},
     {"caseIgnoreMatch, outer spaces", 10, OCTETS("\x16\x03" "a b"), "caseIgnoreMatch", "\" a  b", " ", "\""},
     {"caseIgnoreMatch, doubled quotes", 8, OCTETS("\x0c\x03" "a b"), "caseIgnoreMatch", "\"", "\"\"", "\""},
+    {"caseIgnoreMatch, accents", 8, OCTETS("\x0c\x04" "\xc2\xbc\xc3\x89"), "caseIgnoreMatch", "\"", "\xc2\xbc", "\""},
     {"generalizedTimeMatch", 11, OCTETS("\x18\x0f" "20240229120000Z"), "generalizedTimeMatch", "\"20240229120000.5Z\"", "", ""},
     {"generalizedTimeOrderingMatch", 11, OCTETS("\x18\x0f" "20240229120000Z"), "generalizedTimeOrderingMatch", "\"20240229120001Z\"", "", ""},
 };

@@ -144,7 +144,10 @@ def questions():
 
 
 def further():
-    """Questions on the samples' other types, for changing: every rule, lists of lists, wrappers, a CHOICE, a SET OF."""
+    """Questions on the samples' other types, for changing: every rule, lists of lists, wrappers, a CHOICE, a SET OF, strings that aren't plain."""
+    stored = ["\u00c9lan", "stra\u00dfe", "a\u00a0\u00adb", "x \u00b4y", "\u0130\u0149", "\u00bc\u017f", "\u0132\u00b5 "]
+    strings = samples.of(14, 1) + EVENT_TABLE, samples.tlv(0x30, *(samples.leaf(8, text.encode()) for text in stored))
+    texts = ["\u00e9LAN", "STRASSE", "A\u0009 B", "x \u00b4y", "i\u0307\u02bcN", "1\u20444s", "ij\u03bc"]
     example, classes = (samples.EXAMPLE, samples.EXAMPLE_VALUE), (samples.CLASSES, samples.object_class([b"a", b"b"], b"text", b"\xff", [b"\x55\x04\x03"]))
     asked = [(*example, samples.item("part1", "integerMatch", 42)), (*example, samples.item("part2.option", "caseIgnoreMatch", '"YES"')),
              (*example, samples.item("part2.setting", "booleanMatch", "TRUE")), (*example, samples.item("part3.*", "objectIdentifierMatch", "2.5.6.19")),
@@ -156,6 +159,7 @@ def further():
              (bytes([11]), samples.leaf(11, b"20240229120000.5Z"), samples.item(None, "generalizedTimeOrderingMatch", '"20240229120001Z"')),
              (bytes([11]), samples.leaf(11, b"20240229120000Z"), "not:" + samples.item(None, "generalizedTimeMatch", '"20240229120000Z"')),
              (samples.LICENCE, samples.RECORD, "and:{%s,or:{},%s}" % (samples.item("parts.0", "integerMatch", 2), samples.item("x", "integerMatch", 2)))]
+    asked += [(*strings, samples.item("*", rule, '"%s"' % text)) for rule in ("caseIgnoreMatch", "caseExactMatch") for text in texts + stored]
     return [Question("further-%d" % at, "-", *question, samples.asked(*question), timed=False) for at, question in enumerate(asked)]
 
 

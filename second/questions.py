@@ -1,6 +1,6 @@
 """Listings and filters for crates/cases: tables and values, each with what is asked about it.
 
-Like corpus.py this module and those that it draws on, question_filters.py and question_places.py,
+Like corpus.py this module and those that it draws on, question_filters.py, question_places.py and question_strings.py,
 choose cases; engine.py answers them.
 """
 
@@ -11,6 +11,7 @@ import draw_values
 import engine
 import question_filters
 import question_places
+import question_strings
 import written
 from samples import LICENCE, RECORD, item
 
@@ -77,7 +78,7 @@ class Questions:
 
 def of_the_tests(found):
     """What the tests ask: P1..P12, "Run only", RFC 3687's examples, and the edges of every sentence."""
-    for case in written.cases(10000):
+    for case in written.cases(10000, written.BASE):
         if case.entry == "ask":
             found.filter(*case.inputs)
             found.budgets(*case.inputs[:3])
@@ -155,6 +156,7 @@ def subjects(hostile):
     drawn(found, 83, draw.SMALL, SUBJECTS, 8, 3)
     drawn(found, 84, draw.SMALL, BROKEN, 2, 2, ("table", "value", "value", "value"))
     drawn(found, 85, draw.LARGE, LARGE, 8, 4)
+    question_strings.ask(found)
     return {subject: list(asked) for subject, asked in found.of.items()}
 
 

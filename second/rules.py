@@ -6,6 +6,7 @@ from typing import Callable
 
 import der
 import table as types
+from preparation import prepared
 from reference import COUNT_TYPE
 
 INTEGER_TEXT = re.compile(r"0|-?[1-9][0-9]*")
@@ -71,16 +72,6 @@ def time_of(text):
     return NOT_CONFORMING if time is None else time
 
 
-def prepared(string):
-    """Spaces at both ends dropped, inner runs of space made one."""
-    return " ".join(word for word in string.split(" ") if word)
-
-
-def folded(string):
-    """`prepared`, with A..Z turned into a..z and any other character standing for itself."""
-    return re.sub("[A-Z]", lambda letter: letter.group().lower(), prepared(string))
-
-
 def always(_stored, _asserted):
     """presentMatch accepts any value."""
     return True
@@ -98,12 +89,12 @@ def less(stored, asserted):
 
 def same_exactly(stored, asserted):
     """caseExactMatch."""
-    return prepared(stored) == prepared(asserted)
+    return prepared(stored, fold=False) == prepared(asserted, fold=False)
 
 
 def same_ignoring_case(stored, asserted):
     """caseIgnoreMatch."""
-    return folded(stored) == folded(asserted)
+    return prepared(stored, fold=True) == prepared(asserted, fold=True)
 
 
 @dataclass(frozen=True)

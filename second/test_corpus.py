@@ -6,11 +6,12 @@ from collections import Counter
 import corpus
 import engine
 import filters
+import question_strings
 import questions
 import reference
 import table as types
 import value as values
-from samples import LICENCE, RECORD, item
+from samples import LICENCE, RECORD, item, leaf
 
 
 class Reader:
@@ -119,6 +120,17 @@ class Files(unittest.TestCase):
             self.assertEqual(answers["l", (LICENCE, RECORD, True, text.encode(), True, room)], line)
         stored = bytes.fromhex("30180C026531020101300F30041302566C300713025661800103")
         self.assertEqual(answers["l", (LICENCE, stored, True, b"seats", True, 3)], "refused 4: 9999 9999 9999")
+
+    def test_each_character(self):
+        """Each character up to U+017F is stored and asserted alone, doubled, between letters and beside spaces, for both rules."""
+        asked = {(inputs[1], inputs[2]) for kind, inputs, _ in self.cases if kind == "f" and inputs[0] == question_strings.STRINGS}
+        texts, stored = {text for _, text in asked}, {value for value, _ in asked}
+        for character in question_strings.CHARACTERS:
+            for form in question_strings.FORMS:
+                string = form.format(character)
+                self.assertTrue(any(leaf(8, string.encode()) in value for value in stored), string)
+                for oid, _ in question_strings.RULES:
+                    self.assertIn(item("*", oid, question_strings.quoted(string)).encode(), texts)
 
     def test_laws(self):
         kept = None, None, None

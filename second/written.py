@@ -5,11 +5,14 @@ import unittest
 import draw
 import engine
 
+# The classes of the tests: those of document 01, and one for each request of document 02.
+BASE = ("Licence", "Lists", "Rules", "Published", "Entries", "Contents", "Tables", "Filters")
+REQUESTS = ("Preparation",)
 NAMES = {"table": "check_table", "value": "check_value", "part": "part", "ask": "ask", "list": "listing"}
 
 
-def cases(longest=700):
-    """Every call of an entry that the tests make on inputs of at most `longest` octets in all."""
+def cases(longest=700, classes=BASE + REQUESTS):
+    """Every call of an entry that these tests make on inputs of at most `longest` octets in all."""
     import test_second
 
     found, kept = {}, {}
@@ -24,7 +27,7 @@ def cases(longest=700):
         return record
 
     suite = unittest.TestSuite()
-    for name in ("Licence", "Lists", "Rules", "Published", "Entries", "Contents", "Tables", "Filters"):
+    for name in classes:
         suite.addTests(unittest.defaultTestLoader.loadTestsFromTestCase(getattr(test_second, name)))
     for entry, name in NAMES.items():
         kept[name] = getattr(engine, name)

@@ -227,9 +227,19 @@ impl Draw {
                 let unused = if octets.is_empty() { 0 } else { self.pick(&[0, 0, 3, 5]) };
                 [vec![unused], octets].concat()
             }
-            Basic::Utf8String => self.text(&["a", "A", " ", "b", "\"", "é", "}", "漢"]),
+            Basic::Utf8String => {
+                let from = self.pick(&[
+                    &["a", "A", " ", "b", "\"", "é", "}", "漢"][..],
+                    &["é", "É", "e", "\u{301}", " "],
+                    &["ß", "s", "S", "\u{17F}", "\u{1E9E}"],
+                    &["a", " ", "\u{A0}", "\t", "\u{AD}", "\u{85}", "\0", "\u{2003}"],
+                    &["a", " ", "\u{B4}", "\u{301}", "\u{A8}"],
+                    &["i", "I", "\u{130}", "\u{131}", "\u{307}", "\u{132}", "j"],
+                ]);
+                self.text(from)
+            }
             Basic::PrintableString => self.text(&["a", "A", " ", " ", "b", "B"]),
-            Basic::Ia5String => self.text(&["a", "A", " ", " ", "{", "\"", "\u{0}"]),
+            Basic::Ia5String => self.text(&["a", "A", " ", " ", "{", "\"", "\u{0}", "\n"]),
             Basic::GeneralizedTime => {
                 let day = self.pick(&["20240229", "20240228", "00000101", "99991231"]);
                 let second = self.pick(&["120000", "120001", "235960"]);

@@ -1,6 +1,7 @@
 //! Matching rules: their names, the types they are for, asserted values, acceptance.
 
 use crate::der;
+use crate::prepare::{is_prepared_to, prepared, Case};
 use crate::reference::Target;
 use crate::table::{Basic, Form, Tagging, Type};
 use std::cmp::Ordering;
@@ -115,10 +116,8 @@ pub enum Matcher<'f> {
     Octets(Relation, Vec<u8>),
     /// Bits from the first on, the last octet filled with zeros, and their number.
     Bits(Vec<u8>, usize),
-    Text {
-        ignore_case: bool,
-        asserted: Vec<u8>,
-    },
+    /// Whether case counts, and the prepared string.
+    Text(Case, Vec<u8>),
     Time(Relation, &'f [u8]),
 }
 
@@ -161,8 +160,8 @@ impl<'f> Matcher<'f> {
                 let (packed, number) = bits(text)?;
                 Matcher::Bits(packed, number)
             }
-            Rule::CaseIgnore => Matcher::Text { ignore_case: true, asserted: string(text)? },
-            Rule::CaseExact => Matcher::Text { ignore_case: false, asserted: string(text)? },
+            Rule::CaseIgnore => Matcher::Text(Case::Fold, prepared(string(text)?, Case::Fold)),
+            Rule::CaseExact => Matcher::Text(Case::Keep, prepared(string(text)?, Case::Keep)),
             Rule::GeneralizedTime => Matcher::Time(Relation::Equal, time(text)?),
             Rule::GeneralizedTimeOrdering => Matcher::Time(Relation::Less, time(text)?),
         })
@@ -184,7 +183,7 @@ impl<'f> Matcher<'f> {
                 }
                 [] => false,
             },
-            Matcher::Text { ignore_case, asserted } => is_same_text(contents, asserted, *ignore_case),
+            Matcher::Text(case, asserted) => is_prepared_to(contents, *case, asserted),
             Matcher::Time(relation, asserted) => relation.holds(der::compare_times(contents, asserted)),
         }
     }
@@ -298,24 +297,6 @@ fn time(text: &[u8]) -> Option<&[u8]> {
     double_quoted(text).filter(|inner| der::is_generalized_time(inner))
 }
 
-/// Prepared strings are equal exactly if their words are the same: spaces at the ends are dropped and
-/// runs of them made one.
-fn is_same_text(stored: &[u8], asserted: &[u8], ignore_case: bool) -> bool {
-    let mut left = words(stored);
-    let mut right = words(asserted);
-    loop {
-        match (left.next(), right.next()) {
-            (None, None) => return true,
-            (Some(l), Some(r)) if l == r || ignore_case && l.eq_ignore_ascii_case(r) => {}
-            _ => return false,
-        }
-    }
-}
-
-fn words(text: &[u8]) -> impl Iterator<Item = &[u8]> {
-    text.split(|&b| b == b' ').filter(|word| !word.is_empty())
-}
-
 #[cfg(test)]
 mod tests {
     use super::*;
@@ -361,10 +342,5 @@ mod tests {
         for bad in ["\"", "\"\"", "\"\"\"", "a", "\"a\"b\""] {
             assert_eq!(string(bad.as_bytes()), None, "{bad}");
         }
-        assert!(is_same_text(b"  a  b ", b"a b", false));
-        assert!(is_same_text(b"", b" ", false));
-        assert!(!is_same_text(b"ab", b"a b", true));
-        assert!(is_same_text("\u{e9}A".as_bytes(), "\u{e9}a".as_bytes(), true));
-        assert!(!is_same_text("\u{c9}".as_bytes(), "\u{e9}".as_bytes(), true));
     }
 }

@@ -3,3 +3,4 @@ pub mod Few
 pub mod Demand2
 pub mod Determined
 pub mod Demand3
+pub mod Prepared

@@ -1,17 +1,17 @@
 -- Arcs that can be stored: laws for the layers above.
-use mathlib.Core.Path.{_≡_, refl, sym, ap, ap₂, _∙_}
+use mathlib.Core.Path.{_≡_, refl, sym, ap, _∙_}
 use mathlib.Core.Bool.{Bool, true, false, false≢true}
 use mathlib.Core.Option.{Option, none, some}
 use mathlib.Core.List.{List, [], _∷_}
 use Prim.Native.Nat.{ℕ, zero, suc, _≤_, _<_, _+_, _-_, _*_, _%_}
 use native.Mathlib.Omega.{arith}
-use borrow.Author.Tests.{lt-ltb, ltb-true, ltb-false, leb-true, eqb-true}
+use borrow.Author.Tests.{lt-ltb, ltb-true, ltb-false, leb-true}
 use lib.Dec.{ltb, leb, eqb}
 use lib.ListN.{length}
 use Rattle.octets.specs.Pick.{pick, both, no, consed}
 use Rattle.octets.specs.Octets.{same, every}
 use Rattle.octets.proofs.Laws.{both-true}
-use Rattle.octets.proofs.TextLaws.{every-nil, every-cons, same-shorter, same-longer, same-cons}
+use Rattle.octets.proofs.TextLaws.{every-nil, every-cons, same-is}
 use Rattle.der.specs.Contents.{subsFrom, subidentifiers, legalSubs, legalOid}
 use Rattle.der.specs.Meaning.{arcsFrom, arcsOf}
 use Rattle.der.specs.Dotted.{dottedArcs}
@@ -76,14 +76,6 @@ arcs-fit (some (n ∷ l)) e f = go (ltb n 40) (ltb n 80)
 pub stored-fit : (c : List ℕ) → legalOid c ≡ true → fitting 33 (arcsOf c) ≡ true
 unfolding legalOid arcsOf subidentifiers
 stored-fit c e = arcs-fit (subidentifiers c) (subs-small false 0 c) e
-
-same-is : (a b : List ℕ) → same a b ≡ true → a ≡ b
-same-is [] [] e = refl
-same-is [] (b ∷ s) e = absurd (false≢true (sym (same-shorter b s) ∙ e))
-same-is (a ∷ l) [] e = absurd (false≢true (sym (same-longer a l) ∙ e))
-same-is (a ∷ l) (b ∷ s) e =
-    let h = both-true (eqb a b) (same l s) (sym (same-cons a b l s) ∙ e) in
-    ap₂ (λ (x : ℕ) (y : List ℕ). x ∷ y) (eqb-true a b (h .0)) (same-is l s (h .1))
 
 -- where a text's arcs don't fit, no legal contents have them
 pub unfit-differs : (c t : List ℕ) → legalOid c ≡ true → fitting 33 (dottedArcs t) ≡ false → same (arcsOf c) (dottedArcs t) ≡ false

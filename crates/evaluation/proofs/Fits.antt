@@ -9,6 +9,7 @@ use lib.ListN.{length, length-take, drop}
 use lib.Dec.{leb, eqb}
 use Rattle.octets.specs.Pick.{pick, bind}
 use Rattle.octets.specs.Octets.{part, same}
+use Rattle.octets.proofs.TextLaws.{same-is}
 use Rattle.octets.proofs.Laws.{rest-length}
 use Rattle.der.specs.Tag.{wrapperOctet}
 use Rattle.der.proofs.Laws.{inside-within}
@@ -34,7 +35,7 @@ use Rattle.plan.proofs.Accepting.{basic-passes, choice-passes, sequence-passes,
 use Rattle.evaluation.specs.Truth.{TRUE}
 use Rattle.evaluation.specs.Reading.{Outcome, settled}
 use Rattle.evaluation.specs.Assertion.{testing}
-use Rattle.evaluation.proofs.Typed.{same-is, Defaulted, DefaultFine, Fresh, Fine, FineIn}
+use Rattle.evaluation.proofs.Typed.{Defaulted, DefaultFine, Fresh, Fine, FineIn}
 
 -- a value of a type is decoded somewhere among the octets
 pub record Is (ty : Ty) (v : List ℕ) (x : Value) : Type 0 where

@@ -33,8 +33,8 @@ use Rattle.rules.specs.declared.Rule.{Rule}
 use Rattle.rules.specs.declared.Named.{Named}
 use Rattle.rules.proofs.Laws.{rule-for-none, rule-for-is}
 use Rattle.plan.specs.inner.Test.{testFor}
-use Rattle.plan.specs.inner.Operand.{operandOf, Part, stands}
-use Rattle.plan.proofs.Accepting.{operand-stands, operand-squeezed}
+use Rattle.plan.specs.inner.Operand.{operandOf, Part, stands, folds}
+use Rattle.plan.proofs.Accepting.{operand-stands, operand-prepared}
 use Rattle.plan.specs.inner.Task as task
 use Rattle.plan.specs.inner.Task.{Task, taskOf, passes}
 use Rattle.plan.specs.inner.Resolve.{Lands, Resolves}
@@ -243,9 +243,9 @@ module _ (f : List ℕ) (p : Parts) (r : Rule) (text part : List ℕ) (value : t
   pub part-brief : (t w v : List ℕ) → Ready t w v f → length part ≤ length text → length part ≤ 2048
   part-brief t w v ready l = omega (arith, ready .brief, l, ap length value, length-take (p .«value_end» - p .value) (drop (p .value) f), rest-length f (p .value))
 
-  pub squeezed-stands : (b : Bool) (m x : List ℕ) (n : ℕ) → Part (meant r) text part → b ≡ stands (meant r) part → b ≡ false → part-of m 0 n ≡ prepared false (undoubled part) → x ≡ part-of m 0 n
+  pub prepared-stands : (b fold : Bool) (m x : List ℕ) (n : ℕ) → Part (meant r) text part → b ≡ stands (meant r) part → b ≡ false → fold ≡ folds (meant r) → part-of m 0 n ≡ prepared fold (undoubled part) → x ≡ part-of m 0 n
       → x ≡ operandOf (meant r) (itemOf f p .value)
-  squeezed-stands b m x n w e h q u = u ∙ q ∙ operand-squeezed text part (meant r) w (sym e ∙ h) ∙ ap (operandOf (meant r)) value
+  prepared-stands b fold m x n w e h k q u = u ∙ q ∙ ap (λ (y : Bool). prepared y (undoubled part)) k ∙ operand-prepared text part (meant r) w (sym e ∙ h) ∙ ap (operandOf (meant r)) value
 
 pub ruled-conforms : (r : Rule) (text : List ℕ) (b : Bool) → b ≡ conforms (meant r) text → not b ≡ false → conforms (meant r) text ≡ true
 ruled-conforms r text b e q = sym e ∙ not-false b q

@@ -1,5 +1,5 @@
 -- Types of an admitted table: defaults are legal contents of their types, and names differ.
-use mathlib.Core.Path.{_≡_, refl, sym, ap, ap₂, _∙_, subst}
+use mathlib.Core.Path.{_≡_, refl, sym, ap, _∙_, subst}
 use mathlib.Core.Bool.{Bool, true, false, false≢true}
 use mathlib.Core.List.{List, [], _∷_}
 use Prim.Native.Nat.{ℕ, zero, suc, _≤_, _<_, _+_}
@@ -10,6 +10,7 @@ use lib.Dec.{leb, eqb}
 use Rattle.octets.specs.Pick.{pick, either, no}
 use Rattle.octets.specs.Octets.{same}
 use Rattle.octets.specs.Text.{within}
+use Rattle.octets.proofs.TextLaws.{same-is}
 use Rattle.octets.proofs.Laws.{both-true}
 use Rattle.der.specs.Contents.{legal, legalBoolean}
 use Rattle.der.proofs.Laws.{integer-octets, legal-boolean, legal-integer, legal-enumerated}
@@ -28,14 +29,6 @@ use Rattle.table.specs.inner.Words.{Worded}
 -- "names in one type differ", without their fill
 pub record NamesDiffer (t s : List ℕ) : Type 0 where
   pub differ : (i : ℕ) → i < length s → (a b : ℕ) → a < b → b < membersAt t (rowAt s i) → same (unfilled (nameAt t (memberPlace s i b))) (unfilled (nameAt t (memberPlace s i a))) ≡ false
-
--- ---- lists of octets
-pub same-is : (a b : List ℕ) → same a b ≡ true → a ≡ b
-unfolding same
-same-is [] [] e = refl
-same-is [] (b ∷ bs) e = absurd (false≢true e)
-same-is (a ∷ l) [] e = absurd (false≢true e)
-same-is (a ∷ l) (b ∷ bs) e = let w = both-true (eqb a b) (same l bs) e in ap₂ (λ (x : ℕ) (y : List ℕ). x ∷ y) (eqb-true a b (w .0)) (same-is l bs (w .1))
 
 -- ---- defaults of at most 8 octets
 boolean-short : (c : List ℕ) → legalBoolean c ≡ true → length c ≤ 8

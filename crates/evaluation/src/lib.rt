@@ -189,8 +189,8 @@ fn judge_conforming(
     if plan::is_operand(rule, part) {
         return judge_operand(t, w, v, f, p, rule, part, tests);
     }
-    let mut memory = [0u8; 2048];
-    let n = strings::squeeze(part, &mut memory);
+    let mut memory = [0u8; 5120];
+    let n = strings::prepare(part, plan::folds(rule), &mut memory);
     judge_operand(t, w, v, f, p, rule, octets::part(&memory, 0, n), tests)
 }
 

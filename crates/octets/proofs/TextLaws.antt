@@ -1,10 +1,10 @@
 -- The definitions of text and lists by their cases, as laws for the layers above.
-use mathlib.Core.Path.{_≡_, refl, sym, _∙_}
-use mathlib.Core.Bool.{Bool, true, false}
+use mathlib.Core.Path.{_≡_, refl, sym, ap₂, _∙_}
+use mathlib.Core.Bool.{Bool, true, false, false≢true}
 use mathlib.Core.List.{List, [], _∷_}
 use Prim.Native.Nat.{ℕ, zero, suc, _≤_, _<_, _+_, _-_, _*_}
 use native.Mathlib.Omega.{arith}
-use borrow.Author.Tests.{leb-true, ltb-true, ltb-false}
+use borrow.Author.Tests.{eqb-true, leb-true, ltb-true, ltb-false}
 use lib.Dec.{ltb, leb, eqb}
 use lib.ListN.{length}
 use Rattle.octets.specs.Pick.{pick, both, all}
@@ -77,6 +77,13 @@ same-longer a l = refl
 pub same-cons : (a b : ℕ) (l s : List ℕ) → same (a ∷ l) (b ∷ s) ≡ both (eqb a b) (same l s)
 unfolding same
 same-cons a b l s = refl
+
+pub same-is : (a b : List ℕ) → same a b ≡ true → a ≡ b
+unfolding same
+same-is [] [] e = refl
+same-is [] (b ∷ s) e = absurd (false≢true e)
+same-is (a ∷ l) [] e = absurd (false≢true e)
+same-is (a ∷ l) (b ∷ s) e = let w = both-true (eqb a b) (same l s) e in ap₂ (λ (x : ℕ) (y : List ℕ). x ∷ y) (eqb-true a b (w .0)) (same-is l s (w .1))
 
 pub below-nil : below [] [] ≡ false
 unfolding below

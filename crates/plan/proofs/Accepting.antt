@@ -25,7 +25,8 @@ use Rattle.digits.specs.Asserted.{digits, isBitText, hexBits, textBits, asserte
 use Rattle.digits.specs.inner.Answers.{bitsIn}
 use Rattle.strings.specs.Asserted.{assertedText}
 use Rattle.strings.specs.Prepared.{folded, prepared}
-use Rattle.strings.proofs.Squeezing.{folded-prepared, squeezed-prepared}
+use Rattle.strings.specs.inner.Cursor.{isPlain}
+use Rattle.strings.proofs.Preparing.{folded-prepared, plain-folds, plain-same, not-plain}
 use Rattle.times.specs.Asserted.{assertedTime}
 use Rattle.times.proofs.Laws.{time-asserted, time-part}
 use Rattle.types.specs.Types.{Ty, basic, sequence, choice, listOf, Members}
@@ -35,8 +36,25 @@ use Rattle.rules.specs.Suits.{suitsKind, allStrings, suitsTarget, suits}
 use Rattle.rules.specs.Accepts.{isEqual, isLess, acceptsContents, acceptsCount}
 use Rattle.rules.specs.inner.Answers.{conformsTo, conforms, saidIn, said}
 use Rattle.plan.specs.inner.Test.{Test, integerIs, accepted, acceptedCount, equalTest, lessTest, testFor}
-use Rattle.plan.specs.inner.Operand.{syntaxForm, formOf, operandIn, operandOf, PartIn, Part, standsIn, stands}
+use Rattle.plan.specs.inner.Operand.{syntaxForm, formOf, preparedOperand, operandIn, operandOf, PartIn, Part, standsIn, stands, foldsIn, folds}
 use Rattle.plan.specs.declared.Form.{Form}
+
+-- ---- the operand of strings
+plain-operand : (fold : Bool) (p s : List ℕ) → isPlain true p ≡ true → p ≡ s → p ≡ preparedOperand fold s
+unfolding preparedOperand
+plain-operand fold p s e w = rw (ap (isPlain true) (sym w) ∙ e) w
+
+other-operand : (fold : Bool) (p s : List ℕ) → isPlain true p ≡ false → undoubled p ≡ s → prepared fold (undoubled p) ≡ preparedOperand fold s
+unfolding preparedOperand
+other-operand fold p s e w = rw (ap (isPlain true) (sym w) ∙ not-plain true p e) (ap (prepared fold) w)
+
+operand-folds : (fold : Bool) (s : List ℕ) → folded fold (preparedOperand fold s) ≡ prepared fold s
+unfolding preparedOperand
+operand-folds fold s = go (isPlain true s) refl
+  where
+    go : (u : Bool) → isPlain true s ≡ u → folded fold (pick u s (prepared fold s)) ≡ prepared fold s
+    go true e = plain-folds fold s e
+    go false e = folded-prepared fold s
 
 -- ---- the operand
 module _ (t p : List ℕ) where
@@ -47,7 +65,7 @@ module _ (t p : List ℕ) where
   stands-in objectIdentifiers h w e = w
   stands-in octetStrings h w e = w
   stands-in bitStrings h w e = w
-  stands-in (strings fold) h w e = squeezed-prepared p e ∙ ap (prepared false) w
+  stands-in (strings fold) h w e = plain-operand fold p (assertedText t) e (sym (plain-same p e) ∙ w)
   stands-in times h w e = time-part t p w h
 
   -- the part of a conforming text, where it is the operand as it stands
@@ -57,15 +75,15 @@ module _ (t p : List ℕ) where
   operand-stands (equal s) h w e = stands-in s h w e
   operand-stands (less s) h w e = stands-in s h w e
 
-  squeezed-in : (f : Form) → PartIn f t p → standsIn f p ≡ false → prepared false (undoubled p) ≡ operandIn f t
-  squeezed-in Form.Whole w e = absurd (false≢true (sym e))
-  squeezed-in Form.Quoted w e = absurd (false≢true (sym e))
-  squeezed-in Form.Squeezed w e = ap (prepared false) w
+  prepared-in : (f : Form) → PartIn f t p → standsIn f p ≡ false → prepared (foldsIn f) (undoubled p) ≡ operandIn f t
+  prepared-in Form.Whole w e = absurd (false≢true (sym e))
+  prepared-in Form.Quoted w e = absurd (false≢true (sym e))
+  prepared-in (Form.Prepared fold) w e = other-operand fold p (assertedText t) e w
 
   -- and where it isn't
-  pub operand-squeezed : (r : Rule) → Part r t p → stands r p ≡ false → prepared false (undoubled p) ≡ operandOf r t
-  unfolding Part stands operandOf
-  operand-squeezed r w e = squeezed-in (formOf r) w e
+  pub operand-prepared : (r : Rule) → Part r t p → stands r p ≡ false → prepared (folds r) (undoubled p) ≡ operandOf r t
+  unfolding Part stands operandOf folds
+  operand-prepared r w e = prepared-in (formOf r) w e
 
 -- ---- contents
 module _ (t c : List ℕ) where
@@ -121,9 +139,9 @@ module _ (t c : List ℕ) where
       go true = refl
       go false = refl
 
-  string-same : (fold : Bool) (x : List ℕ) → x ≡ prepared false (assertedText t) → accepted (equalTest (strings fold) x) x c ≡ isEqual (saidIn (strings fold) t) c
+  string-same : (fold : Bool) (x : List ℕ) → x ≡ preparedOperand fold (assertedText t) → accepted (equalTest (strings fold) x) x c ≡ isEqual (saidIn (strings fold) t) c
   unfolding accepted equalTest isEqual saidIn
-  string-same fold x e = ap (same (prepared fold c)) (ap (folded fold) e ∙ folded-prepared fold (assertedText t))
+  string-same fold x e = ap (same (prepared fold c)) (ap (folded fold) e ∙ operand-folds fold (assertedText t))
 
   time-same : isSome (assertedTime t) ≡ true → accepted (equalTest times (assertedText t)) (assertedText t) c ≡ isEqual (saidIn times t) c
   unfolding accepted equalTest isEqual saidIn
@@ -149,7 +167,7 @@ module _ (t c : List ℕ) where
   basic-same objectIdentifiers k h f l n = arcs-same (subst (λ (y : ℕ). legal y c ≡ true) (eqb-true k kind.objectIdentifier h) l)
   basic-same octetStrings k h f l n = octets-same
   basic-same bitStrings k h f l n = bits-same n
-  basic-same (strings fold) k h f l n = string-same fold (prepared false (assertedText t)) refl
+  basic-same (strings fold) k h f l n = string-same fold (preparedOperand fold (assertedText t)) refl
   basic-same times k h f l n = time-same f
 
   basic-less : (s : Syntax) (k : ℕ) → suitsKind s k ≡ true → conformsTo s t ≡ true → legal k c ≡ true
@@ -177,7 +195,7 @@ module _ (t c : List ℕ) where
   choice-same objectIdentifiers h = absurd (false≢true h)
   choice-same octetStrings h = absurd (false≢true h)
   choice-same bitStrings h = absurd (false≢true h)
-  choice-same (strings fold) h = string-same fold (prepared false (assertedText t)) refl
+  choice-same (strings fold) h = string-same fold (preparedOperand fold (assertedText t)) refl
   choice-same times h = absurd (false≢true h)
 
   choice-less : (s : Syntax) → suitsKind s kind.utf8String ≡ true → accepted (lessTest s (operandIn (syntaxForm s) t)) (operandIn (syntaxForm s) t) c ≡ isLess (saidIn s t) c

@@ -12,17 +12,20 @@ use Rattle.integers.specs.inner.Bounds.{boundOf}
 use Rattle.integers.specs.declared.Bound.{Bound}
 use Rattle.digits.specs.Asserted.{isBitText}
 use Rattle.strings.specs.Asserted.{assertedText}
-use Rattle.strings.specs.inner.Cursor.{isSqueezed}
+use Rattle.strings.specs.inner.Cursor.{isPlain}
 use Rattle.rules.specs.Rule as rule
 use Rattle.rules.specs.inner.Answers.{syntaxOf, meant}
 use Rattle.rules.specs.declared.Syntax.{Syntax}
 use Rattle.rules.specs.declared.Rule.{Rule}
 use Rattle.plan.specs.inner.Test.{truth, sameInteger, lessInteger, string, equalTest, lessTest, testFor, testOf, reportTest}
-use Rattle.plan.specs.inner.Operand.{formOf, Part, stands}
+use Rattle.plan.specs.inner.Operand.{syntaxForm, formOf, Part, stands, folds}
 use Rattle.plan.specs.declared.Form.{Form}
 use Rattle.plan.specs.declared.TestNumbers.{TestNumbers}
 
 -- ---- the operand
+pub form-strings : (s : Syntax) (fold : Bool) → s ≡ Syntax.Strings fold → Form.Prepared fold ≡ syntaxForm (syntaxOf s)
+form-strings s fold e = ap (λ (x : Syntax). syntaxForm (syntaxOf x)) (sym e)
+
 module _ (rule : Rule) (f : Form) (told : f ≡ formOf (meant rule)) where
   module _ (t : List ℕ) where
     pub part-whole : f ≡ Form.Whole → Part (meant rule) t t
@@ -34,9 +37,9 @@ module _ (rule : Rule) (f : Form) (told : f ≡ formOf (meant rule)) where
       unfolding Part
       part-quoted e = rw (sym told ∙ e) is
 
-      pub part-squeezed : f ≡ Form.Squeezed → Part (meant rule) t p
+      pub part-prepared : (fold : Bool) → f ≡ Form.Prepared fold → Part (meant rule) t p
       unfolding Part
-      part-squeezed e = rw (sym told ∙ e) is
+      part-prepared fold e = rw (sym told ∙ e) is
 
   module _ (p : List ℕ) where
     pub stands-whole : f ≡ Form.Whole → true ≡ stands (meant rule) p
@@ -47,9 +50,21 @@ module _ (rule : Rule) (f : Form) (told : f ≡ formOf (meant rule)) where
     unfolding stands
     stands-quoted e = rw (sym told ∙ e)
 
-    pub stands-squeezed : (r : Bool) → f ≡ Form.Squeezed → r ≡ isSqueezed true p → r ≡ stands (meant rule) p
+    pub stands-prepared : (r fold : Bool) → f ≡ Form.Prepared fold → r ≡ isPlain true p → r ≡ stands (meant rule) p
     unfolding stands
-    stands-squeezed r e h = rw (sym told ∙ e) h
+    stands-prepared r fold e h = rw (sym told ∙ e) h
+
+  pub folds-whole : f ≡ Form.Whole → false ≡ folds (meant rule)
+  unfolding folds
+  folds-whole e = rw (sym told ∙ e)
+
+  pub folds-quoted : f ≡ Form.Quoted → false ≡ folds (meant rule)
+  unfolding folds
+  folds-quoted e = rw (sym told ∙ e)
+
+  pub folds-prepared : (fold : Bool) → f ≡ Form.Prepared fold → fold ≡ folds (meant rule)
+  unfolding folds
+  folds-prepared fold e = rw (sym told ∙ e)
 
 -- ---- tests as numbers
 abbrev numbers : ℕ → ℕ → TestNumbers

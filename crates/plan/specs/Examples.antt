@@ -6,14 +6,17 @@ use Rattle.octets.specs.Octets.{bytes}
 use Rattle.dotted.specs.inner.Stored.{fitting}
 use Rattle.integers.specs.inner.Bounds.{boundOf}
 use Rattle.integers.specs.declared.Bound.{Bound}
+use Rattle.strings.specs.inner.Cursor.{isPlain}
 use Rattle.rules.specs.Rule.{booleans, integers, objectIdentifiers, bitStrings, strings, times, equal, less}
 use Rattle.rules.specs.Computing.{rulesCompute}
 use Rattle.plan.specs.inner.Test.{noValue, truth, sameInteger, lessInteger, arcs, bits, string, earlierTime, equalTest, lessTest, testFor}
-use Rattle.plan.specs.inner.Operand.{operandOf}
+use Rattle.plan.specs.inner.Operand.{preparedOperand, operandOf}
 
-operands : operandOf (equal integers) (bytes "-3") ∷ operandOf (equal (strings true)) (bytes "\"  A \"\" b \"") ∷ operandOf (less times) (bytes "\"20240229120000Z\"") ∷ []
-    ≡ bytes "-3" ∷ bytes "A \" b" ∷ bytes "20240229120000Z" ∷ []
-unfolding rulesCompute operandOf
+operands : operandOf (equal integers) (bytes "-3") ∷ operandOf (equal (strings true)) (bytes "\"A b\"")
+    ∷ operandOf (equal (strings true)) (bytes "\"  A \"\" b \"") ∷ operandOf (equal (strings false)) (bytes "\"  A \"\" b \"")
+    ∷ operandOf (less times) (bytes "\"20240229120000Z\"") ∷ []
+    ≡ bytes "-3" ∷ bytes "A b" ∷ bytes "a \" b" ∷ bytes "A \" b" ∷ bytes "20240229120000Z" ∷ []
+unfolding rulesCompute isPlain preparedOperand operandOf
 operands = refl
 
 -- an integer or OID that no stored one can equal is known before the walk

@@ -97,11 +97,11 @@ pub struct TestNumbers {
     pub number: usize,
 }
 
-// How a value text makes an operand: as it stands; what stands between its quotes; the same with spaces dropped and joined and one quote for two.
+// How a value text makes an operand: as it stands; what stands between its quotes; the same as prepared, folded or not.
 pub enum Form {
     Whole,
     Quoted,
-    Squeezed,
+    Prepared(bool),
 }
 
 // ---- the numbers of step k
@@ -175,7 +175,7 @@ fn syntax_form(syntax: Syntax) -> Form
         Syntax::ObjectIdentifiers => Form::Whole,
         Syntax::OctetStrings => Form::Whole,
         Syntax::BitStrings => Form::Whole,
-        Syntax::Strings(_) => Form::Squeezed,
+        Syntax::Strings(fold) => Form::Prepared(fold),
         Syntax::Times => Form::Quoted,
     }
 }
@@ -198,7 +198,18 @@ pub fn operand_part(rule: Rule, text: &[u8]) -> &[u8]
     match rule_form(rule) {
         Form::Whole => text,
         Form::Quoted => strings::quoted_part(text),
-        Form::Squeezed => strings::quoted_part(text),
+        Form::Prepared(_) => strings::quoted_part(text),
+    }
+}
+
+// Whether its operand is prepared with letters folded.
+pub fn folds(rule: Rule) -> bool
+    ensures { λ r. ⌜ r ≡ operands.folds (meant rule) ⌝ }
+{
+    match rule_form(rule) {
+        Form::Whole => false,
+        Form::Quoted => false,
+        Form::Prepared(fold) => fold,
     }
 }
 
@@ -209,7 +220,7 @@ pub fn is_operand(rule: Rule, part: &[u8]) -> bool
     match rule_form(rule) {
         Form::Whole => true,
         Form::Quoted => true,
-        Form::Squeezed => strings::is_squeezed(part),
+        Form::Prepared(_) => strings::is_plain(part),
     }
 }
 
@@ -412,7 +423,7 @@ fn accepts_text(comparison: usize, x: &[u8], c: &[u8]) -> bool
     if comparison == Comparison::EARLIER {
         return der::earlier(der::read_time(c), der::read_time(x));
     }
-    strings::same_squeezed(c, x, comparison == Comparison::FOLDED)
+    strings::same_prepared(c, x, comparison == Comparison::FOLDED)
 }
 
 fn accepts(comparison: usize, n: usize, x: &[u8], c: &[u8]) -> bool

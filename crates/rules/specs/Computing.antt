@@ -5,7 +5,8 @@ use Rattle.rules.specs.Rule.{knownRules, sameName, ruleOf}
 use Rattle.rules.specs.Suits.{allStrings, suitsTarget, suits}
 use Rattle.integers.specs.Asserted.{isInteger, assertedInteger}
 use Rattle.digits.specs.Asserted.{inQuotes, isHexString, isBitText, isOctets, assertedOctets, isBits, hexBits, textBits, assertedBits}
-use Rattle.strings.specs.Prepared.{charactersIn, folded, image, images, joined, prepared}
+use Rattle.strings.specs.Images.{table, imageIn, encoded, allEncoded, marks, image}
+use Rattle.strings.specs.Prepared.{images, joined, prepared}
 use Rattle.strings.specs.Asserted.{isText, assertedText}
 use Rattle.times.specs.Asserted.{isTime, assertedTime}
 use Rattle.rules.specs.Asserted.{isTruth, assertedIn, assertedOf}
@@ -14,7 +15,7 @@ use Rattle.rules.specs.Accepts.{isEqual, isLess, acceptsContents, accept
 
 unfoldable pub rulesCompute : ℕ
 unfolding referenceComputes knownRules sameName ruleOf allStrings suitsTarget suits
-    charactersIn folded image images joined prepared isTruth isInteger assertedInteger inQuotes isHexString isBitText isOctets assertedOctets
+    table imageIn encoded allEncoded marks image images joined prepared isTruth isInteger assertedInteger inQuotes isHexString isBitText isOctets assertedOctets
     isBits hexBits textBits assertedBits isText assertedText isTime assertedTime
     assertedIn assertedOf ruleFor isEqual isLess acceptsContents acceptsCount accepts acceptsComponent
 rulesCompute = 0

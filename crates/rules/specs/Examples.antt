@@ -15,13 +15,15 @@ use Rattle.rules.specs.Rule.{knownRules}
 use Rattle.rules.specs.Rule as rule
 use Rattle.rules.specs.Asserted.{Asserted, anyValue, truth, integer, arcs, octets, bits, text, time, assertedOf}
 use Rattle.rules.specs.RuleFor.{ruleFor}
-use Rattle.strings.specs.Prepared.{prepared}
 use Rattle.rules.specs.Accepts.{accepts}
 use Rattle.rules.specs.Computing.{rulesCompute}
 
--- a rule's answer for one held value of a target; none where it is Undefined
+-- a rule's answer for one held value of a target and a value text; none where it is Undefined
+testOctets : Target → String → Held → List ℕ → Option Bool
+testOctets g rule h t = bind (ruleFor knownRules g (bytes rule) t) (λ x. some (accepts (x .rule) (x .asserted) h))
+
 test : Target → String → Held → String → Option Bool
-test g rule h asserts = bind (ruleFor knownRules g (bytes rule) (bytes asserts)) (λ x. some (accepts (x .rule) (x .asserted) h))
+test g rule h asserts = testOctets g rule h (bytes asserts)
 
 -- what a value text asserts
 says : rule.Rule → String → Option Asserted
@@ -45,85 +47,101 @@ tests k rule c values = map (test (ofType (basic k)) rule (contents k c)) values
 
 -- value `NULL` alone
 present : tests 4 "presentMatch" [] ("NULL" ∷ "null" ∷ "\"\"" ∷ []) ≡ some true ∷ none ∷ none ∷ []
-unfolding rulesCompute test tests
+unfolding rulesCompute testOctets test tests
 present = refl
 
 booleans : tests 1 "booleanMatch" (hex "FF") ("TRUE" ∷ "FALSE" ∷ "true" ∷ "1" ∷ []) ≡ some true ∷ some false ∷ none ∷ none ∷ []
-unfolding rulesCompute test tests
+unfolding rulesCompute testOctets test tests
 booleans = refl
 
 -- integers of any size, compared exactly; `-0` and leading zeros don't conform
 integers : tests 2 "integerMatch" (hex "01") ("1" ∷ "2" ∷ "-1" ∷ "18446744073709551617" ∷ "-0" ∷ "01" ∷ "+1" ∷ "-" ∷ "1 " ∷ [])
     ≡ some true ∷ some false ∷ some false ∷ some false ∷ none ∷ none ∷ none ∷ none ∷ none ∷ []
-unfolding rulesCompute test tests
+unfolding rulesCompute testOctets test tests
 integers = refl
 
 least : tests 2 "integerMatch" (hex "8000000000000000") ("-9223372036854775808" ∷ "9223372036854775808" ∷ []) ≡ some true ∷ some false ∷ []
-unfolding rulesCompute test tests
+unfolding rulesCompute testOctets test tests
 least = refl
 
 integer-order : tests 2 "integerOrderingMatch" (hex "FE") ("-1" ∷ "-2" ∷ "-3" ∷ "0" ∷ "18446744073709551616" ∷ "-18446744073709551616" ∷ "-0" ∷ [])
     ≡ some true ∷ some false ∷ some false ∷ some true ∷ some true ∷ some false ∷ none ∷ []
-unfolding rulesCompute test tests
+unfolding rulesCompute testOctets test tests
 integer-order = refl
 
 -- an arc beyond 64 bits is no smaller one; a name doesn't conform
 oids : tests 5 "objectIdentifierMatch" (hex "2A8648") ("1.2.840" ∷ "1.2" ∷ "1.2.840.0" ∷ "1.2.18446744073709552456" ∷ "cn" ∷ "1" ∷ "1.40" ∷ "1.2.0840" ∷ [])
     ≡ some true ∷ some false ∷ some false ∷ some false ∷ none ∷ none ∷ none ∷ none ∷ []
-unfolding rulesCompute test tests
+unfolding rulesCompute testOctets test tests
 oids = refl
 
 octet-strings : tests 6 "octetStringMatch" (hex "0AFF") ("'0AFF'H" ∷ "'0A'H" ∷ "''H" ∷ "'0aff'H" ∷ "'0AF'H" ∷ "'01'B" ∷ "0AFF" ∷ [])
     ≡ some true ∷ some false ∷ some false ∷ none ∷ none ∷ none ∷ none ∷ []
-unfolding rulesCompute test tests
+unfolding rulesCompute testOctets test tests
 octet-strings = refl
 
 octet-order : tests 6 "octetStringOrderingMatch" (hex "0AFF") ("'0AFF00'H" ∷ "'0AFF'H" ∷ "'0B'H" ∷ "'0A'H" ∷ "'0B'" ∷ [])
     ≡ some true ∷ some false ∷ some true ∷ some false ∷ none ∷ []
-unfolding rulesCompute test tests
+unfolding rulesCompute testOctets test tests
 octet-order = refl
 
 -- equal in number and bit by bit; hexadecimal digits may be odd in number
 bit-strings : tests 7 "bitStringMatch" (hex "04A0") ("'1010'B" ∷ "'A'H" ∷ "'10100000'B" ∷ "'A0'H" ∷ "''B" ∷ "'12'B" ∷ "'a'H" ∷ [])
     ≡ some true ∷ some true ∷ some false ∷ some false ∷ some false ∷ none ∷ none ∷ []
-unfolding rulesCompute test tests
+unfolding rulesCompute testOctets test tests
 bit-strings = refl
 
 no-bits : tests 7 "bitStringMatch" (hex "00") ("''B" ∷ "''H" ∷ "'0'B" ∷ []) ≡ some true ∷ some true ∷ some false ∷ []
-unfolding rulesCompute test tests
+unfolding rulesCompute testOctets test tests
 no-bits = refl
 
 strings : tests 8 "caseIgnoreMatch" (bytes " Foo  BAR ") ("\"foo bar\"" ∷ "\"  FOO   bar \"" ∷ "\"foobar\"" ∷ "\"\"" ∷ "foo" ∷ [])
     ≡ some true ∷ some true ∷ some false ∷ none ∷ none ∷ []
-unfolding rulesCompute test tests
+unfolding rulesCompute testOctets test tests
 strings = refl
 
 exact : tests 9 "caseExactMatch" (bytes "Foo") ("\"Foo\"" ∷ "\"foo\"" ∷ "'Foo'" ∷ []) ≡ some true ∷ some false ∷ none ∷ []
-unfolding rulesCompute test tests
+unfolding rulesCompute testOctets test tests
 exact = refl
 
--- `" "` equals a stored empty or all-space string; `""` inside stands for a quote; only A..Z are folded: C3 89 is no C3 A9
+-- `" "` equals a stored empty or all-space string; `""` inside stands for a quote
 spaces : tests 10 "caseExactMatch" [] ("\" \"" ∷ "\"\"\"\"" ∷ []) ++ tests 10 "caseExactMatch" (bytes "  ") ("\" \"" ∷ [])
     ++ tests 10 "caseExactMatch" (bytes "a\"b") ("\"a\"\"b\"" ∷ "\"a\"b\"" ∷ [])
     ≡ some true ∷ some false ∷ some true ∷ some true ∷ none ∷ []
-unfolding rulesCompute test tests
+unfolding rulesCompute testOctets test tests
 spaces = refl
 
-folding : prepared true (hex "41C389") ∷ prepared false (hex "41C389") ∷ prepared true (hex "20412020C2A020") ∷ []
-    ≡ hex "61C389" ∷ hex "41C389" ∷ hex "6120C2A0" ∷ []
-unfolding rulesCompute
-folding = refl
+-- Élan stored: élan, Élan, elan; straße stored: STRASSE, straße; U+017F stored: s, S
+accented : List ℕ → String → List (List ℕ) → List (Option Bool)
+accented c rule ts = map (testOctets (ofType (basic 8)) rule (contents 8 c)) ts
+
+accents : accented (hex "C3896C616E") "caseIgnoreMatch" (hex "22C3A96C616E22" ∷ hex "22C3896C616E22" ∷ bytes "\"elan\"" ∷ [])
+    ++ accented (hex "C3896C616E") "caseExactMatch" (hex "22C3A96C616E22" ∷ hex "22C3896C616E22" ∷ bytes "\"elan\"" ∷ [])
+    ++ accented (hex "73747261C39F65") "caseIgnoreMatch" (bytes "\"STRASSE\"" ∷ hex "2273747261C39F6522" ∷ [])
+    ++ accented (hex "73747261C39F65") "caseExactMatch" (bytes "\"strasse\"" ∷ hex "2273747261C39F6522" ∷ [])
+    ++ accented (hex "C5BF") "caseIgnoreMatch" (bytes "\"s\"" ∷ bytes "\"S\"" ∷ [])
+    ++ accented (hex "C5BF") "caseExactMatch" (bytes "\"s\"" ∷ bytes "\"S\"" ∷ [])
+    ≡ some true ∷ some true ∷ some false ∷ some false ∷ some true ∷ some false ∷ some true ∷ some true ∷ some false ∷ some true
+    ∷ some true ∷ some true ∷ some true ∷ some false ∷ []
+unfolding rulesCompute testOctets accented
+accents = refl
+
+-- a soft hyphen alone conforms, and equals what is prepared to nothing: an empty string, spaces, controls
+nothing : map (λ c. testOctets (ofType (basic 8)) "caseIgnoreMatch" (contents 8 c) (hex "22C2AD22")) ([] ∷ hex "2020" ∷ hex "0009" ∷ bytes "a" ∷ [])
+    ≡ some true ∷ some true ∷ some true ∷ some false ∷ []
+unfolding rulesCompute testOctets
+nothing = refl
 
 times : tests 11 "generalizedTimeMatch" (bytes "20240229120000.5Z") ("\"20240229120000.5Z\"" ∷ "\"20240229120000Z\"" ∷ "\"20240229120000.50Z\""
     ∷ "\"20230229120000Z\"" ∷ "20240229120000.5Z" ∷ "\"202402291200Z\"" ∷ [])
     ≡ some true ∷ some false ∷ none ∷ none ∷ none ∷ none ∷ []
-unfolding rulesCompute test tests
+unfolding rulesCompute testOctets test tests
 times = refl
 
 time-order : tests 11 "generalizedTimeOrderingMatch" (bytes "20240229120000.05Z") ("\"20240229120000.5Z\"" ∷ "\"20240229120000Z\"" ∷ "\"20240229120000.05Z\""
     ∷ "\"20240229120001Z\"" ∷ "\"20240230120000Z\"" ∷ [])
     ≡ some true ∷ some false ∷ some false ∷ some true ∷ none ∷ []
-unfolding rulesCompute test tests
+unfolding rulesCompute testOctets test tests
 time-order = refl
 
 -- ---- which rule is for which target
@@ -133,7 +151,7 @@ targets : test ofCount "integerMatch" (countValue 6 2) "2" ∷ test ofCount "int
     ∷ test (ofType (basic 3)) "integerMatch" (contents 3 (hex "02")) "2" ∷ test (ofType (basic 6)) "caseIgnoreMatch" (contents 6 []) "\"a\""
     ∷ test (ofType (sequence noMore)) "presentMatch" (value (fields (record { place = 0; size = 2; contents = [] }) endFields)) "NULL" ∷ []
     ≡ some true ∷ some true ∷ some true ∷ none ∷ none ∷ none ∷ some true ∷ []
-unfolding rulesCompute test
+unfolding rulesCompute testOctets test
 targets = refl
 
 abbrev alternatives : Tagging → Ty → Target
@@ -145,12 +163,12 @@ alternatives g ty =
 choices : map (λ g. test g "caseIgnoreMatch" (contents 9 (bytes "A")) "\"a\"") (alternatives untagged (basic 9) ∷ alternatives (explicit 0) (basic 9)
     ∷ alternatives untagged (basic 2) ∷ [])
     ≡ some true ∷ none ∷ none ∷ []
-unfolding rulesCompute test
+unfolding rulesCompute testOctets test
 choices = refl
 
 -- names without regard to case, OIDs, unknown ones
 names : map (λ r. test (ofType (basic 2)) r (contents 2 (hex "01")) "1") ("INTEGERmatch" ∷ "2.5.13.14" ∷ "2.5.13.15" ∷ "integerMatches" ∷ "2.5.13.140"
     ∷ "caseIgnoreMatch" ∷ [])
     ≡ some true ∷ some true ∷ some false ∷ none ∷ none ∷ none ∷ []
-unfolding rulesCompute test
+unfolding rulesCompute testOctets test
 names = refl

@@ -1,4 +1,8 @@
+pub mod ShapeSteps
+pub mod ImageLaws
 pub mod Laws
 pub mod Steps
 pub mod CursorSteps
-pub mod Squeezing
+pub mod Preparing
+pub mod Kept
+pub mod Twice

@@ -18,7 +18,7 @@ use Rattle.octets.proofs.Laws.{rest-cons, rest-none, rest-length}
 use Rattle.octets.proofs.QuotedLaws.{undoubled-nil, undoubled-one, undoubled-two, undoubled-other, unquoted-none, unquoted-longer, unquoted-whole}
 use Rattle.strings.specs.Asserted.{textOr, assertedText}
 use Rattle.strings.specs.Prepared.{folded}
-use Rattle.strings.specs.inner.Cursor.{charactersOf, reportCharacter, foldOctet, lettersAt, reportLetter}
+use Rattle.strings.specs.inner.Cursor.{octetsOf, reportOctet, foldOctet, lettersAt, reportLetter}
 use Rattle.strings.specs.declared.Letter.{Letter}
 
 -- ---- what stands between the quotes
@@ -60,23 +60,23 @@ part-short t p at n e = omega (arith, ap length e, length-take n (drop at t), re
 
 -- ---- characters
 module _ (s : List ℕ) (quoted : Bool) (at : ℕ) where
-  pub character-end : length s ≤ at → reportCharacter quoted s Letter.End ≡ charactersOf quoted (drop at s)
-  character-end h = sym (ap (charactersOf quoted) (rest-none s at h) ∙ go quoted)
+  pub character-end : length s ≤ at → reportOctet quoted s Letter.End ≡ octetsOf quoted (drop at s)
+  character-end h = sym (ap (octetsOf quoted) (rest-none s at h) ∙ go quoted)
     where
-      go : (q : Bool) → charactersOf q [] ≡ []
+      go : (q : Bool) → octetsOf q [] ≡ []
       go true = undoubled-nil
       go false = refl
 
   module _ (h : at < length s) where
-    pub character-stored : not quoted ≡ true → reportCharacter quoted s (Letter.Got (octet s at) (at + 1)) ≡ charactersOf quoted (drop at s)
+    pub character-stored : not quoted ≡ true → reportOctet quoted s (Letter.Got (octet s at) (at + 1)) ≡ octetsOf quoted (drop at s)
     character-stored q = rw (not-true quoted q) (sym (rest-cons s at h))
 
     module _ (q : not quoted ≡ false) where
-      pub character-other : (octet s at ≡ 34 → ⊥) → reportCharacter quoted s (Letter.Got (octet s at) (at + 1)) ≡ charactersOf quoted (drop at s)
+      pub character-other : (octet s at ≡ 34 → ⊥) → reportOctet quoted s (Letter.Got (octet s at) (at + 1)) ≡ octetsOf quoted (drop at s)
       character-other n = rw (not-false quoted q) (sym (undoubled-other (octet s at) (drop (at + 1) s) n) ∙ ap undoubled (sym (rest-cons s at h)))
 
       module _ (quote : octet s at ≡ 34) where
-        pub character-last : length s - at < 2 → reportCharacter quoted s (Letter.Got 34 (at + 1)) ≡ charactersOf quoted (drop at s)
+        pub character-last : length s - at < 2 → reportOctet quoted s (Letter.Got 34 (at + 1)) ≡ octetsOf quoted (drop at s)
         character-last l =
             let g : length s ≤ at + 1 = omega arith in
             rw (not-false quoted q)
@@ -92,10 +92,10 @@ module _ (s : List ℕ) (quoted : Bool) (at : ℕ) where
           two : undoubled (drop at s) ≡ pick (both (eqb 34 34) (eqb (octet s (at + 1)) 34)) (34 ∷ undoubled (drop (at + 2) s)) (34 ∷ undoubled (octet s (at + 1) ∷ drop (at + 2) s))
           two = ap undoubled (rest-cons s at h ∙ ap₂ (λ (b : ℕ) (x : List ℕ). b ∷ x) quote second) ∙ undoubled-two 34 (octet s (at + 1)) (drop (at + 2) s)
 
-          pub character-single : (octet s (at + 1) ≡ 34 → ⊥) → reportCharacter quoted s (Letter.Got 34 (at + 1)) ≡ charactersOf quoted (drop at s)
+          pub character-single : (octet s (at + 1) ≡ 34 → ⊥) → reportOctet quoted s (Letter.Got 34 (at + 1)) ≡ octetsOf quoted (drop at s)
           character-single n = rw (not-false quoted q) (sym (two ∙ rw (ne-eqb (octet s (at + 1)) 34 n) (ap (λ (x : List ℕ). 34 ∷ undoubled x) (sym second))))
 
-          pub character-double : octet s (at + 1) ≡ 34 → reportCharacter quoted s (Letter.Got 34 (at + 2)) ≡ charactersOf quoted (drop at s)
+          pub character-double : octet s (at + 1) ≡ 34 → reportOctet quoted s (Letter.Got 34 (at + 2)) ≡ octetsOf quoted (drop at s)
           character-double e = rw (not-false quoted q) (sym (two ∙ rw (eq-eqb (octet s (at + 1)) 34 e)))
 
 -- ---- folding
@@ -115,11 +115,11 @@ unfolding folded
 folded-cons true b s = refl
 folded-cons false b s = refl
 
-module _ (s : List ℕ) (quoted fold : Bool) (at : ℕ) (r : Letter) (told : reportCharacter quoted s r ≡ charactersOf quoted (drop at s)) where
+module _ (s : List ℕ) (quoted fold : Bool) (at : ℕ) (r : Letter) (told : reportOctet quoted s r ≡ octetsOf quoted (drop at s)) where
   pub letter-end : r ≡ Letter.End → reportLetter fold quoted s Letter.End ≡ lettersAt fold quoted s at
   unfolding lettersAt
-  letter-end e = sym (ap (folded fold) (sym told ∙ ap (reportCharacter quoted s) e) ∙ folded-nil fold)
+  letter-end e = sym (ap (folded fold) (sym told ∙ ap (reportOctet quoted s) e) ∙ folded-nil fold)
 
   pub letter-is : (b after x : ℕ) → r ≡ Letter.Got b after → x ≡ foldOctet fold b → reportLetter fold quoted s (Letter.Got x after) ≡ lettersAt fold quoted s at
   unfolding lettersAt
-  letter-is b after x e h = sym (ap (folded fold) (sym told ∙ ap (reportCharacter quoted s) e) ∙ folded-cons fold b (charactersOf quoted (drop after s)) ∙ ap (λ (y : ℕ). y ∷ folded fold (charactersOf quoted (drop after s))) (sym h))
+  letter-is b after x e h = sym (ap (folded fold) (sym told ∙ ap (reportOctet quoted s) e) ∙ folded-cons fold b (octetsOf quoted (drop after s)) ∙ ap (λ (y : ℕ). y ∷ folded fold (octetsOf quoted (drop after s))) (sym h))

@@ -1,4 +1,6 @@
+pub mod Images
 pub mod Prepared
+pub mod Twice
 pub mod Asserted
 pub mod inner
 pub mod Examples

@@ -1,46 +1,33 @@
--- Rules: "Preparation here drops spaces at both ends, makes inner runs of space one, and for caseIgnoreMatch turns A..Z into a..z; any other
--- character stands for itself." Each character of a string has an image, of blanks and octets; the blanks are then dropped and joined.
-use Prim.Native.Nat.{ℕ}
+-- Rules: "Preparation here drops spaces at both ends, makes inner runs of space one, and for caseIgnoreMatch turns A..Z into a..z"; with document 02's Q-1
+-- each character up to U+017F has an image, of blanks and octets (`Images`); "Spaces are trimmed and joined afterwards, save one that NFKC puts before a
+-- combining mark. Characters above U+017F stand for themselves".
+use Prim.Native.Nat.{ℕ, _+_, _-_, _*_}
 use mathlib.Core.Bool.{Bool, true, false}
 use mathlib.Core.List.{List, [], _∷_, _++_, map}
-use lib.Dec.{eqb}
-use Rattle.octets.specs.Pick.{pick}
-use Rattle.octets.specs.Octets.{octet}
+use lib.Dec.{ltb}
+use Rattle.octets.specs.Pick.{pick, both}
 use Rattle.octets.specs.Text.{within, lower}
+use Rattle.strings.specs.Images.{Mark, blank, shown, image}
 use Rattle.strings.specs.declared.Before.{Before}
 use Rattle.strings.specs.declared.Before.the-variants.{Nothing, Character, Space}
 
--- ---- characters: in UTF-8 an octet 80 to BF belongs to the character of the octet before it
-abbrev pub isTail : ℕ → Bool
-isTail b = within 128 191 b
+-- ---- images, in UTF-8: a character up to U+017F is an octet below 80, or two octets, C2 to C5 and then 80 to BF; the octets of any other stand for themselves
+abbrev pub isPair : ℕ → ℕ → Bool
+isPair a b = both (within 0xC2 0xC5 a) (within 0x80 0xBF b)
 
--- an octet before characters: a tail at their start belongs to it
-abbrev pub prefixed : ℕ → List (List ℕ) → List (List ℕ)
-prefixed b [] = (b ∷ []) ∷ []
-prefixed b (c ∷ cs) = pick (isTail (octet c 0)) ((b ∷ c) ∷ cs) ((b ∷ []) ∷ c ∷ cs)
+abbrev pub pairNumber : ℕ → ℕ → ℕ
+pairNumber a b = (a - 0xC0) * 64 + (b - 0x80)
 
-unfoldable pub charactersIn : List ℕ → List (List ℕ)
-charactersIn [] = []
-charactersIn (b ∷ bs) = let cs = charactersIn bs in prefixed b cs
+abbrev pub octetImage : Bool → ℕ → List Mark
+octetImage fold a = pick (ltb a 0x80) (image fold a) (shown a ∷ [])
 
--- ---- images: a space is blank, A..Z turn into a..z if they are folded, any other character stands for itself
-pub data Mark : Type 0 where
-  blank : Mark
-  shown : ℕ → Mark
-
-abbrev pub markOf : ℕ → Mark
-markOf b = pick (eqb b 32) blank (shown b)
-
-unfoldable pub folded : Bool → List ℕ → List ℕ
-folded true s = map lower s
-folded false s = s
-
-unfoldable pub image : Bool → List ℕ → List Mark
-image fold c = map markOf (folded fold c)
-
-unfoldable pub images : Bool → List (List ℕ) → List Mark
+unfoldable pub images : Bool → List ℕ → List Mark
 images fold [] = []
-images fold (c ∷ cs) = image fold c ++ images fold cs
+images fold (a ∷ []) = octetImage fold a
+images fold (a ∷ b ∷ s) =
+    let pair = image fold (pairNumber a b) ++ images fold s in
+    let single = octetImage fold a ++ images fold (b ∷ s) in
+    pick (isPair a b) pair single
 
 -- ---- joining: what stands before (`Before`) is no character yet, a character, or a space after one
 abbrev pub afterSpace : Before → Before
@@ -61,4 +48,9 @@ joined p (shown b ∷ ms) = let rest = joined Character ms in spaced p (b ∷ re
 
 -- a string as prepared
 unfoldable pub prepared : Bool → List ℕ → List ℕ
-prepared fold s = joined Nothing (images fold (charactersIn s))
+prepared fold s = joined Nothing (images fold s)
+
+-- ---- A to Z folded alone, as in names
+unfoldable pub folded : Bool → List ℕ → List ℕ
+folded true s = map lower s
+folded false s = s

@@ -2,12 +2,14 @@
 use octets::Place;
 ghost use mathlib.Core.Path.{_≡_};
 ghost use mathlib.Core.Bool.{true, false};
-ghost use Prim.Native.Nat.{_≤_};
+ghost use Prim.Native.Nat.{_≤_, _<_};
+ghost use mathlib.Core.List.{_∷_};
 ghost use lib.ListN.{length, drop};
 ghost use Rattle.octets.specs.Octets.{same, part};
 ghost use Rattle.octets.specs.Quoted.{undoubled};
 ghost use Rattle.strings.specs.Asserted as asserted;
-ghost use Rattle.strings.specs.Prepared.{folded, afterSpace, prepared};
+ghost use Rattle.strings.specs.Prepared.{isPair, images, folded, afterSpace, prepared};
+ghost use Rattle.strings.specs.inner.Shapes as shapes;
 ghost use Rattle.strings.specs.inner.Cursor as cursor;
 
 // What stands before a place: no character yet, a character, or a space after one.
@@ -17,10 +19,30 @@ pub enum Before {
     Space,
 }
 
-// A place in a string, and what stands before it.
+// The octets of an image, the first in the lowest bits, and their number.
+pub struct Octets {
+    pub word: u64,
+    pub count: usize,
+}
+
+// The image of a character: a space to be dropped or joined, or octets.
+pub enum Shape {
+    Blank,
+    Shown(Octets),
+}
+
+// The image of a character of a string, and the place after the character.
+pub struct Piece {
+    pub shape: Shape,
+    pub after: usize,
+}
+
+// A place in a string, what stands before it, and the octets of the image before it that are left.
 pub struct Cursor {
     pub at: usize,
     pub before: Before,
+    pub word: u64,
+    pub count: usize,
 }
 
 // An octet of the prepared string and the cursor after it, or its end.
@@ -64,10 +86,10 @@ pub fn is_text(t: &[u8]) -> bool
     1 <= p.len()
 }
 
-// ---- characters
+// ---- octets of a string
 // The octet at a place; in a quoted string two quotes are one.
-fn read_character(s: &[u8], quoted: bool, at: usize) -> Letter
-    ensures { λ r. ⌜ cursor.reportCharacter quoted (now (s .entry)) r ≡ cursor.charactersOf quoted (drop at (now (s .entry))) ⌝ }
+fn read_octet(s: &[u8], quoted: bool, at: usize) -> Letter
+    ensures { λ r. ⌜ cursor.reportOctet quoted (now (s .entry)) r ≡ cursor.octetsOf quoted (drop at (now (s .entry))) ⌝ }
 {
     if s.len() <= at {
         return Letter::End;
@@ -100,7 +122,7 @@ fn fold_octet(fold: bool, b: u8) -> u8
 fn read_letter(s: &[u8], quoted: bool, fold: bool, at: usize) -> Letter
     ensures { λ r. ⌜ cursor.reportLetter fold quoted (now (s .entry)) r ≡ cursor.lettersAt fold quoted (now (s .entry)) at ⌝ }
 {
-    let Letter::Got(b, after) = read_character(s, quoted, at) else {
+    let Letter::Got(b, after) = read_octet(s, quoted, at) else {
         return Letter::End;
     };
     Letter::Got(fold_octet(fold, b), after)
@@ -115,6 +137,287 @@ fn is_last(letter: Letter) -> bool
     }
 }
 
+// ---- images
+fn several(word: u64, count: usize) -> Shape
+    ensures { λ r. ⌜ r ≡ shapes.several word count ⌝ }
+{
+    Shape::Shown(Octets { word, count })
+}
+
+fn single(b: u8) -> Shape
+    ensures shape { λ r. ⌜ r ≡ shapes.single b ⌝ }
+    ensures octet { λ r. ⌜ b ≤ 255 ⌝ }
+{
+    several(octets::wide64(b), 1)
+}
+
+// The two octets of a character below U+0800.
+fn double(c: u64) -> Shape
+    requires { ⌜ c < 2048 ⌝ }
+    ensures { λ r. ⌜ r ≡ shapes.double c ⌝ }
+{
+    several(c / 64 + 192 + (c % 64 + 128) * 256, 2)
+}
+
+fn control_shape(b: u8) -> Shape
+    ensures { λ r. ⌜ r ≡ shapes.controlShape b ⌝ }
+{
+    if octets::within(9, 13, b) {
+        return Shape::Blank;
+    }
+    several(0, 0)
+}
+
+// Up to U+007F.
+fn low_shape(b: u8, fold: bool) -> Shape
+    ensures { λ r. ⌜ r ≡ shapes.lowShape fold b ⌝ }
+{
+    if b == 32 {
+        return Shape::Blank;
+    }
+    if b < 32 {
+        return control_shape(b);
+    }
+    if b == 127 {
+        return several(0, 0);
+    }
+    single(fold_octet(fold, b))
+}
+
+// Accents that stand alone, and fractions.
+fn mark_shape(c: u64) -> Shape
+    requires { ⌜ c < 2048 ⌝ }
+    ensures { λ r. ⌜ r ≡ shapes.markShape c ⌝ }
+{
+    if c == 0xA8 {
+        return several(0x88CC20, 3);
+    }
+    if c == 0xAF {
+        return several(0x84CC20, 3);
+    }
+    if c == 0xB4 {
+        return several(0x81CC20, 3);
+    }
+    if c == 0xB8 {
+        return several(0xA7CC20, 3);
+    }
+    if c == 0xBC {
+        return several(0x348481E231, 5);
+    }
+    if c == 0xBD {
+        return several(0x328481E231, 5);
+    }
+    if c == 0xBE {
+        return several(0x348481E233, 5);
+    }
+    double(c)
+}
+
+// U+00A1 to U+00BF.
+fn sign_shape(c: u64) -> Shape
+    requires { ⌜ c < 2048 ⌝ }
+    ensures { λ r. ⌜ r ≡ shapes.signShape c ⌝ }
+{
+    if c == 0xAA {
+        return single(97);
+    }
+    if c == 0xAD {
+        return several(0, 0);
+    }
+    if c == 0xB2 {
+        return single(50);
+    }
+    if c == 0xB3 {
+        return single(51);
+    }
+    if c == 0xB5 {
+        return several(0xBCCE, 2);
+    }
+    if c == 0xB9 {
+        return single(49);
+    }
+    if c == 0xBA {
+        return single(111);
+    }
+    mark_shape(c)
+}
+
+// U+0080 to U+00BF.
+fn middle_shape(c: u64) -> Shape
+    requires { ⌜ c < 2048 ⌝ }
+    ensures { λ r. ⌜ r ≡ shapes.middleShape c ⌝ }
+{
+    if c == 0x85 {
+        return Shape::Blank;
+    }
+    if c < 0xA0 {
+        return several(0, 0);
+    }
+    if c == 0xA0 {
+        return Shape::Blank;
+    }
+    sign_shape(c)
+}
+
+// From U+00C0 on, not folded.
+fn exact_shape(c: u64) -> Shape
+    requires { ⌜ c < 2048 ⌝ }
+    ensures { λ r. ⌜ r ≡ shapes.exactShape c ⌝ }
+{
+    if c == 0x0132 {
+        return several(0x4A49, 2);
+    }
+    if c == 0x0133 {
+        return several(0x6A69, 2);
+    }
+    if c == 0x013F {
+        return several(0xB7C24C, 3);
+    }
+    if c == 0x0140 {
+        return several(0xB7C26C, 3);
+    }
+    if c == 0x0149 {
+        return several(0x6EBCCA, 3);
+    }
+    if c == 0x017F {
+        return single(115);
+    }
+    double(c)
+}
+
+// Whether the small letter of a capital one comes next to it.
+fn is_capital(c: u64) -> bool
+    ensures { λ r. ⌜ r ≡ shapes.isCapital c ⌝ }
+{
+    if c < 0x0138 {
+        return c % 2 == 0;
+    }
+    if c < 0x0149 {
+        return c % 2 == 1;
+    }
+    if c < 0x0178 {
+        return c % 2 == 0;
+    }
+    c % 2 == 1
+}
+
+fn paired_shape(c: u64) -> Shape
+    requires { ⌜ c < 2047 ⌝ }
+    ensures { λ r. ⌜ r ≡ shapes.pairedShape c ⌝ }
+{
+    if is_capital(c) {
+        return double(c + 1);
+    }
+    exact_shape(c)
+}
+
+// From U+0100 on, folded.
+fn extended_shape(c: u64) -> Shape
+    requires { ⌜ c < 2047 ⌝ }
+    ensures { λ r. ⌜ r ≡ shapes.extendedShape c ⌝ }
+{
+    if c == 0x0130 {
+        return several(0x87CC69, 3);
+    }
+    if c == 0x0132 {
+        return several(0x6A69, 2);
+    }
+    if c == 0x013F {
+        return several(0xB7C26C, 3);
+    }
+    if c == 0x0178 {
+        return several(0xBFC3, 2);
+    }
+    if c == 0x017F {
+        return single(115);
+    }
+    paired_shape(c)
+}
+
+// U+00C0 to U+00FF, folded.
+fn latin_shape(c: u64) -> Shape
+    requires { ⌜ c < 2000 ⌝ }
+    ensures { λ r. ⌜ r ≡ shapes.latinShape c ⌝ }
+{
+    if c == 0xD7 {
+        return double(c);
+    }
+    if c < 0xDF {
+        return double(c + 32);
+    }
+    if c == 0xDF {
+        return several(0x7373, 2);
+    }
+    double(c)
+}
+
+// From U+0080 to U+017F.
+fn high_shape(c: u64, fold: bool) -> Shape
+    requires { ⌜ c < 2000 ⌝ }
+    ensures { λ r. ⌜ r ≡ shapes.highShape fold c ⌝ }
+{
+    if c < 0xC0 {
+        return middle_shape(c);
+    }
+    if !fold {
+        return exact_shape(c);
+    }
+    if c < 0x0100 {
+        return latin_shape(c);
+    }
+    extended_shape(c)
+}
+
+// Whether two octets are a character from U+0080 to U+017F.
+fn is_pair(a: u8, b: u8) -> bool
+    ensures { λ r. ⌜ r ≡ isPair a b ⌝ }
+{
+    if !octets::within(194, 197, a) {
+        return false;
+    }
+    octets::within(128, 191, b)
+}
+
+// ---- the images of a string, one after another
+// An octet from 80 on and what stands after it.
+fn read_high(s: &[u8], quoted: bool, fold: bool, a: u8, after: usize) -> Piece
+    requires { ⌜ 128 ≤ a ⌝ }
+    ensures image { λ r. ⌜ cursor.reportPiece fold quoted (now (s .entry)) r ≡ images fold (a ∷ cursor.octetsOf quoted (drop after (now (s .entry)))) ⌝ }
+    ensures on { λ r. ⌜ cursor.left quoted (now (s .entry)) (r .after) ≤ cursor.left quoted (now (s .entry)) after ⌝ }
+{
+    let Letter::Got(b, end) = read_octet(s, quoted, after) else {
+        return Piece {
+            shape: single(a),
+            after,
+        };
+    };
+    if !is_pair(a, b) {
+        return Piece {
+            shape: single(a),
+            after,
+        };
+    }
+    let c = (octets::wide64(a) - 192) * 64 + (octets::wide64(b) - 128);
+    Piece {
+        shape: high_shape(c, fold),
+        after: end,
+    }
+}
+
+// An octet and what stands after it.
+fn read_piece(s: &[u8], quoted: bool, fold: bool, a: u8, after: usize) -> Piece
+    ensures image { λ r. ⌜ cursor.reportPiece fold quoted (now (s .entry)) r ≡ images fold (a ∷ cursor.octetsOf quoted (drop after (now (s .entry)))) ⌝ }
+    ensures on { λ r. ⌜ cursor.left quoted (now (s .entry)) (r .after) ≤ cursor.left quoted (now (s .entry)) after ⌝ }
+{
+    if a < 128 {
+        return Piece {
+            shape: low_shape(a, fold),
+            after,
+        };
+    }
+    read_high(s, quoted, fold, a, after)
+}
+
 // ---- the prepared string
 fn after_space(p: Before) -> Before
     ensures { λ r. ⌜ r ≡ afterSpace p ⌝ }
@@ -126,32 +429,39 @@ fn after_space(p: Before) -> Before
     }
 }
 
-// A character that is no space: after a space that space is given first, and the cursor stays.
-fn emit(b: u8, before: Before, at: usize, after: usize) -> Step
-    ensures { λ r. ⌜ r ≡ cursor.emitted b before at after ⌝ }
+// The first of count octets, and a cursor with the others left.
+fn take_octet(word: u64, count: usize, before: Before, at: usize) -> Step
+    requires { ⌜ 0 < count ⌝ }
+    ensures { λ r. ⌜ r ≡ cursor.taken word count before at ⌝ }
+{
+    Step::Octet(
+        (word % 256) as u8,
+        Cursor {
+            at,
+            before,
+            word: word / 256,
+            count: count - 1,
+        },
+    )
+}
+
+// The octets of an image: after a space that space is given first.
+fn emit(o: Octets, before: Before, after: usize) -> Step
+    requires { ⌜ 0 < o .count ⌝ }
+    ensures { λ r. ⌜ r ≡ cursor.emitted o before after ⌝ }
 {
     match before {
         Before::Space => Step::Octet(
             32,
             Cursor {
-                at,
-                before: Before::Nothing,
-            },
-        ),
-        Before::Nothing => Step::Octet(
-            b,
-            Cursor {
                 at: after,
                 before: Before::Character,
+                word: o.word,
+                count: o.count,
             },
         ),
-        Before::Character => Step::Octet(
-            b,
-            Cursor {
-                at: after,
-                before: Before::Character,
-            },
-        ),
+        Before::Nothing => take_octet(o.word, o.count, Before::Character, after),
+        Before::Character => take_octet(o.word, o.count, Before::Character, after),
     }
 }
 
@@ -161,28 +471,81 @@ fn next(s: &[u8], quoted: bool, fold: bool, c: Cursor) -> Step
 {
     let mut at = c.at;
     let mut before = c.before;
+    if 0 < c.count {
+        return take_octet(c.word, c.count, before, at);
+    }
     loop {
-        let Letter::Got(b, after) = read_letter(s, quoted, fold, at) else {
+        let Letter::Got(b, after) = read_octet(s, quoted, at) else {
             return Step::End;
         };
-        if b != 32 {
-            return emit(b, before, at, after);
+        let piece = read_piece(s, quoted, fold, b, after);
+        let shape = piece.shape;
+        match shape {
+            Shape::Blank => {
+                before = after_space(before);
+            }
+            Shape::Shown(o) => {
+                if 0 < o.count {
+                    return emit(o, before, piece.after);
+                }
+            }
         }
-        before = after_space(before);
-        at = after;
+        at = piece.after;
     }
 }
 
 // ---- a stored string against one that is prepared but for folding
-// Whether a stored string as prepared is these octets, folded.
-pub fn same_squeezed(c: &[u8], x: &[u8], fold: bool) -> bool
-    ensures { λ r. ⌜ r ≡ same (prepared fold (now (c .entry))) (folded fold (now (x .entry))) ⌝ }
+// Whether an octet of a stored string is as prepared, but for folding: 21 to 7E; or a space before one of these, if it isn't the first of the string.
+fn is_kept(c: &[u8], i: usize) -> bool
+    requires { ⌜ i < length (now c) ⌝ }
+    ensures { λ r. ⌜ r ≡ cursor.isKept i (drop i (now (c .entry))) ⌝ }
+{
+    if octets::within(33, 126, c[i]) {
+        return true;
+    }
+    if c[i] != 32 {
+        return false;
+    }
+    if i == 0 {
+        return false;
+    }
+    if c.len() - i < 2 {
+        return false;
+    }
+    octets::within(33, 126, c[i + 1])
+}
+
+// Whether an octet is the one at a place, both folded.
+fn same_at(fold: bool, b: u8, x: &[u8], i: usize) -> bool
+    ensures { λ r. ⌜ r ≡ cursor.sameFirst fold b (drop i (now (x .entry))) ⌝ }
+{
+    if x.len() <= i {
+        return false;
+    }
+    fold_octet(fold, b) == fold_octet(fold, x[i])
+}
+
+// What stands before a place of a string whose octets before it are kept.
+fn before_at(i: usize) -> Before
+    ensures { λ r. ⌜ r ≡ cursor.beforeAt i ⌝ }
+{
+    if i == 0 {
+        return Before::Nothing;
+    }
+    Before::Character
+}
+
+// Whether a stored string as prepared, from a place on, is the octets from there on, folded; those before the place are kept.
+fn same_from(c: &[u8], x: &[u8], fold: bool, first: usize) -> bool
+    ensures { λ r. ⌜ r ≡ cursor.sameFrom fold (now (c .entry)) (now (x .entry)) first ⌝ }
 {
     let mut a = Cursor {
-        at: 0,
-        before: Before::Nothing,
+        at: first,
+        before: before_at(first),
+        word: 0,
+        count: 0,
     };
-    let mut i = 0;
+    let mut i = first;
     loop {
         let sa = next(c, false, fold, a);
         let sb = read_letter(x, false, fold, i);
@@ -200,22 +563,40 @@ pub fn same_squeezed(c: &[u8], x: &[u8], fold: bool) -> bool
     }
 }
 
-// Whether an octet keeps what stands between quotes from being so prepared: a quote, or a space behind another or at the start.
+// Whether a stored string as prepared is these octets, folded.
+pub fn same_prepared(c: &[u8], x: &[u8], fold: bool) -> bool
+    ensures { λ r. ⌜ r ≡ same (prepared fold (now (c .entry))) (folded fold (now (x .entry))) ⌝ }
+{
+    let mut i = 0;
+    while i < c.len() {
+        if !is_kept(c, i) {
+            return same_from(c, x, fold, i);
+        }
+        if !same_at(fold, c[i], x, i) {
+            return false;
+        }
+        i += 1;
+    }
+    x.len() <= i
+}
+
+// Whether an octet keeps what stands between quotes from being as prepared but for folding: a quote, a control, an octet from 7F on, or a space behind another
+// or at the start.
 fn is_loose(space: bool, b: u8) -> bool
     ensures { λ r. ⌜ r ≡ cursor.isLoose space b ⌝ }
 {
     if b == 34 {
         return true;
     }
-    if space {
-        return b == 32;
+    if b == 32 {
+        return space;
     }
-    false
+    !octets::within(33, 126, b)
 }
 
-// Whether what stands between quotes is so prepared: no quote, no space first, last or twice.
-pub fn is_squeezed(p: &[u8]) -> bool
-    ensures { λ r. ⌜ r ≡ cursor.isSqueezed true (now (p .entry)) ⌝ }
+// Whether what stands between quotes is as prepared but for folding: no quote, no control, nothing from U+007F on, no space first, last or twice.
+pub fn is_plain(p: &[u8]) -> bool
+    ensures { λ r. ⌜ r ≡ cursor.isPlain true (now (p .entry)) ⌝ }
 {
     let mut space = true;
     let mut i = 0;
@@ -230,20 +611,22 @@ pub fn is_squeezed(p: &[u8]) -> bool
     !space
 }
 
-// Writes what stands between quotes as prepared but for folding, and answers its length.
-pub fn squeeze(p: &[u8], memory: &mut [u8; 2048]) -> usize
-    requires room { ⌜ length (now memory) ≡ 2048 ⌝ }
+// Writes what stands between quotes as prepared, and answers its length.
+pub fn prepare(p: &[u8], fold: bool, memory: &mut [u8; 5120]) -> usize
+    requires room { ⌜ length (now memory) ≡ 5120 ⌝ }
     requires short { ⌜ length (now p) ≤ 2048 ⌝ }
-    ensures written { λ n. ⌜ part (now (memory .exit)) 0 n ≡ prepared false (undoubled (now (p .entry))) ⌝ }
-    ensures room { λ n. ⌜ length (now (memory .exit)) ≡ 2048 ⌝ }
+    ensures written { λ n. ⌜ part (now (memory .exit)) 0 n ≡ prepared fold (undoubled (now (p .entry))) ⌝ }
+    ensures room { λ n. ⌜ length (now (memory .exit)) ≡ 5120 ⌝ }
 {
     let mut c = Cursor {
         at: 0,
         before: Before::Nothing,
+        word: 0,
+        count: 0,
     };
     let mut n = 0;
     loop {
-        let Step::Octet(b, c2) = next(p, true, false, c) else {
+        let Step::Octet(b, c2) = next(p, true, fold, c) else {
             return n;
         };
         memory[n] = b;

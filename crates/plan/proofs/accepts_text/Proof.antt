@@ -15,5 +15,5 @@ accepts-text-spec =
     (λ c κs. search needs)  -- read-time-requires-4
     (λ c κs. search needs)  -- earlier-requires
     (λ c. search text-earlier)  -- returns-2
-    (λ c κs. search needs)  -- same-squeezed-requires
+    (λ c κs. search needs)  -- same-prepared-requires
     (λ c. search text-string))  -- returns-3

@@ -1,4 +1,4 @@
-use Rattle.plan.proofs.TestSteps.{part-quoted, part-squeezed, part-whole}
+use Rattle.plan.proofs.TestSteps.{part-quoted, part-prepared, part-whole}
 use borrow.Author.Needs.{needs}
 use Rattle.plan.proofs.operand_part.Statement.{statement}
 use Rattle.plan.proofs.operand_part.Tie as tie
@@ -15,4 +15,4 @@ operand-part-spec =
     (λ c κs. search needs)  -- quoted-part-requires-2
     (λ c. (search part-whole, search needs))  -- returns
     (λ c. (search part-quoted, search needs))  -- returns-2
-    (λ c. (search part-squeezed, search needs)))  -- returns-3
+    (λ c. (search part-prepared, search needs)))  -- returns-3

@@ -1,13 +1,14 @@
--- The operand of a rule: what the comparisons of its tests read of a value text. Of strings the characters between the quotes, prepared but for folding; of
--- times what stands between the quotes; of the others the text.
+-- The operand of a rule: what the comparisons of its tests read of a value text. Of strings what stands between the quotes, where it is plain (as prepared but
+-- for folding), else that as prepared; of times what stands between the quotes; of the others the text.
 use Prim.Native.Nat.{ℕ}
 use mathlib.Core.Path.{_≡_}
 use mathlib.Core.Bool.{Bool, true, false}
 use mathlib.Core.List.{List}
 use Rattle.octets.specs.Quoted.{undoubled}
+use Rattle.octets.specs.Pick.{pick}
 use Rattle.strings.specs.Asserted.{assertedText}
 use Rattle.strings.specs.Prepared.{prepared}
-use Rattle.strings.specs.inner.Cursor.{isSqueezed}
+use Rattle.strings.specs.inner.Cursor.{isPlain}
 use Rattle.rules.specs.Rule.{Syntax, booleans, integers, objectIdentifiers, octetStrings, bitStrings, strings, times, Rule, present, equal, less}
 use Rattle.plan.specs.declared.Form.{Form}
 
@@ -17,7 +18,7 @@ syntaxForm integers = Form.Whole
 syntaxForm objectIdentifiers = Form.Whole
 syntaxForm octetStrings = Form.Whole
 syntaxForm bitStrings = Form.Whole
-syntaxForm (strings fold) = Form.Squeezed
+syntaxForm (strings fold) = Form.Prepared fold
 syntaxForm times = Form.Quoted
 
 abbrev pub formOf : Rule → Form
@@ -25,10 +26,13 @@ formOf present = Form.Whole
 formOf (equal s) = syntaxForm s
 formOf (less s) = syntaxForm s
 
+unfoldable pub preparedOperand : Bool → List ℕ → List ℕ
+preparedOperand fold s = pick (isPlain true s) s (prepared fold s)
+
 abbrev pub operandIn : Form → List ℕ → List ℕ
 operandIn Form.Whole t = t
 operandIn Form.Quoted t = assertedText t
-operandIn Form.Squeezed t = prepared false (assertedText t)
+operandIn (Form.Prepared fold) t = preparedOperand fold (assertedText t)
 
 unfoldable pub operandOf : Rule → List ℕ → List ℕ
 operandOf r t = operandIn (formOf r) t
@@ -37,7 +41,7 @@ operandOf r t = operandIn (formOf r) t
 abbrev pub PartIn : Form → List ℕ → List ℕ → Type 0
 PartIn Form.Whole t p = p ≡ t
 PartIn Form.Quoted t p = undoubled p ≡ assertedText t
-PartIn Form.Squeezed t p = undoubled p ≡ assertedText t
+PartIn (Form.Prepared fold) t p = undoubled p ≡ assertedText t
 
 unfoldable pub Part : Rule → List ℕ → List ℕ → Type 0
 Part r t p = PartIn (formOf r) t p
@@ -46,7 +50,16 @@ Part r t p = PartIn (formOf r) t p
 abbrev pub standsIn : Form → List ℕ → Bool
 standsIn Form.Whole p = true
 standsIn Form.Quoted p = true
-standsIn Form.Squeezed p = isSqueezed true p
+standsIn (Form.Prepared fold) p = isPlain true p
 
 unfoldable pub stands : Rule → List ℕ → Bool
 stands r p = standsIn (formOf r) p
+
+-- whether it is prepared with letters folded
+abbrev pub foldsIn : Form → Bool
+foldsIn Form.Whole = false
+foldsIn Form.Quoted = false
+foldsIn (Form.Prepared fold) = fold
+
+unfoldable pub folds : Rule → Bool
+folds r = foldsIn (formOf r)

@@ -7,7 +7,7 @@ pub read-letter-spec : {M : Type 1} → statement M
 read-letter-spec =
     tie.close
     (tie.spec
-    (λ c κs. search needs)  -- read-character-requires
+    (λ c κs. search needs)  -- read-octet-requires
     (λ c. search needs)  -- enum-known-b
     (λ c. search needs)  -- enum-told
     (λ c. search letter-end)  -- returns

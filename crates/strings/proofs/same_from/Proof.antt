@@ -1,26 +1,26 @@
 use Rattle.octets.specs.Octets.{same}
 use Rattle.strings.proofs.CursorSteps.{match-differs, match-ended, match-falls, match-longer, match-more, match-start}
-use Rattle.strings.specs.inner.Cursor.{lettersAt, rest}
-use Rattle.strings.specs.Prepared.{folded, prepared}
+use Rattle.strings.specs.inner.Cursor.{lettersAt, rest, sameFrom}
 use borrow.Author.Needs.{needs}
 use lib.ListN.{length}
 use mathlib.Core.Bool.{false}
 use mathlib.Core.Path.{_≡_}
-use Rattle.strings.proofs.same_squeezed.Statement.{statement}
-use Rattle.strings.proofs.same_squeezed.Tie as tie
+use Rattle.strings.proofs.same_from.Statement.{statement}
+use Rattle.strings.proofs.same_from.Tie as tie
 
 abbrev Inv-loop : tie.InvT-loop
-Inv-loop c x fold a₀ i₀ a i = same (rest fold false c a) (lettersAt fold false x i) ≡ same (prepared fold c) (folded fold x)
+Inv-loop c x fold first a₀ i₀ a i = same (rest fold false c a) (lettersAt fold false x i) ≡ sameFrom fold c x first
 
 abbrev μ-loop : tie.MeasureT-loop
-μ-loop c x fold a₀ i₀ a i = length (rest fold false c a)
+μ-loop c x fold first a₀ i₀ a i = length (rest fold false c a)
 
-pub same-squeezed-spec : {M : Type 1} → statement M
-same-squeezed-spec =
+pub same-from-spec : {M : Type 1} → statement M
+same-from-spec =
     tie.close
     (tie.spec
     Inv-loop
     μ-loop
+    (λ c κs. search needs)  -- before-at-requires
     (λ c. search match-start)  -- loop-holds
     (λ c κs. search needs)  -- next-requires
     (λ c κs. search needs)  -- read-letter-requires

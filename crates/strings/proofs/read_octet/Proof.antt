@@ -1,10 +1,10 @@
 use Rattle.strings.proofs.Steps.{character-double, character-end, character-last, character-other, character-single, character-stored}
 use borrow.Author.Needs.{needs}
-use Rattle.strings.proofs.read_character.Statement.{statement}
-use Rattle.strings.proofs.read_character.Tie as tie
+use Rattle.strings.proofs.read_octet.Statement.{statement}
+use Rattle.strings.proofs.read_octet.Tie as tie
 
-pub read-character-spec : {M : Type 1} → statement M
-read-character-spec =
+pub read-octet-spec : {M : Type 1} → statement M
+read-octet-spec =
     tie.close
     (tie.spec
     (λ c. search character-end)  -- returns

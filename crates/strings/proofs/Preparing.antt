@@ -1,0 +1,341 @@
+-- Octets that are as prepared, and a prepared string in memory: laws, and one lemma for each need of the code.
+use mathlib.Core.Path.{_≡_, refl, sym, ap, _∙_}
+use mathlib.Core.Bool.{Bool, true, false, not, false≢true}
+use mathlib.Core.List.{List, [], _∷_, _++_, append-assoc, append-nil, map}
+use Prim.Native.Nat.{ℕ, _≤_, _<_, _+_, _*_}
+use native.Mathlib.Omega.{arith}
+use native.Mathlib.Numerals.{add-one}
+use borrow.Author.Tests.{eq-eqb, ne-eqb, eqb-true, eqb-false, leb-true, le-ltb, ltb-true, ltb-false}
+use lib.Dec.{ltb, leb, eqb}
+use lib.ListN.{length, length-append, take, drop, set, length-set}
+use lib.Seq.{take-suc-set}
+use Rattle.octets.specs.Pick.{pick, both, either, no}
+use Rattle.octets.specs.Octets.{octet, every}
+use Rattle.octets.specs.Text.{within, isUpper, lower}
+use Rattle.octets.specs.Quoted.{undoubled}
+use Rattle.octets.proofs.Laws.{rest-cons, rest-none, both-true}
+use Rattle.octets.proofs.TextLaws.{every-nil, every-cons}
+use Rattle.octets.proofs.QuotedLaws.{noQuote, undoubled-plain}
+use Rattle.strings.specs.Images.{Mark, blank, shown, image}
+use Rattle.strings.specs.Prepared.{isPair, pairNumber, octetImage, images, afterSpace, spaced, joined, prepared, folded}
+use Rattle.strings.specs.inner.Shapes.{shapeMarks, single, foldOctet, lowShape}
+use Rattle.strings.specs.inner.Cursor.{rest, reportStep, isLoose, isPlain}
+use Rattle.strings.specs.declared.Before.{Before}
+use Rattle.strings.specs.declared.Cursor.{Cursor}
+use Rattle.strings.specs.declared.Step.{Step}
+use Rattle.strings.proofs.ImageLaws.{low-is, low-short, high-short, isSmall, allSmall, image-small}
+use Rattle.strings.proofs.CursorSteps.{images-low, images-alone, images-single, images-pair, Paired, paired, single-marks, begun, rest-begun}
+
+-- ---- the images of plain octets
+lower-small : (b : ℕ) → b ≤ 126 → lower b ≤ 255
+unfolding lower
+lower-small b h = go (isUpper b)
+  where
+    go : (u : Bool) → pick u (b + 32) b ≤ 255
+    go true = omega arith
+    go false = omega arith
+
+fold-small : (fold : Bool) (b : ℕ) → b ≤ 126 → foldOctet fold b ≤ 255
+fold-small true b h = lower-small b h
+fold-small false b h = omega arith
+
+pub image-letter : (fold : Bool) (b : ℕ) → 33 ≤ b → b ≤ 126 → image fold b ≡ shown (foldOctet fold b) ∷ []
+unfolding lowShape
+image-letter fold b h l =
+    sym (low-is fold b (omega arith))
+    ∙ rw (le-ltb b 32 (omega arith), ne-eqb b 32 (λ e. omega arith), ne-eqb b 127 (λ e. omega arith)) (single-marks (foldOctet fold b) (fold-small fold b l))
+
+pub image-space : (fold : Bool) → image fold 32 ≡ blank ∷ []
+unfolding lowShape
+image-space fold = sym (low-is fold 32 (omega arith))
+
+pub fold-space : (fold : Bool) → foldOctet fold 32 ≡ 32
+unfolding lower isUpper
+fold-space true = refl
+fold-space false = refl
+
+pub folded-cons : (fold : Bool) (b : ℕ) (s : List ℕ) → folded fold (b ∷ s) ≡ foldOctet fold b ∷ folded fold s
+unfolding folded
+folded-cons true b s = refl
+folded-cons false b s = refl
+
+pub folded-nil : (fold : Bool) → folded fold [] ≡ []
+unfolding folded
+folded-nil true = refl
+folded-nil false = refl
+
+-- ---- octets that are as prepared but for folding
+abbrev atSpace : Before → Bool
+atSpace Before.Nothing = true
+atSpace Before.Character = false
+atSpace Before.Space = true
+
+-- an octet that is not loose: a space behind a character, or another
+pub data Fast (space : Bool) (b : ℕ) : Type 0 where
+  gap : b ≡ 32 → space ≡ false → Fast space b
+  letter : 33 ≤ b → b ≤ 126 → eqb b 32 ≡ false → eqb b 34 ≡ false → Fast space b
+
+fast : (space : Bool) (b : ℕ) → isLoose space b ≡ false → Fast space b
+fast space b e = go (eqb b 34) refl (eqb b 32) refl (within 33 126 b) refl e
+  where
+    go : (x : Bool) → eqb b 34 ≡ x → (y : Bool) → eqb b 32 ≡ y → (z : Bool) → within 33 126 b ≡ z → pick x true (pick y space (no z)) ≡ false → Fast space b
+    go true p y q z r h = absurd (false≢true (sym h))
+    go false p true q z r h = gap (eqb-true b 32 q) h
+    go false p false q true r h = let w = both-true (leb 33 b) (leb b 126) r in letter (leb-true 33 b (w .0)) (leb-true b 126 (w .1)) q p
+    go false p false q false r h = absurd (false≢true (sym h))
+
+firm : (u r : Bool) → pick u false r ≡ true → (u ≡ false) × (r ≡ true)
+firm true r e = absurd (false≢true e)
+firm false r e = (refl, e)
+
+plain-joined : (fold : Bool) (p : Before) (s : List ℕ) → isPlain (atSpace p) s ≡ true → joined p (images fold s) ≡ spaced p (folded fold s)
+unfolding isPlain joined images
+plain-joined fold Before.Nothing [] e = absurd (false≢true e)
+plain-joined fold Before.Character [] e = sym (folded-nil fold)
+plain-joined fold Before.Space [] e = absurd (false≢true e)
+plain-joined fold p (b ∷ s) e =
+    let w = firm (isLoose (atSpace p) b) (isPlain (eqb b 32) s) e in
+    go (fast (atSpace p) b (w .0)) (w .1) (plain-joined fold Before.Space s) (plain-joined fold Before.Character s)
+  where
+    behind-space : (p : Before) → atSpace p ≡ false → b ≡ 32 → joined Before.Space (images fold s) ≡ 32 ∷ folded fold s → joined p (blank ∷ images fold s) ≡ spaced p (folded fold (b ∷ s))
+    behind-space Before.Nothing h q f = absurd (false≢true (sym h))
+    behind-space Before.Character h q f = f ∙ sym (folded-cons fold b s ∙ ap (λ (y : ℕ). foldOctet fold y ∷ folded fold s) q ∙ ap (λ (y : ℕ). y ∷ folded fold s) (fold-space fold))
+    behind-space Before.Space h q f = absurd (false≢true (sym h))
+
+    go : Fast (atSpace p) b → isPlain (eqb b 32) s ≡ true → (isPlain true s ≡ true → joined Before.Space (images fold s) ≡ 32 ∷ folded fold s)
+        → (isPlain false s ≡ true → joined Before.Character (images fold s) ≡ folded fold s) → joined p (images fold (b ∷ s)) ≡ spaced p (folded fold (b ∷ s))
+    go (gap q h) k f g =
+        ap (joined p) (images-low fold b s (omega arith) ∙ ap (λ (l : List Mark). l ++ images fold s) (ap (image fold) q ∙ image-space fold))
+        ∙ behind-space p h q (f (rw (eq-eqb b 32 q) at k))
+    go (letter h l n o) k f g =
+        ap (joined p) (images-low fold b s (omega arith) ∙ ap (λ (m : List Mark). m ++ images fold s) (image-letter fold b h l))
+        ∙ ap (λ (y : List ℕ). spaced p (foldOctet fold b ∷ y)) (g (rw n at k)) ∙ ap (spaced p) (sym (folded-cons fold b s))
+
+plain-quotes : (space : Bool) (s : List ℕ) → isPlain space s ≡ true → every noQuote s ≡ true
+unfolding isPlain
+plain-quotes space [] e = every-nil noQuote
+plain-quotes space (b ∷ s) e =
+    let w = firm (isLoose space b) (isPlain (eqb b 32) s) e in
+    every-cons noQuote b s ∙ rw (no-quote (fast space b (w .0)), plain-quotes (eqb b 32) s (w .1))
+  where
+    no-quote : Fast space b → eqb b 34 ≡ false
+    no-quote (gap q h) = ne-eqb b 34 (λ z. omega arith)
+    no-quote (letter h l n o) = o
+
+pub plain-folds : (fold : Bool) (s : List ℕ) → isPlain true s ≡ true → folded fold s ≡ prepared fold s
+unfolding prepared
+plain-folds fold s e = sym (plain-joined fold Before.Nothing s e)
+
+-- what stands between quotes, where it is plain, has no doubled quote
+pub plain-same : (s : List ℕ) → isPlain true s ≡ true → undoubled s ≡ s
+plain-same s e = undoubled-plain s (plain-quotes true s e)
+
+-- and where it isn't, isn't plain with one quote for two
+pub not-plain : (space : Bool) (s : List ℕ) → isPlain space s ≡ false → isPlain space (undoubled s) ≡ false
+unfolding isPlain undoubled
+not-plain space [] e = e
+not-plain space (b ∷ []) e = e
+not-plain space (b ∷ c ∷ s) e = go (both (eqb b 34) (eqb c 34)) (not-plain (eqb b 32) (c ∷ s))
+  where
+    go : (u : Bool) → (isPlain (eqb b 32) (c ∷ s) ≡ false → isPlain (eqb b 32) (undoubled (c ∷ s)) ≡ false) → isPlain space (pick u (34 ∷ undoubled s) (b ∷ undoubled (c ∷ s))) ≡ false
+    go true f = refl
+    go false f = behind (isLoose space b) e
+      where
+        behind : (v : Bool) → pick v false (isPlain (eqb b 32) (c ∷ s)) ≡ false → pick v false (isPlain (eqb b 32) (undoubled (c ∷ s))) ≡ false
+        behind true h = refl
+        behind false h = f h
+
+-- ---- is_loose, is_plain
+module _ (space : Bool) (b : ℕ) where
+  pub loose-quote : b ≡ 34 → true ≡ isLoose space b
+  loose-quote e = rw (eq-eqb b 34 e)
+
+  pub loose-space : (b ≡ 34 → ⊥) → b ≡ 32 → space ≡ isLoose space b
+  loose-space n e = rw (ne-eqb b 34 n, eq-eqb b 32 e)
+
+  pub loose-other : (u : Bool) → (b ≡ 34 → ⊥) → (b ≡ 32 → ⊥) → u ≡ within 33 126 b → not u ≡ isLoose space b
+  loose-other u n m e = rw (ne-eqb b 34 n, ne-eqb b 32 m, sym e) (go u)
+    where
+      go : (u : Bool) → not u ≡ no u
+      go true = refl
+      go false = refl
+
+module _ (s : List ℕ) (space : Bool) (i : ℕ) (m : Bool) (inv : isPlain space (drop i s) ≡ m) where
+  pub plain-end : length s ≤ i → not space ≡ m
+  unfolding isPlain
+  plain-end h = go space ∙ sym (ap (isPlain space) (rest-none s i h)) ∙ inv
+    where
+      go : (u : Bool) → not u ≡ no u
+      go true = refl
+      go false = refl
+
+  module _ (h : i < length s) (r : Bool) (told : r ≡ isLoose space (octet s i)) where
+    here : pick r false (isPlain (eqb (octet s i) 32) (drop (i + 1) s)) ≡ m
+    unfolding isPlain
+    here = ap (λ (y : Bool). pick y false (isPlain (eqb (octet s i) 32) (drop (i + 1) s))) told ∙ sym (ap (isPlain space) (rest-cons s i h)) ∙ inv
+
+    pub plain-loose : r ≡ true → false ≡ m
+    plain-loose e = rw e at here
+
+    pub plain-on : r ≡ false → isPlain (eqb (octet s i) 32) (drop (i + 1) s) ≡ m
+    plain-on e = rw e at here
+
+-- ---- a prepared string folds to itself
+lower-same : (b : ℕ) → isUpper b ≡ false → lower b ≡ b
+unfolding lower
+lower-same b e = rw e
+
+small-append : (a b : List Mark) → allSmall a ≡ true → allSmall b ≡ true → allSmall (a ++ b) ≡ true
+unfolding allSmall
+small-append [] b e f = f
+small-append (m ∷ a) b e f = let w = both-true (isSmall m) (allSmall a) e in rw (w .0, small-append a b (w .1) f)
+
+high-small : (a : ℕ) → 128 ≤ a → isUpper a ≡ false
+unfolding isUpper
+high-small a h = let n : 90 < a = omega arith in go (leb 65 a) (leb a 90) refl
+  where
+    go : (x y : Bool) → leb a 90 ≡ y → both x y ≡ false
+    go x true q = absurd (let z = leb-true a 90 q in omega arith)
+    go true false q = refl
+    go false false q = refl
+
+-- what an octet and those after it show
+octet-small : (a : ℕ) → allSmall (octetImage true a) ≡ true
+unfolding allSmall
+octet-small a = go (ltb a 0x80) refl
+  where
+    go : (u : Bool) → ltb a 0x80 ≡ u → allSmall (pick u (image true a) (shown a ∷ [])) ≡ true
+    go true q = let l = ltb-true a 0x80 q in image-small a (omega arith)
+    go false q = rw (high-small a (ltb-false a 0x80 q))
+
+images-small : (s : List ℕ) → allSmall (images true s) ≡ true
+unfolding allSmall images
+images-small [] = refl
+images-small (a ∷ []) = octet-small a
+images-small (a ∷ b ∷ s) = go (isPair a b) refl (images-small s) (images-small (b ∷ s))
+  where
+    go : (u : Bool) → isPair a b ≡ u → allSmall (images true s) ≡ true → allSmall (images true (b ∷ s)) ≡ true
+        → allSmall (pick u (image true (pairNumber a b) ++ images true s) (octetImage true a ++ images true (b ∷ s))) ≡ true
+    go true q x y =
+        let w = paired a b q in
+        let w1 = w .first-most in
+        let w3 = w .second-most in
+        small-append (image true (pairNumber a b)) (images true s) (image-small (pairNumber a b) (omega arith)) x
+    go false q x y = small-append (octetImage true a) (images true (b ∷ s)) (octet-small a) y
+
+lower-joined : (p : Before) (ms : List Mark) → allSmall ms ≡ true → map lower (joined p ms) ≡ joined p ms
+unfolding allSmall joined lower isUpper
+lower-joined p [] e = refl
+lower-joined p (blank ∷ ms) e = lower-joined (afterSpace p) ms e
+lower-joined p (shown b ∷ ms) e =
+    let w = both-true (no (isUpper b)) (allSmall ms) e in
+    go p (ap₂-cons (lower-same b (not-upper (isUpper b) (w .0))) (lower-joined Before.Character ms (w .1)))
+  where
+    not-upper : (u : Bool) → no u ≡ true → u ≡ false
+    not-upper true h = absurd (false≢true h)
+    not-upper false h = refl
+
+    ap₂-cons : lower b ≡ b → map lower (joined Before.Character ms) ≡ joined Before.Character ms → map lower (b ∷ joined Before.Character ms) ≡ b ∷ joined Before.Character ms
+    ap₂-cons x y = ap (λ (k : ℕ). k ∷ map lower (joined Before.Character ms)) x ∙ ap (λ (l : List ℕ). b ∷ l) y
+
+    go : (p : Before) → map lower (b ∷ joined Before.Character ms) ≡ b ∷ joined Before.Character ms → map lower (spaced p (b ∷ joined Before.Character ms)) ≡ spaced p (b ∷ joined Before.Character ms)
+    go Before.Nothing x = x
+    go Before.Character x = x
+    go Before.Space x = ap (λ (l : List ℕ). 32 ∷ l) x
+
+pub folded-prepared : (fold : Bool) (s : List ℕ) → folded fold (prepared fold s) ≡ prepared fold s
+unfolding folded prepared
+folded-prepared true s = lower-joined Before.Nothing (images true s) (images-small s)
+folded-prepared false s = refl
+
+-- ---- at most five octets for two
+joined-length : (p : Before) (ms : List Mark) → length (joined p ms) ≤ length (spaced p []) + length ms
+unfolding joined
+joined-length p [] = omega arith
+joined-length p (blank ∷ ms) = go p (joined-length Before.Nothing ms) (joined-length Before.Space ms)
+  where
+    go : (p : Before) → length (joined Before.Nothing ms) ≤ 0 + length ms → length (joined Before.Space ms) ≤ 1 + length ms → length (joined (afterSpace p) ms) ≤ length (spaced p []) + length (blank ∷ ms)
+    go Before.Nothing x y = omega arith
+    go Before.Character x y = omega arith
+    go Before.Space x y = omega arith
+joined-length p (shown b ∷ ms) = go p (joined-length Before.Character ms)
+  where
+    go : (p : Before) → length (joined Before.Character ms) ≤ 0 + length ms → length (spaced p (b ∷ joined Before.Character ms)) ≤ length (spaced p []) + length (shown b ∷ ms)
+    go Before.Nothing x = omega arith
+    go Before.Character x = omega arith
+    go Before.Space x = omega arith
+
+octet-short : (fold : Bool) (a : ℕ) → length (octetImage fold a) ≤ 1
+octet-short fold a = go (ltb a 0x80) refl
+  where
+    go : (u : Bool) → ltb a 0x80 ≡ u → length (pick u (image fold a) (shown a ∷ [])) ≤ 1
+    go true q = low-short fold a (ltb-true a 0x80 q)
+    go false q = omega arith
+
+images-length : (fold : Bool) (s : List ℕ) → 2 * length (images fold s) ≤ 5 * length s
+unfolding images
+images-length fold [] = omega arith
+images-length fold (a ∷ []) = omega (arith, octet-short fold a)
+images-length fold (a ∷ b ∷ s) = go (isPair a b) refl (images-length fold s) (images-length fold (b ∷ s))
+  where
+    go : (u : Bool) → isPair a b ≡ u → 2 * length (images fold s) ≤ 5 * length s → 2 * length (images fold (b ∷ s)) ≤ 5 * length (b ∷ s)
+        → 2 * length (pick u (image fold (pairNumber a b) ++ images fold s) (octetImage fold a ++ images fold (b ∷ s))) ≤ 5 * length (a ∷ b ∷ s)
+    go true q x y =
+        let w = paired a b q in
+        let w0 = w .first-least in
+        let w1 = w .first-most in
+        let w2 = w .second-least in
+        let w3 = w .second-most in
+        let h = high-short fold (pairNumber a b) (omega arith) (omega arith) in
+        omega (arith, h, length-append (image fold (pairNumber a b)) (images fold s))
+    go false q x y = omega (arith, octet-short fold a, length-append (octetImage fold a) (images fold (b ∷ s)))
+
+undoubled-length : (s : List ℕ) → length (undoubled s) ≤ length s
+unfolding undoubled
+undoubled-length [] = omega arith
+undoubled-length (b ∷ []) = omega arith
+undoubled-length (b ∷ c ∷ s) = go (both (eqb b 34) (eqb c 34)) (undoubled-length s) (undoubled-length (c ∷ s))
+  where
+    go : (u : Bool) → length (undoubled s) ≤ length s → length (undoubled (c ∷ s)) ≤ length (c ∷ s) → length (pick u (34 ∷ undoubled s) (b ∷ undoubled (c ∷ s))) ≤ length (b ∷ c ∷ s)
+    go true x y = omega arith
+    go false x y = omega arith
+
+prepared-length : (fold : Bool) (p : List ℕ) → length p ≤ 2048 → length (prepared fold (undoubled p)) ≤ 5120
+unfolding prepared
+prepared-length fold p h = omega (arith, undoubled-length p, images-length fold (undoubled p), joined-length Before.Nothing (images fold (undoubled p)))
+
+-- ---- prepare: n octets of the prepared string stand in the memory m, the rest is to come at a cursor
+pub record Preparing (fold : Bool) (p : List ℕ) (n : ℕ) (c : Cursor) (m : List ℕ) : Type 0 where
+  pub long : length m ≡ 5120
+  pub count : n + length (rest fold true p c) ≤ 5120
+  pub start : take n m ++ rest fold true p c ≡ prepared fold (undoubled p)
+
+pub prepare-start : (fold : Bool) (p m : List ℕ) → length m ≡ 5120 → length p ≤ 2048 → Preparing fold p 0 begun m
+prepare-start fold p m e h = record { long = e; count = omega (arith, prepared-length fold p h, ap length (rest-begun fold true p)); start = rest-begun fold true p }
+
+pub prepare-long : (fold : Bool) (p : List ℕ) (n : ℕ) (c : Cursor) (m : List ℕ) → Preparing fold p n c m → length m ≡ 5120
+prepare-long fold p n c m v = v .long
+
+module _ (fold : Bool) (p : List ℕ) (n : ℕ) (c : Cursor) (m : List ℕ) (v : Preparing fold p n c m) (s : Step) (told : reportStep fold true p s ≡ rest fold true p c) where
+  pub prepare-end : s ≡ Step.End → take n m ≡ prepared fold (undoubled p)
+  prepare-end e = sym (append-nil (take n m)) ∙ ap (λ (l : List ℕ). take n m ++ l) (sym (ap (reportStep fold true p) e) ∙ told) ∙ v .start
+
+  module _ (b : ℕ) (c2 : Cursor) (e : s ≡ Step.Octet b c2) where
+    next-is : rest fold true p c ≡ b ∷ rest fold true p c2
+    next-is = sym told ∙ ap (reportStep fold true p) e
+
+    pub prepare-room : n < 5120
+    prepare-room = omega (arith, ap length next-is, v .count)
+
+    pub prepare-falls : length (rest fold true p c2) < length (rest fold true p c)
+    prepare-falls = omega (arith, ap length next-is)
+
+    inside : n < length m
+    inside = omega (arith, prepare-room, v .long)
+
+    pub prepare-more : Preparing fold p (n + 1) c2 (set m n b)
+    prepare-more = record {
+      long = length-set m n b ∙ v .long;
+      count = omega (arith, ap length next-is, v .count);
+      start = rw (add-one n, take-suc-set m n b inside, append-assoc (take n m) (b ∷ []) (rest fold true p c2)) (ap (λ (l : List ℕ). take n m ++ l) (sym next-is) ∙ v .start);
+    }
