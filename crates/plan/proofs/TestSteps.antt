@@ -12,7 +12,7 @@ use Rattle.integers.specs.inner.Bounds.{boundOf}
 use Rattle.integers.specs.declared.Bound.{Bound}
 use Rattle.digits.specs.Asserted.{isBitText}
 use Rattle.strings.specs.Asserted.{assertedText}
-use Rattle.strings.specs.inner.Cursor.{isPlain}
+use Rattle.strings.specs.inner.Comparing.{isPlain}
 use Rattle.rules.specs.Rule as rule
 use Rattle.rules.specs.inner.Answers.{syntaxOf, meant}
 use Rattle.rules.specs.declared.Syntax.{Syntax}

@@ -6,7 +6,7 @@ use Rattle.octets.specs.Octets.{bytes}
 use Rattle.dotted.specs.inner.Stored.{fitting}
 use Rattle.integers.specs.inner.Bounds.{boundOf}
 use Rattle.integers.specs.declared.Bound.{Bound}
-use Rattle.strings.specs.inner.Cursor.{isPlain}
+use Rattle.strings.specs.inner.Comparing.{isPlain}
 use Rattle.rules.specs.Rule.{booleans, integers, objectIdentifiers, bitStrings, strings, times, equal, less}
 use Rattle.rules.specs.Computing.{rulesCompute}
 use Rattle.plan.specs.inner.Test.{noValue, truth, sameInteger, lessInteger, arcs, bits, string, earlierTime, equalTest, lessTest, testFor}

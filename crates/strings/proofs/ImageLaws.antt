@@ -1,20 +1,20 @@
 -- "it is shown once over all of it that what it gives folds to itself": each character of an image is its own image, a space apart, which is one of a
 -- space. The test goes over all characters up to U+017F, and is computed.
-use mathlib.Core.Path.{_≡_, refl, sym, ap, ap₂, _∙_, subst}
+use mathlib.Core.Path.{_≡_, refl, sym, ap, ap₂, _∙_}
 use mathlib.Core.Bool.{Bool, true, false, false≢true}
-use mathlib.Core.List.{List, [], _∷_, _++_, map}
-use Prim.Native.Nat.{ℕ, suc, _≤_, _<_, _+_, _%_}
+use mathlib.Core.List.{List, [], _∷_, _++_}
+use Prim.Native.Nat.{ℕ, _≤_, _<_, _+_, _%_}
 use native.Mathlib.Omega.{arith}
 use borrow.Author.Tests.{eqb-true, ne-eqb, lt-ltb, le-ltb, leb-true}
 use lib.Dec.{ltb, leb, eqb}
 use lib.ListN.{length}
 use Rattle.octets.specs.Pick.{pick, both, either, no, all}
 use Rattle.octets.specs.Octets.{octet, same, every}
-use Rattle.octets.specs.Text.{within, isUpper, lower}
+use Rattle.octets.specs.Text.{isUpper, lower}
 use Rattle.octets.proofs.Laws.{all-at, both-true}
 use Rattle.octets.proofs.TextLaws.{every-at, same-is}
-use Rattle.strings.specs.Images.{Image, table, imageIn, charactersOf, charactersIn, encoded, allEncoded, Mark, blank, shown, marks, image}
-use Rattle.strings.specs.inner.Shapes.{unpacked, shapeMarks, foldOctet, lowShape, markShape, signShape, middleShape, exactShape, isCapital, extendedShape, latinShape, foldedShape, highShape, shapeOf}
+use Rattle.strings.specs.Images.{table, imageIn, charactersOf, charactersIn, encoded, allEncoded, Mark, blank, shown, marks, image}
+use Rattle.strings.specs.inner.Shapes.{unpacked, shapeMarks, lowShape, markShape, signShape, middleShape, exactShape, isCapital, extendedShape, latinShape, foldedShape, highShape, shapeOf}
 
 abbrev own : Bool → ℕ → Bool
 own fold d = either (eqb d 0x0020) (same (charactersOf d (imageIn table fold d)) (d ∷ []))

@@ -2,7 +2,7 @@ pub mod ShapeSteps
 pub mod ImageLaws
 pub mod Laws
 pub mod Steps
-pub mod CursorSteps
+pub mod ImageSteps
 pub mod Preparing
-pub mod Kept
+pub mod Comparing
 pub mod Twice

@@ -2,14 +2,14 @@
 use mathlib.Core.Path.{_≡_, refl, sym, ap, _∙_}
 use mathlib.Core.Bool.{Bool, true, false, not, false≢true}
 use mathlib.Core.List.{List, [], _∷_, _++_, append-assoc, append-nil, map}
-use Prim.Native.Nat.{ℕ, _≤_, _<_, _+_, _*_}
+use Prim.Native.Nat.{ℕ, _≤_, _<_, _+_, _-_, _*_, _/_, _%_}
 use native.Mathlib.Omega.{arith}
 use native.Mathlib.Numerals.{add-one}
-use borrow.Author.Tests.{eq-eqb, ne-eqb, eqb-true, eqb-false, leb-true, le-ltb, ltb-true, ltb-false}
+use borrow.Author.Tests.{eq-eqb, ne-eqb, eqb-true, leb-true, le-ltb, ltb-true, ltb-false, not-true, not-false}
 use lib.Dec.{ltb, leb, eqb}
 use lib.ListN.{length, length-append, take, drop, set, length-set}
 use lib.Seq.{take-suc-set}
-use Rattle.octets.specs.Pick.{pick, both, either, no}
+use Rattle.octets.specs.Pick.{pick, both, no}
 use Rattle.octets.specs.Octets.{octet, every}
 use Rattle.octets.specs.Text.{within, isUpper, lower}
 use Rattle.octets.specs.Quoted.{undoubled}
@@ -18,13 +18,13 @@ use Rattle.octets.proofs.TextLaws.{every-nil, every-cons}
 use Rattle.octets.proofs.QuotedLaws.{noQuote, undoubled-plain}
 use Rattle.strings.specs.Images.{Mark, blank, shown, image}
 use Rattle.strings.specs.Prepared.{isPair, pairNumber, octetImage, images, afterSpace, spaced, joined, prepared, folded}
-use Rattle.strings.specs.inner.Shapes.{shapeMarks, single, foldOctet, lowShape}
-use Rattle.strings.specs.inner.Cursor.{rest, reportStep, isLoose, isPlain}
+use Rattle.strings.specs.inner.Shapes.{unpacked, foldOctet, lowShape}
+use Rattle.strings.specs.inner.Comparing.{left, imagesAt, restAt, gap, reportFound, Further, isLoose, isPlain}
 use Rattle.strings.specs.declared.Before.{Before}
-use Rattle.strings.specs.declared.Cursor.{Cursor}
-use Rattle.strings.specs.declared.Step.{Step}
+use Rattle.strings.specs.declared.Found.{Found}
+use Rattle.strings.specs.declared.Octets.{Octets}
 use Rattle.strings.proofs.ImageLaws.{low-is, low-short, high-short, isSmall, allSmall, image-small}
-use Rattle.strings.proofs.CursorSteps.{images-low, images-alone, images-single, images-pair, Paired, paired, single-marks, begun, rest-begun}
+use Rattle.strings.proofs.ImageSteps.{images-low, paired, single-marks, unpacked-more, unpacked-length}
 
 -- ---- the images of plain octets
 lower-small : (b : ℕ) → b ≤ 126 → lower b ≤ 255
@@ -72,7 +72,7 @@ atSpace Before.Space = true
 
 -- an octet that is not loose: a space behind a character, or another
 pub data Fast (space : Bool) (b : ℕ) : Type 0 where
-  gap : b ≡ 32 → space ≡ false → Fast space b
+  one : b ≡ 32 → space ≡ false → Fast space b
   letter : 33 ≤ b → b ≤ 126 → eqb b 32 ≡ false → eqb b 34 ≡ false → Fast space b
 
 fast : (space : Bool) (b : ℕ) → isLoose space b ≡ false → Fast space b
@@ -80,7 +80,7 @@ fast space b e = go (eqb b 34) refl (eqb b 32) refl (within 33 126 b) refl e
   where
     go : (x : Bool) → eqb b 34 ≡ x → (y : Bool) → eqb b 32 ≡ y → (z : Bool) → within 33 126 b ≡ z → pick x true (pick y space (no z)) ≡ false → Fast space b
     go true p y q z r h = absurd (false≢true (sym h))
-    go false p true q z r h = gap (eqb-true b 32 q) h
+    go false p true q z r h = one (eqb-true b 32 q) h
     go false p false q true r h = let w = both-true (leb 33 b) (leb b 126) r in letter (leb-true 33 b (w .0)) (leb-true b 126 (w .1)) q p
     go false p false q false r h = absurd (false≢true (sym h))
 
@@ -104,7 +104,7 @@ plain-joined fold p (b ∷ s) e =
 
     go : Fast (atSpace p) b → isPlain (eqb b 32) s ≡ true → (isPlain true s ≡ true → joined Before.Space (images fold s) ≡ 32 ∷ folded fold s)
         → (isPlain false s ≡ true → joined Before.Character (images fold s) ≡ folded fold s) → joined p (images fold (b ∷ s)) ≡ spaced p (folded fold (b ∷ s))
-    go (gap q h) k f g =
+    go (one q h) k f g =
         ap (joined p) (images-low fold b s (omega arith) ∙ ap (λ (l : List Mark). l ++ images fold s) (ap (image fold) q ∙ image-space fold))
         ∙ behind-space p h q (f (rw (eq-eqb b 32 q) at k))
     go (letter h l n o) k f g =
@@ -119,7 +119,7 @@ plain-quotes space (b ∷ s) e =
     every-cons noQuote b s ∙ rw (no-quote (fast space b (w .0)), plain-quotes (eqb b 32) s (w .1))
   where
     no-quote : Fast space b → eqb b 34 ≡ false
-    no-quote (gap q h) = ne-eqb b 34 (λ z. omega arith)
+    no-quote (one q h) = ne-eqb b 34 (λ z. omega arith)
     no-quote (letter h l n o) = o
 
 pub plain-folds : (fold : Bool) (s : List ℕ) → isPlain true s ≡ true → folded fold s ≡ prepared fold s
@@ -304,38 +304,107 @@ prepared-length : (fold : Bool) (p : List ℕ) → length p ≤ 2048 → length 
 unfolding prepared
 prepared-length fold p h = omega (arith, undoubled-length p, images-length fold (undoubled p), joined-length Before.Nothing (images fold (undoubled p)))
 
--- ---- prepare: n octets of the prepared string stand in the memory m, the rest is to come at a cursor
-pub record Preparing (fold : Bool) (p : List ℕ) (n : ℕ) (c : Cursor) (m : List ℕ) : Type 0 where
+-- ---- put_space, put_octets
+pub space-none : (m : List ℕ) (n : ℕ) (u : Bool) → not u ≡ true → take n m ≡ take n m ++ gap u []
+space-none m n u e = rw (not-true u e) (sym (append-nil (take n m)))
+
+pub space-stays : (n : ℕ) (u : Bool) → not u ≡ true → n ≡ n + length (gap u [])
+space-stays n u e = rw (not-true u e) (omega arith)
+
+module _ (m : List ℕ) (n : ℕ) (u : Bool) (e : not u ≡ false) (h : n + length (gap u []) ≤ 5120) where
+  pub space-room : n < 5120
+  space-room = omega (arith, h, ap (λ (y : Bool). length (gap y [])) (not-false u e))
+
+  pub space-written : length m ≡ 5120 → take (n + 1) (set m n 32) ≡ take n m ++ gap u []
+  space-written l = rw (not-false u e, add-one n) (take-suc-set m n 32 (omega (arith, space-room)))
+
+pub space-place : (n : ℕ) (u : Bool) → not u ≡ false → n + 1 ≡ n + length (gap u [])
+space-place n u e = rw (not-false u e) (omega arith)
+
+-- of the `count` octets of a number the last k are left to be written at a place
+pub record Putting (word count n : ℕ) (m₀ : List ℕ) (w k at : ℕ) (m : List ℕ) : Type 0 where
   pub long : length m ≡ 5120
-  pub count : n + length (rest fold true p c) ≤ 5120
-  pub start : take n m ++ rest fold true p c ≡ prepared fold (undoubled p)
+  pub rest : at + k ≡ n + count
+  pub start : take at m ++ unpacked w k ≡ take n m₀ ++ unpacked word count
 
-pub prepare-start : (fold : Bool) (p m : List ℕ) → length m ≡ 5120 → length p ≤ 2048 → Preparing fold p 0 begun m
-prepare-start fold p m e h = record { long = e; count = omega (arith, prepared-length fold p h, ap length (rest-begun fold true p)); start = rest-begun fold true p }
+pub put-start : (word count n : ℕ) (m : List ℕ) → length m ≡ 5120 → Putting word count n m word count n m
+put-start word count n m l = record { long = l; rest = refl; start = refl }
 
-pub prepare-long : (fold : Bool) (p : List ℕ) (n : ℕ) (c : Cursor) (m : List ℕ) → Preparing fold p n c m → length m ≡ 5120
-prepare-long fold p n c m v = v .long
+module _ (word count n : ℕ) (m₀ : List ℕ) (w k at : ℕ) (m : List ℕ) (v : Putting word count n m₀ w k at m) where
+  pub put-long : length m ≡ 5120
+  put-long = v .long
 
-module _ (fold : Bool) (p : List ℕ) (n : ℕ) (c : Cursor) (m : List ℕ) (v : Preparing fold p n c m) (s : Step) (told : reportStep fold true p s ≡ rest fold true p c) where
-  pub prepare-end : s ≡ Step.End → take n m ≡ prepared fold (undoubled p)
-  prepare-end e = sym (append-nil (take n m)) ∙ ap (λ (l : List ℕ). take n m ++ l) (sym (ap (reportStep fold true p) e) ∙ told) ∙ v .start
+  pub put-place : k ≤ 0 → at ≡ n + count
+  put-place h = omega (arith, v .rest)
 
-  module _ (b : ℕ) (c2 : Cursor) (e : s ≡ Step.Octet b c2) where
-    next-is : rest fold true p c ≡ b ∷ rest fold true p c2
-    next-is = sym told ∙ ap (reportStep fold true p) e
+  pub put-end : k ≤ 0 → take at m ≡ take n m₀ ++ unpacked word count
+  unfolding unpacked
+  put-end h = let z : k ≡ 0 = omega arith in sym (append-nil (take at m)) ∙ ap (λ (y : ℕ). take at m ++ unpacked w y) (sym z) ∙ v .start
 
-    pub prepare-room : n < 5120
-    prepare-room = omega (arith, ap length next-is, v .count)
+  module _ (h : 0 < k) (room : n + count ≤ 5120) where
+    pub put-room : at < 5120
+    put-room = omega (arith, v .rest)
 
-    pub prepare-falls : length (rest fold true p c2) < length (rest fold true p c)
-    prepare-falls = omega (arith, ap length next-is)
-
-    inside : n < length m
-    inside = omega (arith, prepare-room, v .long)
-
-    pub prepare-more : Preparing fold p (n + 1) c2 (set m n b)
-    prepare-more = record {
-      long = length-set m n b ∙ v .long;
-      count = omega (arith, ap length next-is, v .count);
-      start = rw (add-one n, take-suc-set m n b inside, append-assoc (take n m) (b ∷ []) (rest fold true p c2)) (ap (λ (l : List ℕ). take n m ++ l) (sym next-is) ∙ v .start);
+    pub put-more : Putting word count n m₀ (w / 256) (k - 1) (at + 1) (set m at (w % 256))
+    put-more = record {
+      long = length-set m at (w % 256) ∙ v .long;
+      rest = omega (arith, v .rest);
+      start = rw (add-one at, take-suc-set m at (w % 256) (omega (arith, put-room, v .long)), append-assoc (take at m) (w % 256 ∷ []) (unpacked (w / 256) (k - 1)))
+          (ap (λ (l : List ℕ). take at m ++ l) (sym (unpacked-more w k h)) ∙ v .start);
     }
+
+-- ---- prepare: n octets of the prepared string stand in the memory m, the rest is to come from a place on
+pub record Preparing (fold : Bool) (p : List ℕ) (at : ℕ) (b : Before) (n : ℕ) (m : List ℕ) : Type 0 where
+  pub long : length m ≡ 5120
+  pub count : n + length (restAt fold true p at b) ≤ 5120
+  pub start : take n m ++ restAt fold true p at b ≡ prepared fold (undoubled p)
+
+begins : (fold : Bool) (p : List ℕ) → restAt fold true p 0 Before.Nothing ≡ prepared fold (undoubled p)
+unfolding restAt imagesAt prepared
+begins fold p = refl
+
+pub prepare-start : (fold : Bool) (p m : List ℕ) → length m ≡ 5120 → length p ≤ 2048 → Preparing fold p 0 Before.Nothing 0 m
+prepare-start fold p m e h = record { long = e; count = omega (arith, prepared-length fold p h, ap length (begins fold p)); start = begins fold p }
+
+pub prepare-long : (fold : Bool) (p : List ℕ) (at : ℕ) (b : Before) (n : ℕ) (m : List ℕ) → Preparing fold p at b n m → length m ≡ 5120
+prepare-long fold p at b n m v = v .long
+
+gap-append : (u : Bool) (l : List ℕ) → gap u [] ++ l ≡ gap u l
+gap-append true l = refl
+gap-append false l = refl
+
+module _ (fold : Bool) (p : List ℕ) (at : ℕ) (b : Before) (n : ℕ) (m : List ℕ) (v : Preparing fold p at b n m) (r : Found) (told : reportFound fold true p r ≡ restAt fold true p at b) where
+  pub prepare-end : r ≡ Found.End → take n m ≡ prepared fold (undoubled p)
+  prepare-end e = sym (append-nil (take n m)) ∙ ap (λ (l : List ℕ). take n m ++ l) (sym (ap (reportFound fold true p) e) ∙ told) ∙ v .start
+
+  module _ (u : Bool) (o : Octets) (after : ℕ) (e : r ≡ Found.At u o after) where
+    next-is : restAt fold true p at b ≡ gap u [] ++ (unpacked (o .word) (o .count) ++ restAt fold true p after Before.Character)
+    next-is = sym told ∙ ap (reportFound fold true p) e ∙ sym (gap-append u (unpacked (o .word) (o .count) ++ restAt fold true p after Before.Character))
+
+    long-is : length (restAt fold true p at b) ≡ length (gap u []) + (o .count + length (restAt fold true p after Before.Character))
+    long-is =
+        ap length next-is ∙ length-append (gap u []) (unpacked (o .word) (o .count) ++ restAt fold true p after Before.Character)
+        ∙ ap (λ (y : ℕ). length (gap u []) + y) (length-append (unpacked (o .word) (o .count)) (restAt fold true p after Before.Character)
+        ∙ ap (λ (y : ℕ). y + length (restAt fold true p after Before.Character)) (unpacked-length (o .word) (o .count)))
+
+    pub prepare-space : n + length (gap u []) ≤ 5120
+    prepare-space = omega (arith, long-is, v .count)
+
+    module _ (start : ℕ) (place : start ≡ n + length (gap u [])) where
+      pub prepare-octets : start + o .count ≤ 5120
+      prepare-octets = omega (arith, long-is, v .count)
+
+      pub prepare-more : (m₁ m₂ : List ℕ) (end : ℕ) → take start m₁ ≡ take n m ++ gap u [] → take end m₂ ≡ take start m₁ ++ unpacked (o .word) (o .count) → end ≡ start + o .count
+          → length m₂ ≡ 5120 → Preparing fold p after Before.Character end m₂
+      prepare-more m₁ m₂ end f g q l = record {
+        long = l;
+        count = omega (arith, long-is, v .count);
+        start = ap (λ (y : List ℕ). y ++ restAt fold true p after Before.Character) (g ∙ ap (λ (y : List ℕ). y ++ unpacked (o .word) (o .count)) f)
+            ∙ append-assoc (take n m ++ gap u []) (unpacked (o .word) (o .count)) (restAt fold true p after Before.Character)
+            ∙ append-assoc (take n m) (gap u []) (unpacked (o .word) (o .count) ++ restAt fold true p after Before.Character)
+            ∙ ap (λ (y : List ℕ). take n m ++ y) (sym next-is) ∙ v .start;
+      }
+
+pub prepare-falls : (p : List ℕ) (at : ℕ) (r : Found) (u : Bool) (o : Octets) (after : ℕ) → r ≡ Found.At u o after → Further true p at r → left true p after < left true p at
+prepare-falls p at Found.End u o after e f = absurd (let z : _≡_ {A = ℕ} 0 1 = cc in omega arith)
+prepare-falls p at (Found.At v q k) u o after e f = let z : k ≡ after = cc in omega (arith, f, ap (left true p) z)

@@ -1,12 +1,11 @@
 -- The images of characters as the code has them: one lemma for each return.
-use mathlib.Core.Path.{_≡_, refl, sym, ap, _∙_}
+use mathlib.Core.Path.{_≡_, sym, ap, _∙_}
 use mathlib.Core.Bool.{Bool, true, false, not}
 use Prim.Native.Nat.{ℕ, _≤_, _<_, _+_, _%_}
 use native.Mathlib.Omega.{arith}
 use borrow.Author.Tests.{eq-eqb, ne-eqb, lt-ltb, le-ltb, not-true, not-false}
-use lib.Dec.{ltb, eqb}
-use Rattle.octets.specs.Pick.{pick, both}
-use Rattle.octets.specs.Text.{within, lower}
+use lib.Dec.{eqb}
+use Rattle.octets.specs.Text.{within}
 use Rattle.strings.specs.Prepared.{isPair}
 use Rattle.strings.specs.inner.Shapes.{several, empty, single, double, controlShape, foldOctet, lowShape, markShape, signShape, middleShape, exactShape, isCapital, pairedShape, extendedShape, latinShape, foldedShape, highShape}
 use Rattle.strings.specs.declared.Shape.{Shape}

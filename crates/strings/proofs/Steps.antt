@@ -17,8 +17,7 @@ use Rattle.octets.specs.declared.Place.{Place}
 use Rattle.octets.proofs.Laws.{rest-cons, rest-none, rest-length}
 use Rattle.octets.proofs.QuotedLaws.{undoubled-nil, undoubled-one, undoubled-two, undoubled-other, unquoted-none, unquoted-longer, unquoted-whole}
 use Rattle.strings.specs.Asserted.{textOr, assertedText}
-use Rattle.strings.specs.Prepared.{folded}
-use Rattle.strings.specs.inner.Cursor.{octetsOf, reportOctet, foldOctet, lettersAt, reportLetter}
+use Rattle.strings.specs.inner.Comparing.{octetsOf, reportOctet, foldOctet}
 use Rattle.strings.specs.declared.Letter.{Letter}
 
 -- ---- what stands between the quotes
@@ -104,22 +103,3 @@ fold-lower fold b r h e = rw h e
 
 pub fold-exact : (fold : Bool) (b : ℕ) → fold ≡ false → b ≡ foldOctet fold b
 fold-exact fold b h = rw h
-
-folded-nil : (fold : Bool) → folded fold [] ≡ []
-unfolding folded
-folded-nil true = refl
-folded-nil false = refl
-
-folded-cons : (fold : Bool) (b : ℕ) (s : List ℕ) → folded fold (b ∷ s) ≡ foldOctet fold b ∷ folded fold s
-unfolding folded
-folded-cons true b s = refl
-folded-cons false b s = refl
-
-module _ (s : List ℕ) (quoted fold : Bool) (at : ℕ) (r : Letter) (told : reportOctet quoted s r ≡ octetsOf quoted (drop at s)) where
-  pub letter-end : r ≡ Letter.End → reportLetter fold quoted s Letter.End ≡ lettersAt fold quoted s at
-  unfolding lettersAt
-  letter-end e = sym (ap (folded fold) (sym told ∙ ap (reportOctet quoted s) e) ∙ folded-nil fold)
-
-  pub letter-is : (b after x : ℕ) → r ≡ Letter.Got b after → x ≡ foldOctet fold b → reportLetter fold quoted s (Letter.Got x after) ≡ lettersAt fold quoted s at
-  unfolding lettersAt
-  letter-is b after x e h = sym (ap (folded fold) (sym told ∙ ap (reportOctet quoted s) e) ∙ folded-cons fold b (octetsOf quoted (drop after s)) ∙ ap (λ (y : ℕ). y ∷ folded fold (octetsOf quoted (drop after s))) (sym h))

@@ -12,13 +12,13 @@ use Rattle.octets.specs.Utf8.{awaits, afterFirst, after, utf8From, utf8}
 use Rattle.octets.specs.declared.Awaiting.{Awaiting}
 use Rattle.octets.proofs.Laws.{all-at, both-true}
 use Rattle.strings.specs.Images.{Mark, blank, shown, table, imageIn, encoded, allEncoded, marks, image}
-use Rattle.strings.specs.Prepared.{isPair, pairNumber, octetImage, images, afterSpace, spaced, joined, prepared}
+use Rattle.strings.specs.Prepared.{isPair, pairNumber, images, afterSpace, spaced, joined, prepared}
 use Rattle.strings.specs.Twice.{isWhole, evenSpace, isEven, noneKept}
 use Rattle.strings.specs.inner.Shapes.{unpacked, shapeMarks, lowShape, markShape, signShape, middleShape, exactShape, isCapital, extendedShape, latinShape, foldedShape, highShape, shapeOf}
 use Rattle.strings.specs.declared.Before.{Before}
 use Rattle.strings.specs.declared.Shape.{Shape}
 use Rattle.strings.proofs.ImageLaws.{sameMark, sameMarks, same-marks, shape-is}
-use Rattle.strings.proofs.CursorSteps.{images-low, images-alone, images-single, images-pair, Paired, paired}
+use Rattle.strings.proofs.ImageSteps.{images-low, images-alone, images-single, images-pair, paired}
 use Rattle.strings.proofs.Preparing.{image-space}
 
 -- the mark of an octet that is its own image

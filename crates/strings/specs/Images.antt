@@ -2,7 +2,7 @@
 -- caseIgnoreMatch, no-break space, U+0009 to U+000D and U+0085 to a space, soft hyphen and other controls to nothing) and the NFKC form of single
 -- characters from Unicode 3.2." Characters are numbers here (code points), and a character that no row has stands for itself.
 use Prim.Native.Nat.{ℕ, _+_, _-_, _*_, _/_, _%_}
-use mathlib.Core.Bool.{Bool, true, false}
+use mathlib.Core.Bool.{Bool}
 use mathlib.Core.List.{List, [], _∷_, _++_, map}
 use lib.Dec.{ltb, eqb}
 use Rattle.octets.specs.Pick.{pick, both}

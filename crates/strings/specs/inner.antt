@@ -1,2 +1,2 @@
 pub mod Shapes
-pub mod Cursor
+pub mod Comparing

@@ -1,16 +1,16 @@
-// Strings: quoted in a value text, prepared for comparing. A prepared string is read by a cursor, one octet at a time.
+// Strings: quoted in a value text, prepared for comparing. A stored string is compared image by image, and never written as prepared.
 use octets::Place;
 ghost use mathlib.Core.Path.{_≡_};
 ghost use mathlib.Core.Bool.{true, false};
-ghost use Prim.Native.Nat.{_≤_, _<_};
-ghost use mathlib.Core.List.{_∷_};
+ghost use Prim.Native.Nat.{_≤_, _<_, _+_};
+ghost use mathlib.Core.List.{[], _∷_, _++_};
 ghost use lib.ListN.{length, drop};
 ghost use Rattle.octets.specs.Octets.{same, part};
 ghost use Rattle.octets.specs.Quoted.{undoubled};
 ghost use Rattle.strings.specs.Asserted as asserted;
 ghost use Rattle.strings.specs.Prepared.{isPair, images, folded, afterSpace, prepared};
 ghost use Rattle.strings.specs.inner.Shapes as shapes;
-ghost use Rattle.strings.specs.inner.Cursor as cursor;
+ghost use Rattle.strings.specs.inner.Comparing as inner;
 
 // What stands before a place: no character yet, a character, or a space after one.
 pub enum Before {
@@ -37,18 +37,24 @@ pub struct Piece {
     pub after: usize,
 }
 
-// A place in a string, what stands before it, and the octets of the image before it that are left.
-pub struct Cursor {
+// The next image of a string that has octets: whether a space comes before it, its octets, and the place after its character; or the string's end.
+pub enum Found {
+    At(bool, Octets, usize),
+    End,
+}
+
+// A stored string beside other octets: a place in each, and the octets of an image that come before what stands at the place in the string.
+pub struct Sides {
     pub at: usize,
-    pub before: Before,
+    pub i: usize,
     pub word: u64,
     pub count: usize,
 }
 
-// An octet of the prepared string and the cursor after it, or its end.
-pub enum Step {
-    Octet(u8, Cursor),
-    End,
+// What two sides come to: others, or whether they are the same.
+pub enum Turn {
+    On(Sides),
+    Ended(bool),
 }
 
 // An octet of a string and the place after it, or its end.
@@ -89,7 +95,7 @@ pub fn is_text(t: &[u8]) -> bool
 // ---- octets of a string
 // The octet at a place; in a quoted string two quotes are one.
 fn read_octet(s: &[u8], quoted: bool, at: usize) -> Letter
-    ensures { λ r. ⌜ cursor.reportOctet quoted (now (s .entry)) r ≡ cursor.octetsOf quoted (drop at (now (s .entry))) ⌝ }
+    ensures { λ r. ⌜ inner.reportOctet quoted (now (s .entry)) r ≡ inner.octetsOf quoted (drop at (now (s .entry))) ⌝ }
 {
     if s.len() <= at {
         return Letter::End;
@@ -111,30 +117,12 @@ fn read_octet(s: &[u8], quoted: bool, at: usize) -> Letter
 
 // An octet as it is compared.
 fn fold_octet(fold: bool, b: u8) -> u8
-    ensures { λ r. ⌜ r ≡ cursor.foldOctet fold b ⌝ }
+    ensures { λ r. ⌜ r ≡ inner.foldOctet fold b ⌝ }
 {
     if fold {
         return octets::lower(b);
     }
     b
-}
-
-fn read_letter(s: &[u8], quoted: bool, fold: bool, at: usize) -> Letter
-    ensures { λ r. ⌜ cursor.reportLetter fold quoted (now (s .entry)) r ≡ cursor.lettersAt fold quoted (now (s .entry)) at ⌝ }
-{
-    let Letter::Got(b, after) = read_octet(s, quoted, at) else {
-        return Letter::End;
-    };
-    Letter::Got(fold_octet(fold, b), after)
-}
-
-fn is_last(letter: Letter) -> bool
-    ensures { λ r. ⌜ r ≡ cursor.isLast letter ⌝ }
-{
-    match letter {
-        Letter::End => true,
-        Letter::Got(_, _) => false,
-    }
 }
 
 // ---- images
@@ -382,8 +370,8 @@ fn is_pair(a: u8, b: u8) -> bool
 // An octet from 80 on and what stands after it.
 fn read_high(s: &[u8], quoted: bool, fold: bool, a: u8, after: usize) -> Piece
     requires { ⌜ 128 ≤ a ⌝ }
-    ensures image { λ r. ⌜ cursor.reportPiece fold quoted (now (s .entry)) r ≡ images fold (a ∷ cursor.octetsOf quoted (drop after (now (s .entry)))) ⌝ }
-    ensures on { λ r. ⌜ cursor.left quoted (now (s .entry)) (r .after) ≤ cursor.left quoted (now (s .entry)) after ⌝ }
+    ensures image { λ r. ⌜ inner.reportPiece fold quoted (now (s .entry)) r ≡ images fold (a ∷ inner.octetsOf quoted (drop after (now (s .entry)))) ⌝ }
+    ensures on { λ r. ⌜ inner.left quoted (now (s .entry)) (r .after) ≤ inner.left quoted (now (s .entry)) after ⌝ }
 {
     let Letter::Got(b, end) = read_octet(s, quoted, after) else {
         return Piece {
@@ -406,8 +394,8 @@ fn read_high(s: &[u8], quoted: bool, fold: bool, a: u8, after: usize) -> Piece
 
 // An octet and what stands after it.
 fn read_piece(s: &[u8], quoted: bool, fold: bool, a: u8, after: usize) -> Piece
-    ensures image { λ r. ⌜ cursor.reportPiece fold quoted (now (s .entry)) r ≡ images fold (a ∷ cursor.octetsOf quoted (drop after (now (s .entry)))) ⌝ }
-    ensures on { λ r. ⌜ cursor.left quoted (now (s .entry)) (r .after) ≤ cursor.left quoted (now (s .entry)) after ⌝ }
+    ensures image { λ r. ⌜ inner.reportPiece fold quoted (now (s .entry)) r ≡ images fold (a ∷ inner.octetsOf quoted (drop after (now (s .entry)))) ⌝ }
+    ensures on { λ r. ⌜ inner.left quoted (now (s .entry)) (r .after) ≤ inner.left quoted (now (s .entry)) after ⌝ }
 {
     if a < 128 {
         return Piece {
@@ -429,54 +417,26 @@ fn after_space(p: Before) -> Before
     }
 }
 
-// The first of count octets, and a cursor with the others left.
-fn take_octet(word: u64, count: usize, before: Before, at: usize) -> Step
-    requires { ⌜ 0 < count ⌝ }
-    ensures { λ r. ⌜ r ≡ cursor.taken word count before at ⌝ }
+fn is_space(p: Before) -> bool
+    ensures { λ r. ⌜ r ≡ inner.isSpace p ⌝ }
 {
-    Step::Octet(
-        (word % 256) as u8,
-        Cursor {
-            at,
-            before,
-            word: word / 256,
-            count: count - 1,
-        },
-    )
-}
-
-// The octets of an image: after a space that space is given first.
-fn emit(o: Octets, before: Before, after: usize) -> Step
-    requires { ⌜ 0 < o .count ⌝ }
-    ensures { λ r. ⌜ r ≡ cursor.emitted o before after ⌝ }
-{
-    match before {
-        Before::Space => Step::Octet(
-            32,
-            Cursor {
-                at: after,
-                before: Before::Character,
-                word: o.word,
-                count: o.count,
-            },
-        ),
-        Before::Nothing => take_octet(o.word, o.count, Before::Character, after),
-        Before::Character => take_octet(o.word, o.count, Before::Character, after),
+    match p {
+        Before::Space => true,
+        Before::Nothing => false,
+        Before::Character => false,
     }
 }
 
-// The next octet of the prepared string.
-fn next(s: &[u8], quoted: bool, fold: bool, c: Cursor) -> Step
-    ensures { λ r. ⌜ cursor.reportStep fold quoted (now (s .entry)) r ≡ cursor.rest fold quoted (now (s .entry)) c ⌝ }
+// The next image that has octets, from a place on.
+fn next_image(s: &[u8], quoted: bool, fold: bool, first: usize, behind: Before) -> Found
+    ensures rest { λ r. ⌜ inner.reportFound fold quoted (now (s .entry)) r ≡ inner.restAt fold quoted (now (s .entry)) first behind ⌝ }
+    ensures on { λ r. ⌜ inner.Further quoted (now (s .entry)) first r ⌝ }
 {
-    let mut at = c.at;
-    let mut before = c.before;
-    if 0 < c.count {
-        return take_octet(c.word, c.count, before, at);
-    }
+    let mut at = first;
+    let mut before = behind;
     loop {
         let Letter::Got(b, after) = read_octet(s, quoted, at) else {
-            return Step::End;
+            return Found::End;
         };
         let piece = read_piece(s, quoted, fold, b, after);
         let shape = piece.shape;
@@ -486,7 +446,7 @@ fn next(s: &[u8], quoted: bool, fold: bool, c: Cursor) -> Step
             }
             Shape::Shown(o) => {
                 if 0 < o.count {
-                    return emit(o, before, piece.after);
+                    return Found::At(is_space(before), o, piece.after);
                 }
             }
         }
@@ -498,7 +458,7 @@ fn next(s: &[u8], quoted: bool, fold: bool, c: Cursor) -> Step
 // Whether an octet of a stored string is as prepared, but for folding: 21 to 7E; or a space before one of these, if it isn't the first of the string.
 fn is_kept(c: &[u8], i: usize) -> bool
     requires { ⌜ i < length (now c) ⌝ }
-    ensures { λ r. ⌜ r ≡ cursor.isKept i (drop i (now (c .entry))) ⌝ }
+    ensures { λ r. ⌜ r ≡ inner.isKept i (drop i (now (c .entry))) ⌝ }
 {
     if octets::within(33, 126, c[i]) {
         return true;
@@ -515,19 +475,22 @@ fn is_kept(c: &[u8], i: usize) -> bool
     octets::within(33, 126, c[i + 1])
 }
 
-// Whether an octet is the one at a place, both folded.
-fn same_at(fold: bool, b: u8, x: &[u8], i: usize) -> bool
-    ensures { λ r. ⌜ r ≡ cursor.sameFirst fold b (drop i (now (x .entry))) ⌝ }
+// The place after an octet, if it is the one at a place, folded.
+fn after_octet(b: u8, x: &[u8], fold: bool, i: usize) -> Place
+    ensures { λ r. ⌜ r ≡ inner.afterFirst fold b i (drop i (now (x .entry))) ⌝ }
 {
     if x.len() <= i {
-        return false;
+        return Place::Nowhere;
     }
-    fold_octet(fold, b) == fold_octet(fold, x[i])
+    if b != fold_octet(fold, x[i]) {
+        return Place::Nowhere;
+    }
+    Place::At(i + 1)
 }
 
 // What stands before a place of a string whose octets before it are kept.
 fn before_at(i: usize) -> Before
-    ensures { λ r. ⌜ r ≡ cursor.beforeAt i ⌝ }
+    ensures { λ r. ⌜ r ≡ inner.beforeAt i ⌝ }
 {
     if i == 0 {
         return Before::Nothing;
@@ -535,31 +498,98 @@ fn before_at(i: usize) -> Before
     Before::Character
 }
 
+// An octet that is kept, beside the next one.
+fn kept_turn(c: &[u8], x: &[u8], fold: bool, s: Sides) -> Turn
+    requires none { ⌜ s .count ≤ 0 ⌝ }
+    requires inside { ⌜ s .at < length (now c) ⌝ }
+    requires kept { ⌜ inner.isKept (s .at) (drop (s .at) (now c)) ≡ true ⌝ }
+    ensures same { λ r. ⌜ inner.reportTurn fold (now (c .entry)) (now (x .entry)) r ≡ inner.beside fold (now (c .entry)) (now (x .entry)) s ⌝ }
+    ensures on { λ r. ⌜ inner.Less fold (now (c .entry)) s r ⌝ }
+{
+    let at = s.at;
+    let Place::At(next) = after_octet(fold_octet(fold, c[at]), x, fold, s.i) else {
+        return Turn::Ended(false);
+    };
+    Turn::On(Sides {
+        at: at + 1,
+        i: next,
+        word: 0,
+        count: 0,
+    })
+}
+
+// The next image, with its octets to come; a space before it, beside the next octet.
+fn image_turn(c: &[u8], x: &[u8], fold: bool, s: Sides) -> Turn
+    requires { ⌜ s .count ≤ 0 ⌝ }
+    ensures same { λ r. ⌜ inner.reportTurn fold (now (c .entry)) (now (x .entry)) r ≡ inner.beside fold (now (c .entry)) (now (x .entry)) s ⌝ }
+    ensures on { λ r. ⌜ inner.Less fold (now (c .entry)) s r ⌝ }
+{
+    let Found::At(space, o, after) = next_image(c, false, fold, s.at, before_at(s.at)) else {
+        return Turn::Ended(x.len() <= s.i);
+    };
+    if !space {
+        return Turn::On(Sides {
+            at: after,
+            i: s.i,
+            word: o.word,
+            count: o.count,
+        });
+    }
+    let Place::At(next) = after_octet(32, x, fold, s.i) else {
+        return Turn::Ended(false);
+    };
+    Turn::On(Sides {
+        at: after,
+        i: next,
+        word: o.word,
+        count: o.count,
+    })
+}
+
+fn next_turn(c: &[u8], x: &[u8], fold: bool, s: Sides) -> Turn
+    ensures same { λ r. ⌜ inner.reportTurn fold (now (c .entry)) (now (x .entry)) r ≡ inner.beside fold (now (c .entry)) (now (x .entry)) s ⌝ }
+    ensures on { λ r. ⌜ inner.Less fold (now (c .entry)) s r ⌝ }
+{
+    if 0 < s.count {
+        let Place::At(next) = after_octet((s.word % 256) as u8, x, fold, s.i) else {
+            return Turn::Ended(false);
+        };
+        return Turn::On(Sides {
+            at: s.at,
+            i: next,
+            word: s.word / 256,
+            count: s.count - 1,
+        });
+    }
+    if c.len() <= s.at {
+        return Turn::Ended(x.len() <= s.i);
+    }
+    if is_kept(c, s.at) {
+        return kept_turn(c, x, fold, s);
+    }
+    image_turn(c, x, fold, s)
+}
+
 // Whether a stored string as prepared, from a place on, is the octets from there on, folded; those before the place are kept.
 fn same_from(c: &[u8], x: &[u8], fold: bool, first: usize) -> bool
-    ensures { λ r. ⌜ r ≡ cursor.sameFrom fold (now (c .entry)) (now (x .entry)) first ⌝ }
+    ensures { λ r. ⌜ r ≡ inner.sameFrom fold (now (c .entry)) (now (x .entry)) first ⌝ }
 {
-    let mut a = Cursor {
+    let mut s = Sides {
         at: first,
-        before: before_at(first),
+        i: first,
         word: 0,
         count: 0,
     };
-    let mut i = first;
     loop {
-        let sa = next(c, false, fold, a);
-        let sb = read_letter(x, false, fold, i);
-        let Step::Octet(o, a2) = sa else {
-            return is_last(sb);
-        };
-        let Letter::Got(y, after) = sb else {
-            return false;
-        };
-        if o != y {
-            return false;
+        let turned = next_turn(c, x, fold, s);
+        match turned {
+            Turn::Ended(r) => {
+                return r;
+            }
+            Turn::On(next) => {
+                s = next;
+            }
         }
-        a = a2;
-        i = after;
     }
 }
 
@@ -572,10 +602,10 @@ pub fn same_prepared(c: &[u8], x: &[u8], fold: bool) -> bool
         if !is_kept(c, i) {
             return same_from(c, x, fold, i);
         }
-        if !same_at(fold, c[i], x, i) {
+        let Place::At(next) = after_octet(fold_octet(fold, c[i]), x, fold, i) else {
             return false;
-        }
-        i += 1;
+        };
+        i = next;
     }
     x.len() <= i
 }
@@ -583,7 +613,7 @@ pub fn same_prepared(c: &[u8], x: &[u8], fold: bool) -> bool
 // Whether an octet keeps what stands between quotes from being as prepared but for folding: a quote, a control, an octet from 7F on, or a space behind another
 // or at the start.
 fn is_loose(space: bool, b: u8) -> bool
-    ensures { λ r. ⌜ r ≡ cursor.isLoose space b ⌝ }
+    ensures { λ r. ⌜ r ≡ inner.isLoose space b ⌝ }
 {
     if b == 34 {
         return true;
@@ -596,7 +626,7 @@ fn is_loose(space: bool, b: u8) -> bool
 
 // Whether what stands between quotes is as prepared but for folding: no quote, no control, nothing from U+007F on, no space first, last or twice.
 pub fn is_plain(p: &[u8]) -> bool
-    ensures { λ r. ⌜ r ≡ cursor.isPlain true (now (p .entry)) ⌝ }
+    ensures { λ r. ⌜ r ≡ inner.isPlain true (now (p .entry)) ⌝ }
 {
     let mut space = true;
     let mut i = 0;
@@ -611,6 +641,41 @@ pub fn is_plain(p: &[u8]) -> bool
     !space
 }
 
+// Writes a space where one is due, and answers the place after it.
+fn put_space(space: bool, n: usize, memory: &mut [u8; 5120]) -> usize
+    requires room { ⌜ length (now memory) ≡ 5120 ⌝ }
+    requires short { ⌜ n + length (inner.gap space []) ≤ 5120 ⌝ }
+    ensures written { λ r. ⌜ part (now (memory .exit)) 0 r ≡ part (now (memory .entry)) 0 n ++ inner.gap space [] ⌝ }
+    ensures place { λ r. ⌜ r ≡ n + length (inner.gap space []) ⌝ }
+    ensures room { λ r. ⌜ length (now (memory .exit)) ≡ 5120 ⌝ }
+{
+    if !space {
+        return n;
+    }
+    memory[n] = 32;
+    n + 1
+}
+
+// Writes octets, and answers the place after them.
+fn put_octets(o: Octets, n: usize, memory: &mut [u8; 5120]) -> usize
+    requires room { ⌜ length (now memory) ≡ 5120 ⌝ }
+    requires short { ⌜ n + o .count ≤ 5120 ⌝ }
+    ensures written { λ r. ⌜ part (now (memory .exit)) 0 r ≡ part (now (memory .entry)) 0 n ++ shapes.unpacked (o .word) (o .count) ⌝ }
+    ensures place { λ r. ⌜ r ≡ n + o .count ⌝ }
+    ensures room { λ r. ⌜ length (now (memory .exit)) ≡ 5120 ⌝ }
+{
+    let mut word = o.word;
+    let mut left = o.count;
+    let mut at = n;
+    while 0 < left {
+        memory[at] = (word % 256) as u8;
+        word = word / 256;
+        left -= 1;
+        at += 1;
+    }
+    at
+}
+
 // Writes what stands between quotes as prepared, and answers its length.
 pub fn prepare(p: &[u8], fold: bool, memory: &mut [u8; 5120]) -> usize
     requires room { ⌜ length (now memory) ≡ 5120 ⌝ }
@@ -618,19 +683,16 @@ pub fn prepare(p: &[u8], fold: bool, memory: &mut [u8; 5120]) -> usize
     ensures written { λ n. ⌜ part (now (memory .exit)) 0 n ≡ prepared fold (undoubled (now (p .entry))) ⌝ }
     ensures room { λ n. ⌜ length (now (memory .exit)) ≡ 5120 ⌝ }
 {
-    let mut c = Cursor {
-        at: 0,
-        before: Before::Nothing,
-        word: 0,
-        count: 0,
-    };
+    let mut at = 0;
+    let mut before = Before::Nothing;
     let mut n = 0;
     loop {
-        let Step::Octet(b, c2) = next(p, true, fold, c) else {
+        let Found::At(space, o, after) = next_image(p, true, fold, at, before) else {
             return n;
         };
-        memory[n] = b;
-        n += 1;
-        c = c2;
+        let start = put_space(space, n, memory);
+        n = put_octets(o, start, memory);
+        at = after;
+        before = Before::Character;
     }
 }

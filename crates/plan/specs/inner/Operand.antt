@@ -8,7 +8,7 @@ use Rattle.octets.specs.Quoted.{undoubled}
 use Rattle.octets.specs.Pick.{pick}
 use Rattle.strings.specs.Asserted.{assertedText}
 use Rattle.strings.specs.Prepared.{prepared}
-use Rattle.strings.specs.inner.Cursor.{isPlain}
+use Rattle.strings.specs.inner.Comparing.{isPlain}
 use Rattle.rules.specs.Rule.{Syntax, booleans, integers, objectIdentifiers, octetStrings, bitStrings, strings, times, Rule, present, equal, less}
 use Rattle.plan.specs.declared.Form.{Form}
 

@@ -1,4 +1,4 @@
-use Rattle.strings.proofs.Kept.{before-first, before-other}
+use Rattle.strings.proofs.Comparing.{before-first, before-other}
 use Rattle.strings.proofs.before_at.Statement.{statement}
 use Rattle.strings.proofs.before_at.Tie as tie
 

@@ -1,5 +1,4 @@
 use Rattle.strings.proofs.ShapeSteps.{capital-1, capital-2, capital-3, capital-last}
-use borrow.Author.Needs.{needs}
 use Rattle.strings.proofs.is_capital.Statement.{statement}
 use Rattle.strings.proofs.is_capital.Tie as tie
 

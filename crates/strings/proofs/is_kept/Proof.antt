@@ -1,4 +1,4 @@
-use Rattle.strings.proofs.Kept.{kept-graphic, kept-other, kept-first, kept-last, kept-space}
+use Rattle.strings.proofs.Comparing.{kept-graphic, kept-other, kept-first, kept-last, kept-space}
 use borrow.Author.Needs.{needs}
 use Rattle.strings.proofs.is_kept.Statement.{statement}
 use Rattle.strings.proofs.is_kept.Tie as tie

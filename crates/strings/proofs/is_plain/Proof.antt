@@ -1,5 +1,5 @@
 use Rattle.strings.proofs.Preparing.{plain-end, plain-loose, plain-on}
-use Rattle.strings.specs.inner.Cursor.{isPlain}
+use Rattle.strings.specs.inner.Comparing.{isPlain}
 use borrow.Author.Needs.{needs}
 use lib.ListN.{drop, length}
 use mathlib.Core.Bool.{true}

@@ -1,16 +1,15 @@
-use Rattle.strings.proofs.Preparing.{Preparing, prepare-long, prepare-start, prepare-end, prepare-room, prepare-falls, prepare-more}
-use Rattle.strings.specs.inner.Cursor.{rest}
+use Rattle.strings.proofs.Preparing.{Preparing, prepare-long, prepare-start, prepare-end, prepare-space, prepare-octets, prepare-falls, prepare-more}
+use Rattle.strings.specs.inner.Comparing.{left}
+use mathlib.Core.Bool.{true}
 use borrow.Author.Needs.{needs}
-use lib.ListN.{length}
-use mathlib.Core.Bool.{true, false}
 use Rattle.strings.proofs.prepare.Statement.{statement}
 use Rattle.strings.proofs.prepare.Tie as tie
 
 abbrev Inv-loop : tie.InvT-loop
-Inv-loop p fold memory₀ c₀ n₀ memory c n = Preparing fold p n c memory
+Inv-loop p fold memory₀ at₀ before₀ n₀ memory at before n = Preparing fold p at before n memory
 
 abbrev μ-loop : tie.MeasureT-loop
-μ-loop p fold memory₀ c₀ n₀ memory c n = length (rest fold true p c)
+μ-loop p fold memory₀ at₀ before₀ n₀ memory at before n = left true p at
 
 pub prepare-spec : {M : Type 1} → statement M
 prepare-spec =
@@ -19,11 +18,11 @@ prepare-spec =
     Inv-loop
     μ-loop
     (λ c. search prepare-start)  -- loop-holds
-    (λ c κs. search needs)  -- next-requires
-    (λ c. search needs)  -- enum-known-b
+    (λ c κs. search needs)  -- next-image-requires
+    (λ c. search needs)  -- enum-known-space
     (λ c. search needs)  -- enum-told
     (λ c. (search prepare-end, search prepare-long))  -- returns
-    (λ c. search prepare-room)  -- element-write-memory
-    (λ c. search needs)  -- add-n
+    (λ c κs. (search prepare-long, search prepare-space))  -- put-space-requires
+    (λ c κs. (search needs, search prepare-octets))  -- put-octets-requires
     (λ c. search prepare-falls)  -- loop-less
     (λ c. search prepare-more))  -- loop-again

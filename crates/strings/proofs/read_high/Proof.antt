@@ -1,4 +1,4 @@
-use Rattle.strings.proofs.CursorSteps.{high-last, high-single, high-first-least, high-second-least, high-number, high-pair, high-on, high-stays}
+use Rattle.strings.proofs.ImageSteps.{high-last, high-single, high-first-least, high-second-least, high-number, high-pair, high-on, high-stays}
 use borrow.Author.Needs.{needs}
 use Rattle.strings.proofs.read_high.Statement.{statement}
 use Rattle.strings.proofs.read_high.Tie as tie

@@ -1,4 +1,4 @@
-use Rattle.strings.proofs.CursorSteps.{piece-low, high-stays}
+use Rattle.strings.proofs.ImageSteps.{piece-low, high-stays}
 use borrow.Author.Needs.{needs}
 use Rattle.strings.proofs.read_piece.Statement.{statement}
 use Rattle.strings.proofs.read_piece.Tie as tie

@@ -1,18 +1,15 @@
-use Rattle.octets.specs.Octets.{same}
-use Rattle.strings.proofs.CursorSteps.{match-differs, match-ended, match-falls, match-longer, match-more, match-start}
-use Rattle.strings.specs.inner.Cursor.{lettersAt, rest, sameFrom}
-use borrow.Author.Needs.{needs}
-use lib.ListN.{length}
-use mathlib.Core.Bool.{false}
+use Rattle.strings.proofs.Comparing.{sides-start, sides-end, sides-on, sides-less}
+use Rattle.strings.specs.inner.Comparing.{beside, sameFrom, weight}
 use mathlib.Core.Path.{_≡_}
+use borrow.Author.Needs.{needs}
 use Rattle.strings.proofs.same_from.Statement.{statement}
 use Rattle.strings.proofs.same_from.Tie as tie
 
 abbrev Inv-loop : tie.InvT-loop
-Inv-loop c x fold first a₀ i₀ a i = same (rest fold false c a) (lettersAt fold false x i) ≡ sameFrom fold c x first
+Inv-loop c x fold first s₀ s = beside fold c x s ≡ sameFrom fold c x first
 
 abbrev μ-loop : tie.MeasureT-loop
-μ-loop c x fold first a₀ i₀ a i = length (rest fold false c a)
+μ-loop c x fold first s₀ s = weight fold c s
 
 pub same-from-spec : {M : Type 1} → statement M
 same-from-spec =
@@ -20,17 +17,10 @@ same-from-spec =
     (tie.spec
     Inv-loop
     μ-loop
-    (λ c κs. search needs)  -- before-at-requires
-    (λ c. search match-start)  -- loop-holds
-    (λ c κs. search needs)  -- next-requires
-    (λ c κs. search needs)  -- read-letter-requires
-    (λ c. search needs)  -- enum-known-sa
-    (λ c. search needs)  -- enum-told
-    (λ c κs. search needs)  -- is-last-requires
-    (λ c. search match-ended)  -- returns
-    (λ c. search needs)  -- enum-known-sb
-    (λ c. search needs)  -- enum-told-2
-    (λ c. search match-longer)  -- returns-2
-    (λ c. search match-differs)  -- returns-3
-    (λ c. search match-falls)  -- loop-less
-    (λ c. search match-more))  -- loop-again
+    (λ c. search sides-start)  -- loop-holds
+    (λ c κs. search needs)  -- next-turn-requires
+    (λ c. search needs)  -- enum-known-turned
+    (λ c. search sides-end)  -- returns
+    (λ c. search needs)  -- enum-known-turned-2
+    (λ c. search sides-less)  -- loop-less
+    (λ c. search sides-on))  -- loop-again

@@ -1,6 +1,6 @@
 use Rattle.octets.specs.Octets.{same}
-use Rattle.strings.proofs.Kept.{from-start, from-there, from-differs, from-more, from-end}
-use Rattle.strings.specs.inner.Cursor.{sameFrom}
+use Rattle.strings.proofs.Comparing.{from-start, from-there, from-differs, from-more, from-falls, from-end}
+use Rattle.strings.specs.inner.Comparing.{sameFrom}
 use Rattle.strings.specs.Prepared.{folded, prepared}
 use borrow.Author.Needs.{needs}
 use lib.ListN.{length}
@@ -25,13 +25,12 @@ same-prepared-spec =
     (λ c κs. search needs)  -- is-kept-requires
     (λ c κs. search needs)  -- same-from-requires
     (λ c. search from-there)  -- returns
-    (λ c. search needs)  -- shared-slice-read-same-at
-    (λ c κs. search needs)  -- same-at-requires
+    (λ c. search needs)  -- shared-slice-read-fold-octet
+    (λ c κs. search needs)  -- fold-octet-requires
+    (λ c κs. search needs)  -- after-octet-requires
+    (λ c. search needs)  -- enum-known-next
+    (λ c. search needs)  -- enum-told
     (λ c. search from-differs)  -- returns-2
-    (λ c. search needs)  -- add-i
-    (λ c. search needs)  -- loop-less
-    (λ c.
-    let kept = c .before .before .before in
-    let turn = kept .before .before in
-    from-more _ _ _ _ _ (turn .before .loop .inv) (turn .loop-test .taken) _ (kept .before .is-kept .ensures) (kept .if1 .left) _ (c .before .same-at .ensures) (c .if2 .left))  -- loop-again
+    (λ c. search from-falls)  -- loop-less
+    (λ c. search from-more)  -- loop-again
     (λ c. search from-end))  -- returns-3

@@ -1,12 +1,11 @@
 -- The image of a character as the code has it: octets in a number, the first in its lowest bits.
 use Prim.Native.Nat.{ℕ, zero, suc, _+_, _-_, _*_, _/_, _%_}
-use mathlib.Core.Bool.{Bool, true, false}
+use mathlib.Core.Bool.{Bool}
 use mathlib.Core.List.{List, [], _∷_, map}
 use lib.Dec.{ltb, eqb}
-use Rattle.octets.specs.Pick.{pick, both}
+use Rattle.octets.specs.Pick.{pick}
 use Rattle.octets.specs.Text.{within, lower}
 use Rattle.strings.specs.Images.{Mark, blank, shown}
-use Rattle.strings.specs.declared.Octets.{Octets}
 use Rattle.strings.specs.declared.Shape.{Shape}
 
 -- the n octets of a number

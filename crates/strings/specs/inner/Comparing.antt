@@ -1,5 +1,5 @@
--- What a cursor and its steps say of a prepared string.
-use Prim.Native.Nat.{ℕ, _-_, _/_, _%_}
+-- What the next image of a string, and two sides that are compared, say of a prepared string.
+use Prim.Native.Nat.{ℕ, _<_, _+_}
 use mathlib.Core.Bool.{Bool, true, false}
 use mathlib.Core.List.{List, [], _∷_, _++_}
 use lib.Dec.{eqb}
@@ -8,16 +8,17 @@ use Rattle.octets.specs.Pick.{pick, no}
 use Rattle.octets.specs.Octets.{same}
 use Rattle.octets.specs.Text.{within}
 use Rattle.octets.specs.Quoted.{undoubled}
+use Rattle.octets.specs.declared.Place.{Place}
 use Rattle.strings.specs.Images.{Mark}
 use Rattle.strings.specs.Prepared.{images, folded, joined}
 use Rattle.strings.specs.inner.Shapes.{unpacked, shapeMarks, foldOctet as shape-fold}
 use Rattle.strings.specs.declared.Before.{Before}
 use Rattle.strings.specs.declared.Before.the-variants as before
-use Rattle.strings.specs.declared.Octets.{Octets}
 use Rattle.strings.specs.declared.Piece.{Piece}
 use Rattle.strings.specs.declared.Letter.{Letter}
-use Rattle.strings.specs.declared.Cursor.{Cursor}
-use Rattle.strings.specs.declared.Step.{Step}
+use Rattle.strings.specs.declared.Found.{Found}
+use Rattle.strings.specs.declared.Sides.{Sides}
+use Rattle.strings.specs.declared.Turn.{Turn}
 
 -- ---- octets: of a stored string as they are, of a quoted one with one quote for two
 abbrev pub octetsOf : Bool → List ℕ → List ℕ
@@ -35,14 +36,6 @@ foldOctet fold b = shape-fold fold b
 unfoldable pub lettersAt : Bool → Bool → List ℕ → ℕ → List ℕ
 lettersAt fold quoted s at = folded fold (octetsOf quoted (drop at s))
 
-abbrev pub reportLetter : Bool → Bool → List ℕ → Letter → List ℕ
-reportLetter fold quoted s Letter.End = []
-reportLetter fold quoted s (Letter.Got b next) = b ∷ lettersAt fold quoted s next
-
-abbrev pub isLast : Letter → Bool
-isLast Letter.End = true
-isLast (Letter.Got b next) = false
-
 -- ---- the images from a place on
 unfoldable pub imagesAt : Bool → Bool → List ℕ → ℕ → List Mark
 imagesAt fold quoted s at = images fold (octetsOf quoted (drop at s))
@@ -54,33 +47,34 @@ reportPiece fold quoted s p = shapeMarks (p .shape) ++ imagesAt fold quoted s (p
 abbrev pub left : Bool → List ℕ → ℕ → ℕ
 left quoted s at = length (octetsOf quoted (drop at s))
 
--- ---- what is left of the prepared string at a cursor, and what a step says of it
+-- ---- what is left of the prepared string at a place, and what the next image says of it
 unfoldable pub restAt : Bool → Bool → List ℕ → ℕ → Before → List ℕ
 restAt fold quoted s at p = joined p (imagesAt fold quoted s at)
 
-abbrev pub rest : Bool → Bool → List ℕ → Cursor → List ℕ
-rest fold quoted s c = unpacked (c .word) (c .count) ++ restAt fold quoted s (c .at) (c .before)
+abbrev pub isSpace : Before → Bool
+isSpace before.Nothing = false
+isSpace before.Character = false
+isSpace before.Space = true
 
-abbrev pub reportStep : Bool → Bool → List ℕ → Step → List ℕ
-reportStep fold quoted s Step.End = []
-reportStep fold quoted s (Step.Octet b c) = b ∷ rest fold quoted s c
+abbrev pub gap : Bool → List ℕ → List ℕ
+gap true l = 32 ∷ l
+gap false l = l
 
--- the first of n octets of a number
-abbrev pub taken : ℕ → ℕ → Before → ℕ → Step
-taken w n p at = Step.Octet (w % 256) (record { at = at; before = p; word = w / 256; count = n - 1 })
+abbrev pub reportFound : Bool → Bool → List ℕ → Found → List ℕ
+reportFound fold quoted s Found.End = []
+reportFound fold quoted s (Found.At space o after) = gap space (unpacked (o .word) (o .count) ++ restAt fold quoted s after before.Character)
 
--- the octets of an image before a place: after a space they come behind it
-abbrev pub emitted : Octets → Before → ℕ → Step
-emitted o before.Space after = Step.Octet 32 (record { at = after; before = before.Character; word = o .word; count = o .count })
-emitted o before.Nothing after = taken (o .word) (o .count) before.Character after
-emitted o before.Character after = taken (o .word) (o .count) before.Character after
+-- less is left after it
+abbrev pub Further : Bool → List ℕ → ℕ → Found → Type 0
+Further quoted s at Found.End = Unit {0}
+Further quoted s at (Found.At space o after) = left quoted s after < left quoted s at
 
 -- ---- octets of a stored string that are as prepared, but for folding: 21 to 7E, or a space before one of these that isn't the first of the string
 abbrev pub isGraphicNext : List ℕ → Bool
 isGraphicNext [] = false
 isGraphicNext (b ∷ s) = within 33 126 b
 
-abbrev pub isKept : ℕ → List ℕ → Bool
+unfoldable pub isKept : ℕ → List ℕ → Bool
 isKept i [] = false
 isKept i (b ∷ s) = pick (within 33 126 b) true (pick (eqb b 32) (pick (eqb i 0) false (isGraphicNext s)) false)
 
@@ -88,14 +82,33 @@ isKept i (b ∷ s) = pick (within 33 126 b) true (pick (eqb b 32) (pick (eqb i 0
 abbrev pub beforeAt : ℕ → Before
 beforeAt i = pick (eqb i 0) before.Nothing before.Character
 
--- whether an octet is the first of others, both folded
-abbrev pub sameFirst : Bool → ℕ → List ℕ → Bool
-sameFirst fold b [] = false
-sameFirst fold b (y ∷ s) = eqb (foldOctet fold b) (foldOctet fold y)
+-- the place after an octet that is the first of others, folded
+abbrev pub afterFirst : Bool → ℕ → ℕ → List ℕ → Place
+afterFirst fold b i [] = Place.Nowhere
+afterFirst fold b i (y ∷ s) = pick (eqb b (foldOctet fold y)) (Place.At (i + 1)) Place.Nowhere
 
 -- what is left of a stored string there, beside the octets from the same place on
 unfoldable pub sameFrom : Bool → List ℕ → List ℕ → ℕ → Bool
 sameFrom fold c x i = same (restAt fold false c i (beforeAt i)) (lettersAt fold false x i)
+
+-- two sides, and what a turn says of them
+abbrev pub ahead : Bool → List ℕ → Sides → List ℕ
+ahead fold c s = unpacked (s .word) (s .count) ++ restAt fold false c (s .at) (beforeAt (s .at))
+
+unfoldable pub beside : Bool → List ℕ → List ℕ → Sides → Bool
+beside fold c x s = same (ahead fold c s) (lettersAt fold false x (s .i))
+
+abbrev pub reportTurn : Bool → List ℕ → List ℕ → Turn → Bool
+reportTurn fold c x (Turn.On s) = beside fold c x s
+reportTurn fold c x (Turn.Ended r) = r
+
+-- a turn leaves less of the prepared string, or the same with less of the stored one
+unfoldable pub weight : Bool → List ℕ → Sides → ℕ
+weight fold c s = length (ahead fold c s) + left false c (s .at)
+
+abbrev pub Less : Bool → List ℕ → Sides → Turn → Type 0
+Less fold c s (Turn.On t) = weight fold c t < weight fold c s
+Less fold c s (Turn.Ended r) = Unit {0}
 
 -- ---- octets that are as prepared, but for folding
 -- an octet that can't stand in them, behind a space or at the start (`space`), or behind a character
