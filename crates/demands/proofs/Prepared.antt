@@ -14,10 +14,10 @@ use Rattle.strings.specs.declared.Before.{Before}
 use Rattle.strings.proofs.ImageLaws.{image-stays}
 use Rattle.strings.proofs.Twice.{utf8-whole, prepared-twice, prepared-same, none-kept-twice}
 
--- each character that the table gives, but for a space, is its own image
-pub folds-to-itself : (fold : Bool) (c i : ℕ) → c < 0x0180 → i < length (charactersIn fold c) → (octet (charactersIn fold c) i ≡ 0x20 → ⊥)
+-- each character that the table gives is its own image
+pub folds-to-itself : (fold : Bool) (c i : ℕ) → c < 0x0180 → i < length (charactersIn fold c)
     → charactersIn fold (octet (charactersIn fold c) i) ≡ octet (charactersIn fold c) i ∷ []
-folds-to-itself fold c i h l n = image-stays fold c i h l n
+folds-to-itself fold c i h l = image-stays fold c i h l
 
 module _ (fold : Bool) (s : List ℕ) (valid : utf8 s ≡ true) where
   -- a prepared string is prepared to itself exactly where no space stands in it first, last or behind another

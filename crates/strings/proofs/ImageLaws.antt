@@ -5,10 +5,10 @@ use mathlib.Core.Bool.{Bool, true, false, false≢true}
 use mathlib.Core.List.{List, [], _∷_, _++_}
 use Prim.Native.Nat.{ℕ, _≤_, _<_, _+_, _%_}
 use native.Mathlib.Omega.{arith}
-use borrow.Author.Tests.{eqb-true, ne-eqb, lt-ltb, le-ltb, leb-true}
+use borrow.Author.Tests.{eqb-true, lt-ltb, le-ltb, leb-true}
 use lib.Dec.{ltb, leb, eqb}
 use lib.ListN.{length}
-use Rattle.octets.specs.Pick.{pick, both, either, no, all}
+use Rattle.octets.specs.Pick.{pick, both, no, all}
 use Rattle.octets.specs.Octets.{octet, same, every}
 use Rattle.octets.specs.Text.{isUpper, lower}
 use Rattle.octets.proofs.Laws.{all-at, both-true}
@@ -17,7 +17,7 @@ use Rattle.strings.specs.Images.{table, imageIn, charactersOf, character
 use Rattle.strings.specs.inner.Shapes.{unpacked, shapeMarks, lowShape, markShape, signShape, middleShape, exactShape, isCapital, extendedShape, latinShape, foldedShape, highShape, shapeOf}
 
 abbrev own : Bool → ℕ → Bool
-own fold d = either (eqb d 0x0020) (same (charactersOf d (imageIn table fold d)) (d ∷ []))
+own fold d = same (charactersOf d (imageIn table fold d)) (d ∷ [])
 
 abbrev stays : Bool → ℕ → Bool
 stays fold c = every (own fold) (charactersOf c (imageIn table fold c))
@@ -27,13 +27,12 @@ unfolding table imageIn all every same
 all-stay true = refl
 all-stay false = refl
 
--- each character of an image but a space is its own image
-pub image-stays : (fold : Bool) (c i : ℕ) → c < 0x0180 → i < length (charactersIn fold c) → (octet (charactersIn fold c) i ≡ 0x20 → ⊥)
+-- each character of an image is its own image
+pub image-stays : (fold : Bool) (c i : ℕ) → c < 0x0180 → i < length (charactersIn fold c)
     → charactersIn fold (octet (charactersIn fold c) i) ≡ octet (charactersIn fold c) i ∷ []
-image-stays fold c i h l n = go (octet (charactersIn fold c) i) n (every-at (own fold) (charactersIn fold c) i (all-at (stays fold) 0x0180 c (all-stay fold) h) l)
-  where
-    go : (d : ℕ) → (d ≡ 0x20 → ⊥) → own fold d ≡ true → charactersIn fold d ≡ d ∷ []
-    go d n e = same-is (charactersIn fold d) (d ∷ []) (rw (ne-eqb d 0x20 n) at e)
+image-stays fold c i h l =
+    let d = octet (charactersIn fold c) i in
+    same-is (charactersIn fold d) (d ∷ []) (every-at (own fold) (charactersIn fold c) i (all-at (stays fold) 0x0180 c (all-stay fold) h) l)
 
 -- ---- the code's images are those of the table, at each character
 unfoldable pub sameMark : Mark → Mark → Bool
