@@ -24,8 +24,8 @@ use Rattle.integers.proofs.Bounds.{same-lifted, less-lifted, count-fits}
 use Rattle.digits.specs.Asserted.{digits, isBitText, hexBits, textBits, assertedOctets, assertedBits}
 use Rattle.digits.specs.inner.Answers.{bitsIn}
 use Rattle.strings.specs.Asserted.{assertedText}
-use Rattle.strings.specs.Prepared.{folded, prepared}
-use Rattle.strings.specs.inner.Comparing.{isPlain}
+use Rattle.strings.specs.Prepared.{prepared}
+use Rattle.strings.specs.inner.Comparing.{folded, isPlain}
 use Rattle.strings.proofs.Preparing.{folded-prepared, plain-folds, plain-same, not-plain}
 use Rattle.times.specs.Asserted.{assertedTime}
 use Rattle.times.proofs.Laws.{time-asserted, time-part}

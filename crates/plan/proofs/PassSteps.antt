@@ -18,7 +18,8 @@ use Rattle.integers.specs.inner.Bounds.{fits, lifted, sameBound, lessBound, isS
 use Rattle.integers.specs.declared.Bound.{Bound}
 use Rattle.digits.specs.Asserted.{digits}
 use Rattle.digits.specs.inner.Answers.{bitsIn}
-use Rattle.strings.specs.Prepared.{folded, prepared}
+use Rattle.strings.specs.Prepared.{prepared}
+use Rattle.strings.specs.inner.Comparing.{folded}
 use Rattle.plan.specs.inner.Test.{Test, integerIs, accepted, acceptedCount, boundNumbered, plainTest, digitTest, textTest, testOf}
 use Rattle.plan.specs.inner.Task.{Task, testing, taskOf, passesContents, passesCount}
 use Rattle.plan.proofs.TaskLaws.{is-counting, is-listing, is-testing}

@@ -16,7 +16,7 @@ use Rattle.times.specs.Asserted.{assertedTime}
 use Rattle.reference.specs.Allowed.{Target}
 use Rattle.rules.specs.Rule.{Syntax, booleans, integers, objectIdentifiers, octetStrings, bitStrings, strings, times, Rule, present, equal, less}
 
--- any value; a truth; an integer; the arcs of an OID; octets; bits; the characters of a string, to be compared with A..Z folded or exactly; a time
+-- any value; a truth; an integer; the arcs of an OID; octets; bits; the characters of a string, to be compared with letters folded (true) or as they are; a time
 pub data Asserted : Type 0 where
   anyValue : Asserted
   truth : Bool → Asserted

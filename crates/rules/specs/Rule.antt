@@ -8,7 +8,7 @@ use Rattle.octets.specs.Pick.{pick, either}
 use Rattle.octets.specs.Octets.{same, bytes}
 use Rattle.octets.specs.Text.{lower}
 
--- what a rule compares; strings are compared with A..Z folded, or exactly
+-- what a rule compares; strings with letters folded, for caseIgnoreMatch (true), or as they are, for caseExactMatch
 pub data Syntax : Type 0 where
   booleans : Syntax
   integers : Syntax

@@ -16,7 +16,7 @@ ghost use Rattle.rules.specs.Suits as suiting;
 ghost use Rattle.rules.specs.Asserted.{isTruth};
 ghost use Rattle.rules.specs.inner.Answers as answers;
 
-// What a rule compares; strings with A..Z folded, or exactly.
+// What a rule compares; strings with letters folded (true) or as they are.
 pub enum Syntax {
     Booleans,
     Integers,

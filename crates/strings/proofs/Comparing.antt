@@ -14,9 +14,10 @@ use Rattle.octets.specs.declared.Place.{Place}
 use Rattle.octets.proofs.Laws.{rest-cons, rest-none, rest-length, both-true}
 use Rattle.octets.proofs.TextLaws.{same-nil, same-shorter, same-longer, same-cons}
 use Rattle.strings.specs.Images.{Mark}
-use Rattle.strings.specs.Prepared.{images, folded, spaced, joined, prepared}
+use Rattle.strings.specs.Prepared.{images, spaced, joined, prepared}
 use Rattle.strings.specs.inner.Shapes.{unpacked, foldOctet}
-use Rattle.strings.specs.inner.Comparing.{lettersAt, imagesAt, restAt, gap, reportFound, Further, isGraphicNext, isKept, beforeAt, afterFirst, sameFrom, ahead, beside, reportTurn, weight, Less}
+use Rattle.strings.specs.inner.Comparing.{folded, lettersAt, imagesAt, restAt, gap, reportFound, Further, isGraphicNext, isKept, beforeAt, afterFirst, sameFrom}
+use Rattle.strings.specs.inner.Comparing.{ahead, beside, reportTurn, weight, Less}
 use Rattle.strings.specs.declared.Before.{Before}
 use Rattle.strings.specs.declared.Octets.{Octets}
 use Rattle.strings.specs.declared.Found.{Found}
@@ -85,7 +86,8 @@ octet-matched fold x i b l = go (leb (length x) i) refl
         rw (rest-none x i none, letters-none fold x i none) (sym (same-longer b l))
     go false e =
         let more = leb-false (length x) i e in
-        rw (rest-cons x i more, letters-more fold x i more) (picked (eqb b (foldOctet fold (octet x i))) ∙ sym (same-cons b (foldOctet fold (octet x i)) l (lettersAt fold false x (i + 1))))
+        rw (rest-cons x i more, letters-more fold x i more) (picked (eqb b (foldOctet fold (octet x i)))
+        ∙ sym (same-cons b (foldOctet fold (octet x i)) l (lettersAt fold false x (i + 1))))
 
 module _ (fold : Bool) (x : List ℕ) (i b : ℕ) (l : List ℕ) (r : Place) (told : r ≡ afterFirst fold b i (drop i x)) where
   octet-differs : r ≡ Place.Nowhere → false ≡ same (b ∷ l) (lettersAt fold false x i)
@@ -168,7 +170,8 @@ module _ (fold : Bool) (c : List ℕ) (i : ℕ) where
   unfolding restAt imagesAt images joined
   rest-none-left h = ap (λ (y : List ℕ). joined (beforeAt i) (images fold y)) (rest-none c i h)
 
-  rest-kept : i < length c → isKept i (drop i c) ≡ true → restAt fold false c i (beforeAt i) ≡ foldOctet fold (octet c i) ∷ restAt fold false c (i + 1) (beforeAt (i + 1))
+  rest-kept : i < length c → isKept i (drop i c) ≡ true
+      → restAt fold false c i (beforeAt i) ≡ foldOctet fold (octet c i) ∷ restAt fold false c (i + 1) (beforeAt (i + 1))
   unfolding restAt imagesAt
   rest-kept h e =
       ap (λ (y : List ℕ). joined (beforeAt i) (images fold y)) (rest-cons c i h)
@@ -219,7 +222,8 @@ module _ (fold : Bool) (c x : List ℕ) (s : Sides) where
       module _ (b : ℕ) (folds : b ≡ foldOctet fold (octet c (s .at))) (r : Place) (told : r ≡ afterFirst fold b (s .i) (drop (s .i) x)) where
         kept-sides : same (b ∷ restAt fold false c (s .at + 1) (beforeAt (s .at + 1))) (lettersAt fold false x (s .i)) ≡ beside fold c x s
         unfolding beside
-        kept-sides = ap (λ (l : List ℕ). same l (lettersAt fold false x (s .i))) (ap (λ (y : ℕ). y ∷ restAt fold false c (s .at + 1) (beforeAt (s .at + 1))) folds ∙ sym kept-ahead)
+        kept-sides = ap (λ (l : List ℕ). same l (lettersAt fold false x (s .i)))
+            (ap (λ (y : ℕ). y ∷ restAt fold false c (s .at + 1) (beforeAt (s .at + 1))) folds ∙ sym kept-ahead)
 
         pub turn-other : r ≡ Place.Nowhere → false ≡ beside fold c x s
         turn-other e = octet-differs fold x (s .i) b (restAt fold false c (s .at + 1) (beforeAt (s .at + 1))) r told e ∙ kept-sides
@@ -263,7 +267,8 @@ module _ (fold : Bool) (c x : List ℕ) (s : Sides) where
 
         module _ (q : not u ≡ true) where
           joined-ahead : unpacked (o .word) (o .count) ++ restAt fold false c after (beforeAt after) ≡ ahead fold c s
-          joined-ahead = ap (λ (y : Bool). gap y (unpacked (o .word) (o .count) ++ restAt fold false c after (beforeAt after))) (sym (not-true u q)) ∙ image-ahead
+          joined-ahead = ap (λ (y : Bool). gap y (unpacked (o .word) (o .count) ++ restAt fold false c after (beforeAt after))) (sym (not-true u q))
+              ∙ image-ahead
 
           pub turn-image : beside fold c x (record { at = after; i = s .i; word = o .word; count = o .count }) ≡ beside fold c x s
           unfolding beside
@@ -275,23 +280,27 @@ module _ (fold : Bool) (c x : List ℕ) (s : Sides) where
 
         module _ (q : not u ≡ false) where
           spaced-ahead : 32 ∷ (unpacked (o .word) (o .count) ++ restAt fold false c after (beforeAt after)) ≡ ahead fold c s
-          spaced-ahead = ap (λ (y : Bool). gap y (unpacked (o .word) (o .count) ++ restAt fold false c after (beforeAt after))) (sym (not-false u q)) ∙ image-ahead
+          spaced-ahead = ap (λ (y : Bool). gap y (unpacked (o .word) (o .count) ++ restAt fold false c after (beforeAt after))) (sym (not-false u q))
+              ∙ image-ahead
 
           pub turn-space-less : (n : ℕ) → weight fold c (record { at = after; i = n; word = o .word; count = o .count }) < weight fold c s
           unfolding weight
           turn-space-less n = omega (arith, ap length spaced-ahead, short)
 
           module _ (r : Place) (answers : r ≡ afterFirst fold 32 (s .i) (drop (s .i) x)) where
-            spaced-sides : same (32 ∷ (unpacked (o .word) (o .count) ++ restAt fold false c after (beforeAt after))) (lettersAt fold false x (s .i)) ≡ beside fold c x s
+            spaced-sides : same (32 ∷ (unpacked (o .word) (o .count) ++ restAt fold false c after (beforeAt after))) (lettersAt fold false x (s .i))
+                ≡ beside fold c x s
             unfolding beside
             spaced-sides = ap (λ (l : List ℕ). same l (lettersAt fold false x (s .i))) spaced-ahead
 
             pub turn-no-space : r ≡ Place.Nowhere → false ≡ beside fold c x s
-            turn-no-space g = octet-differs fold x (s .i) 32 (unpacked (o .word) (o .count) ++ restAt fold false c after (beforeAt after)) r answers g ∙ spaced-sides
+            turn-no-space g = octet-differs fold x (s .i) 32 (unpacked (o .word) (o .count) ++ restAt fold false c after (beforeAt after)) r answers g
+                ∙ spaced-sides
 
             pub turn-space : (n : ℕ) → r ≡ Place.At n → beside fold c x (record { at = after; i = n; word = o .word; count = o .count }) ≡ beside fold c x s
             unfolding beside
-            turn-space n g = octet-on fold x (s .i) 32 (unpacked (o .word) (o .count) ++ restAt fold false c after (beforeAt after)) r answers n g ∙ spaced-sides
+            turn-space n g = octet-on fold x (s .i) 32 (unpacked (o .word) (o .count) ++ restAt fold false c after (beforeAt after)) r answers n g
+                ∙ spaced-sides
 
 -- ---- same_from
 pub sides-start : (fold : Bool) (c x : List ℕ) (first : ℕ) → beside fold c x (record { at = first; i = first; word = 0; count = 0 }) ≡ sameFrom fold c x first
@@ -327,7 +336,8 @@ module _ (fold : Bool) (c x : List ℕ) (i : ℕ) (m : Bool) (inv : sameFrom fol
     here : same (b ∷ restAt fold false c (i + 1) (beforeAt (i + 1))) (lettersAt fold false x i) ≡ m
     unfolding sameFrom
     here =
-        ap (λ (l : List ℕ). same l (lettersAt fold false x i)) (ap (λ (y : ℕ). y ∷ restAt fold false c (i + 1) (beforeAt (i + 1))) folds ∙ sym (rest-kept fold c i h (sym told ∙ not-false u e)))
+        ap (λ (l : List ℕ). same l (lettersAt fold false x i)) (ap (λ (y : ℕ). y ∷ restAt fold false c (i + 1) (beforeAt (i + 1))) folds
+        ∙ sym (rest-kept fold c i h (sym told ∙ not-false u e)))
         ∙ inv
 
     next-place : (n : ℕ) → r ≡ Place.At n → n ≡ i + 1
@@ -342,5 +352,6 @@ module _ (fold : Bool) (c x : List ℕ) (i : ℕ) (m : Bool) (inv : sameFrom fol
         ap (λ (y : ℕ). same (restAt fold false c y (beforeAt y)) (lettersAt fold false x n)) (next-place n g)
         ∙ octet-on fold x i b (restAt fold false c (i + 1) (beforeAt (i + 1))) r answers n g ∙ here
 
-pub from-falls : (fold : Bool) (c x : List ℕ) (i b : ℕ) (r : Place) (n : ℕ) → i < length c → r ≡ afterFirst fold b i (drop i x) → r ≡ Place.At n → length c - n < length c - i
+pub from-falls : (fold : Bool) (c x : List ℕ) (i b : ℕ) (r : Place) (n : ℕ) → i < length c → r ≡ afterFirst fold b i (drop i x) → r ≡ Place.At n
+    → length c - n < length c - i
 from-falls fold c x i b r n h e g = omega (arith, h, after-place fold b x i n (sym g ∙ e))

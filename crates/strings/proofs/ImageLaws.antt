@@ -1,5 +1,5 @@
--- "it is shown once over all of it that what it gives folds to itself": each character of an image is its own image, a space apart, which is one of a
--- space. The test goes over all characters up to U+017F, and is computed.
+-- "it is shown once over all of it that what it gives folds to itself": each character of an image is its own image. The test goes over all characters up to
+-- U+017F, and is computed.
 use mathlib.Core.Path.{_≡_, refl, sym, ap, ap₂, _∙_}
 use mathlib.Core.Bool.{Bool, true, false, false≢true}
 use mathlib.Core.List.{List, [], _∷_, _++_}
@@ -14,7 +14,8 @@ use Rattle.octets.specs.Text.{isUpper, lower}
 use Rattle.octets.proofs.Laws.{all-at, both-true}
 use Rattle.octets.proofs.TextLaws.{every-at, same-is}
 use Rattle.strings.specs.Images.{table, imageIn, charactersOf, charactersIn, encoded, allEncoded, Mark, blank, shown, marks, image}
-use Rattle.strings.specs.inner.Shapes.{unpacked, shapeMarks, lowShape, markShape, signShape, middleShape, exactShape, isCapital, extendedShape, latinShape, foldedShape, highShape, shapeOf}
+use Rattle.strings.specs.inner.Shapes.{unpacked, shapeMarks, lowShape, markShape, signShape, middleShape, exactShape, isCapital, extendedShape}
+use Rattle.strings.specs.inner.Shapes.{latinShape, foldedShape, highShape, shapeOf}
 
 abbrev own : Bool → ℕ → Bool
 own fold d = same (charactersOf d (imageIn table fold d)) (d ∷ [])
@@ -59,13 +60,15 @@ unfolding sameMarks
 same-marks [] [] e = refl
 same-marks [] (b ∷ bs) e = absurd (false≢true e)
 same-marks (a ∷ l) [] e = absurd (false≢true e)
-same-marks (a ∷ l) (b ∷ bs) e = let w = both-true (sameMark a b) (sameMarks l bs) e in ap₂ (λ (x : Mark) (y : List Mark). x ∷ y) (same-mark a b (w .0)) (same-marks l bs (w .1))
+same-marks (a ∷ l) (b ∷ bs) e = let w = both-true (sameMark a b) (sameMarks l bs) e in
+    ap₂ (λ (x : Mark) (y : List Mark). x ∷ y) (same-mark a b (w .0)) (same-marks l bs (w .1))
 
 abbrev coded : Bool → ℕ → Bool
 coded fold c = sameMarks (shapeMarks (shapeOf fold c)) (image fold c)
 
 all-coded : (fold : Bool) → all (coded fold) 0x0180 ≡ true
-unfolding all sameMark sameMarks unpacked isUpper lower lowShape markShape signShape middleShape exactShape isCapital extendedShape latinShape foldedShape highShape shapeOf table imageIn encoded allEncoded marks image
+unfolding all sameMark sameMarks unpacked isUpper lower lowShape markShape signShape middleShape exactShape isCapital extendedShape latinShape foldedShape
+    highShape shapeOf table imageIn encoded allEncoded marks image
 all-coded true = refl
 all-coded false = refl
 

@@ -60,7 +60,12 @@ paired a b e =
     let w = both-true (within 0xC2 0xC5 a) (within 0x80 0xBF b) e in
     let x = both-true (leb 0xC2 a) (leb a 0xC5) (w .0) in
     let y = both-true (leb 0x80 b) (leb b 0xBF) (w .1) in
-    record { first-least = leb-true 0xC2 a (x .0); first-most = leb-true a 0xC5 (x .1); second-least = leb-true 0x80 b (y .0); second-most = leb-true b 0xBF (y .1) }
+    record {
+      first-least = leb-true 0xC2 a (x .0);
+      first-most = leb-true a 0xC5 (x .1);
+      second-least = leb-true 0x80 b (y .0);
+      second-most = leb-true b 0xBF (y .1);
+    }
 
 pub single-marks : (a : ℕ) → a ≤ 255 → shapeMarks (single a) ≡ shown a ∷ []
 unfolding unpacked
@@ -83,25 +88,29 @@ module _ (a b : ℕ) (u : Bool) (pair : u ≡ isPair a b) (h : not u ≡ false) 
   pub high-number : (x y : ℕ) → x ≡ a → y ≡ b → (x - 192) * 64 + (y - 128) < 2000
   high-number x y e f = let w = is-paired .first-most in let z = is-paired .second-most in omega arith
 
-module _ (s : List ℕ) (quoted fold : Bool) (a after : ℕ) (high : 128 ≤ a) (r : Letter) (told : reportOctet quoted s r ≡ octetsOf quoted (drop after s)) (sh : Shape) where
+module _ (s : List ℕ) (quoted fold : Bool) (a after : ℕ) (high : 128 ≤ a) (r : Letter) (told : reportOctet quoted s r ≡ octetsOf quoted (drop after s))
+    (sh : Shape) where
   pub high-last : a ≤ 255 → r ≡ Letter.End → sh ≡ single a → reportPiece fold quoted s (pieceOf sh after) ≡ images fold (a ∷ octetsOf quoted (drop after s))
   unfolding imagesAt images
   high-last octet e q =
       let none : octetsOf quoted (drop after s) ≡ [] = sym told ∙ ap (reportOctet quoted s) e in
-      ap₂ (λ (x : Shape) (y : List ℕ). shapeMarks x ++ images fold y) q none ∙ ap (λ (l : List Mark). l ++ []) (single-marks a octet) ∙ sym (images-alone fold a high) ∙ ap (λ (y : List ℕ). images fold (a ∷ y)) (sym none)
+      ap₂ (λ (x : Shape) (y : List ℕ). shapeMarks x ++ images fold y) q none ∙ ap (λ (l : List Mark). l ++ []) (single-marks a octet)
+      ∙ sym (images-alone fold a high) ∙ ap (λ (y : List ℕ). images fold (a ∷ y)) (sym none)
 
   module _ (b next : ℕ) (e : r ≡ Letter.Got b next) where
     behind-it : octetsOf quoted (drop after s) ≡ b ∷ octetsOf quoted (drop next s)
     behind-it = sym told ∙ ap (reportOctet quoted s) e
 
-    pub high-single : (u : Bool) → a ≤ 255 → u ≡ isPair a b → not u ≡ true → sh ≡ single a → reportPiece fold quoted s (pieceOf sh after) ≡ images fold (a ∷ octetsOf quoted (drop after s))
+    pub high-single : (u : Bool) → a ≤ 255 → u ≡ isPair a b → not u ≡ true → sh ≡ single a
+        → reportPiece fold quoted s (pieceOf sh after) ≡ images fold (a ∷ octetsOf quoted (drop after s))
     unfolding imagesAt
     high-single u octet pair h q =
         ap₂ (λ (x : Shape) (y : List ℕ). shapeMarks x ++ images fold y) q behind-it
         ∙ ap (λ (l : List Mark). l ++ images fold (b ∷ octetsOf quoted (drop next s))) (single-marks a octet)
         ∙ sym (images-single fold a b (octetsOf quoted (drop next s)) high (sym pair ∙ not-true u h)) ∙ ap (λ (y : List ℕ). images fold (a ∷ y)) (sym behind-it)
 
-module _ (s : List ℕ) (quoted fold : Bool) (a after : ℕ) (r : Letter) (told : reportOctet quoted s r ≡ octetsOf quoted (drop after s)) (b next : ℕ) (e : r ≡ Letter.Got b next) where
+module _ (s : List ℕ) (quoted fold : Bool) (a after : ℕ) (r : Letter) (told : reportOctet quoted s r ≡ octetsOf quoted (drop after s)) (b next : ℕ)
+    (e : r ≡ Letter.Got b next) where
   after-it : octetsOf quoted (drop after s) ≡ b ∷ octetsOf quoted (drop next s)
   after-it = sym told ∙ ap (reportOctet quoted s) e
 
@@ -161,7 +170,8 @@ module _ (fold quoted : Bool) (s : List ℕ) (at end : ℕ) (p : Before) (l : Li
     (marks : imagesAt fold quoted s at ≡ shapeMarks sh ++ imagesAt fold quoted s end) where
   blank-on : (x : Before) → sh ≡ Shape.Blank → x ≡ afterSpace p → restAt fold quoted s end x ≡ l
   unfolding restAt joined
-  blank-on x q h = ap (λ (y : Before). joined y (imagesAt fold quoted s end)) h ∙ sym (ap (joined p) (marks ∙ ap (λ (y : Shape). shapeMarks y ++ imagesAt fold quoted s end) q)) ∙ inv
+  blank-on x q h = ap (λ (y : Before). joined y (imagesAt fold quoted s end)) h
+      ∙ sym (ap (joined p) (marks ∙ ap (λ (y : Shape). shapeMarks y ++ imagesAt fold quoted s end) q)) ∙ inv
 
   module _ (o : Octets) (q : sh ≡ Shape.Shown o) where
     octets-here : imagesAt fold quoted s at ≡ map shown (unpacked (o .word) (o .count)) ++ imagesAt fold quoted s end
@@ -169,7 +179,8 @@ module _ (fold quoted : Bool) (s : List ℕ) (at end : ℕ) (p : Before) (l : Li
 
     nothing-on : o .count ≤ 0 → restAt fold quoted s end p ≡ l
     unfolding restAt unpacked
-    nothing-on h = let z : o .count ≡ 0 = omega arith in sym (ap (joined p) (octets-here ∙ ap (λ (n : ℕ). map shown (unpacked (o .word) n) ++ imagesAt fold quoted s end) z)) ∙ inv
+    nothing-on h = let z : o .count ≡ 0 = omega arith in
+        sym (ap (joined p) (octets-here ∙ ap (λ (n : ℕ). map shown (unpacked (o .word) n) ++ imagesAt fold quoted s end) z)) ∙ inv
 
     shown-on : 0 < o .count → (u : Bool) → u ≡ isSpace p → gap u (unpacked (o .word) (o .count) ++ restAt fold quoted s end Before.Character) ≡ l
     unfolding restAt
@@ -224,4 +235,5 @@ module _ (fold quoted : Bool) (s : List ℕ) (first : ℕ) (behind : Before) (at
 
       pub seek-shown : (o : Octets) (u : Bool) → piece .shape ≡ Shape.Shown o → 0 < o .count → u ≡ isSpace p
           → reportFound fold quoted s (Found.At u o (piece .after)) ≡ restAt fold quoted s first behind
-      seek-shown o u q h k = shown-on fold quoted s at (piece .after) p (restAt fold quoted s first behind) (inv .left-there) (piece .shape) marks-here o q h u k
+      seek-shown o u q h k = shown-on fold quoted s at (piece .after) p (restAt fold quoted s first behind) (inv .left-there)
+          (piece .shape) marks-here o q h u k

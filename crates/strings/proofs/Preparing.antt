@@ -17,9 +17,9 @@ use Rattle.octets.proofs.Laws.{rest-cons, rest-none, both-true}
 use Rattle.octets.proofs.TextLaws.{every-nil, every-cons}
 use Rattle.octets.proofs.QuotedLaws.{noQuote, undoubled-plain}
 use Rattle.strings.specs.Images.{Mark, blank, shown, image}
-use Rattle.strings.specs.Prepared.{isPair, pairNumber, octetImage, images, afterSpace, spaced, joined, prepared, folded}
+use Rattle.strings.specs.Prepared.{isPair, pairNumber, octetImage, images, afterSpace, spaced, joined, prepared}
 use Rattle.strings.specs.inner.Shapes.{unpacked, foldOctet, lowShape}
-use Rattle.strings.specs.inner.Comparing.{left, imagesAt, restAt, gap, reportFound, Further, isLoose, isPlain}
+use Rattle.strings.specs.inner.Comparing.{folded, left, imagesAt, restAt, gap, reportFound, Further, isLoose, isPlain}
 use Rattle.strings.specs.declared.Before.{Before}
 use Rattle.strings.specs.declared.Found.{Found}
 use Rattle.strings.specs.declared.Octets.{Octets}
@@ -97,9 +97,11 @@ plain-joined fold p (b ∷ s) e =
     let w = firm (isLoose (atSpace p) b) (isPlain (eqb b 32) s) e in
     go (fast (atSpace p) b (w .0)) (w .1) (plain-joined fold Before.Space s) (plain-joined fold Before.Character s)
   where
-    behind-space : (p : Before) → atSpace p ≡ false → b ≡ 32 → joined Before.Space (images fold s) ≡ 32 ∷ folded fold s → joined p (blank ∷ images fold s) ≡ spaced p (folded fold (b ∷ s))
+    behind-space : (p : Before) → atSpace p ≡ false → b ≡ 32 → joined Before.Space (images fold s) ≡ 32 ∷ folded fold s
+        → joined p (blank ∷ images fold s) ≡ spaced p (folded fold (b ∷ s))
     behind-space Before.Nothing h q f = absurd (false≢true (sym h))
-    behind-space Before.Character h q f = f ∙ sym (folded-cons fold b s ∙ ap (λ (y : ℕ). foldOctet fold y ∷ folded fold s) q ∙ ap (λ (y : ℕ). y ∷ folded fold s) (fold-space fold))
+    behind-space Before.Character h q f = f
+        ∙ sym (folded-cons fold b s ∙ ap (λ (y : ℕ). foldOctet fold y ∷ folded fold s) q ∙ ap (λ (y : ℕ). y ∷ folded fold s) (fold-space fold))
     behind-space Before.Space h q f = absurd (false≢true (sym h))
 
     go : Fast (atSpace p) b → isPlain (eqb b 32) s ≡ true → (isPlain true s ≡ true → joined Before.Space (images fold s) ≡ 32 ∷ folded fold s)
@@ -137,7 +139,8 @@ not-plain space [] e = e
 not-plain space (b ∷ []) e = e
 not-plain space (b ∷ c ∷ s) e = go (both (eqb b 34) (eqb c 34)) (not-plain (eqb b 32) (c ∷ s))
   where
-    go : (u : Bool) → (isPlain (eqb b 32) (c ∷ s) ≡ false → isPlain (eqb b 32) (undoubled (c ∷ s)) ≡ false) → isPlain space (pick u (34 ∷ undoubled s) (b ∷ undoubled (c ∷ s))) ≡ false
+    go : (u : Bool) → (isPlain (eqb b 32) (c ∷ s) ≡ false → isPlain (eqb b 32) (undoubled (c ∷ s)) ≡ false)
+        → isPlain space (pick u (34 ∷ undoubled s) (b ∷ undoubled (c ∷ s))) ≡ false
     go true f = refl
     go false f = behind (isLoose space b) e
       where
@@ -235,10 +238,12 @@ lower-joined p (shown b ∷ ms) e =
     not-upper true h = absurd (false≢true h)
     not-upper false h = refl
 
-    ap₂-cons : lower b ≡ b → map lower (joined Before.Character ms) ≡ joined Before.Character ms → map lower (b ∷ joined Before.Character ms) ≡ b ∷ joined Before.Character ms
+    ap₂-cons : lower b ≡ b → map lower (joined Before.Character ms) ≡ joined Before.Character ms
+        → map lower (b ∷ joined Before.Character ms) ≡ b ∷ joined Before.Character ms
     ap₂-cons x y = ap (λ (k : ℕ). k ∷ map lower (joined Before.Character ms)) x ∙ ap (λ (l : List ℕ). b ∷ l) y
 
-    go : (p : Before) → map lower (b ∷ joined Before.Character ms) ≡ b ∷ joined Before.Character ms → map lower (spaced p (b ∷ joined Before.Character ms)) ≡ spaced p (b ∷ joined Before.Character ms)
+    go : (p : Before) → map lower (b ∷ joined Before.Character ms) ≡ b ∷ joined Before.Character ms
+        → map lower (spaced p (b ∷ joined Before.Character ms)) ≡ spaced p (b ∷ joined Before.Character ms)
     go Before.Nothing x = x
     go Before.Character x = x
     go Before.Space x = ap (λ (l : List ℕ). 32 ∷ l) x
@@ -254,13 +259,15 @@ unfolding joined
 joined-length p [] = omega arith
 joined-length p (blank ∷ ms) = go p (joined-length Before.Nothing ms) (joined-length Before.Space ms)
   where
-    go : (p : Before) → length (joined Before.Nothing ms) ≤ 0 + length ms → length (joined Before.Space ms) ≤ 1 + length ms → length (joined (afterSpace p) ms) ≤ length (spaced p []) + length (blank ∷ ms)
+    go : (p : Before) → length (joined Before.Nothing ms) ≤ 0 + length ms → length (joined Before.Space ms) ≤ 1 + length ms
+        → length (joined (afterSpace p) ms) ≤ length (spaced p []) + length (blank ∷ ms)
     go Before.Nothing x y = omega arith
     go Before.Character x y = omega arith
     go Before.Space x y = omega arith
 joined-length p (shown b ∷ ms) = go p (joined-length Before.Character ms)
   where
-    go : (p : Before) → length (joined Before.Character ms) ≤ 0 + length ms → length (spaced p (b ∷ joined Before.Character ms)) ≤ length (spaced p []) + length (shown b ∷ ms)
+    go : (p : Before) → length (joined Before.Character ms) ≤ 0 + length ms
+        → length (spaced p (b ∷ joined Before.Character ms)) ≤ length (spaced p []) + length (shown b ∷ ms)
     go Before.Nothing x = omega arith
     go Before.Character x = omega arith
     go Before.Space x = omega arith
@@ -296,7 +303,8 @@ undoubled-length [] = omega arith
 undoubled-length (b ∷ []) = omega arith
 undoubled-length (b ∷ c ∷ s) = go (both (eqb b 34) (eqb c 34)) (undoubled-length s) (undoubled-length (c ∷ s))
   where
-    go : (u : Bool) → length (undoubled s) ≤ length s → length (undoubled (c ∷ s)) ≤ length (c ∷ s) → length (pick u (34 ∷ undoubled s) (b ∷ undoubled (c ∷ s))) ≤ length (b ∷ c ∷ s)
+    go : (u : Bool) → length (undoubled s) ≤ length s → length (undoubled (c ∷ s)) ≤ length (c ∷ s)
+        → length (pick u (34 ∷ undoubled s) (b ∷ undoubled (c ∷ s))) ≤ length (b ∷ c ∷ s)
     go true x y = omega arith
     go false x y = omega arith
 
@@ -349,7 +357,12 @@ module _ (word count n : ℕ) (m₀ : List ℕ) (w k at : ℕ) (m : List ℕ) (v
     put-more = record {
       long = length-set m at (w % 256) ∙ v .long;
       rest = omega (arith, v .rest);
-      start = rw (add-one at, take-suc-set m at (w % 256) (omega (arith, put-room, v .long)), append-assoc (take at m) (w % 256 ∷ []) (unpacked (w / 256) (k - 1)))
+      start = rw (
+        add-one at,
+        take-suc-set m at (w % 256) (omega (arith, put-room, v .long)),
+        append-assoc (take at m) (w % 256 ∷ [])
+            (unpacked (w / 256) (k - 1)),
+      )
           (ap (λ (l : List ℕ). take at m ++ l) (sym (unpacked-more w k h)) ∙ v .start);
     }
 
@@ -373,7 +386,8 @@ gap-append : (u : Bool) (l : List ℕ) → gap u [] ++ l ≡ gap u l
 gap-append true l = refl
 gap-append false l = refl
 
-module _ (fold : Bool) (p : List ℕ) (at : ℕ) (b : Before) (n : ℕ) (m : List ℕ) (v : Preparing fold p at b n m) (r : Found) (told : reportFound fold true p r ≡ restAt fold true p at b) where
+module _ (fold : Bool) (p : List ℕ) (at : ℕ) (b : Before) (n : ℕ) (m : List ℕ) (v : Preparing fold p at b n m) (r : Found)
+    (told : reportFound fold true p r ≡ restAt fold true p at b) where
   pub prepare-end : r ≡ Found.End → take n m ≡ prepared fold (undoubled p)
   prepare-end e = sym (append-nil (take n m)) ∙ ap (λ (l : List ℕ). take n m ++ l) (sym (ap (reportFound fold true p) e) ∙ told) ∙ v .start
 
@@ -394,7 +408,8 @@ module _ (fold : Bool) (p : List ℕ) (at : ℕ) (b : Before) (n : ℕ) (m : Lis
       pub prepare-octets : start + o .count ≤ 5120
       prepare-octets = omega (arith, long-is, v .count)
 
-      pub prepare-more : (m₁ m₂ : List ℕ) (end : ℕ) → take start m₁ ≡ take n m ++ gap u [] → take end m₂ ≡ take start m₁ ++ unpacked (o .word) (o .count) → end ≡ start + o .count
+      pub prepare-more : (m₁ m₂ : List ℕ) (end : ℕ) → take start m₁ ≡ take n m ++ gap u [] → take end m₂ ≡ take start m₁ ++ unpacked (o .word) (o .count)
+          → end ≡ start + o .count
           → length m₂ ≡ 5120 → Preparing fold p after Before.Character end m₂
       prepare-more m₁ m₂ end f g q l = record {
         long = l;
@@ -405,6 +420,7 @@ module _ (fold : Bool) (p : List ℕ) (at : ℕ) (b : Before) (n : ℕ) (m : Lis
             ∙ ap (λ (y : List ℕ). take n m ++ y) (sym next-is) ∙ v .start;
       }
 
-pub prepare-falls : (p : List ℕ) (at : ℕ) (r : Found) (u : Bool) (o : Octets) (after : ℕ) → r ≡ Found.At u o after → Further true p at r → left true p after < left true p at
+pub prepare-falls : (p : List ℕ) (at : ℕ) (r : Found) (u : Bool) (o : Octets) (after : ℕ) → r ≡ Found.At u o after → Further true p at r
+    → left true p after < left true p at
 prepare-falls p at Found.End u o after e f = absurd (let z : _≡_ {A = ℕ} 0 1 = cc in omega arith)
 prepare-falls p at (Found.At v q k) u o after e f = let z : k ≡ after = cc in omega (arith, f, ap (left true p) z)

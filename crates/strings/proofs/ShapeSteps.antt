@@ -7,7 +7,8 @@ use borrow.Author.Tests.{eq-eqb, ne-eqb, lt-ltb, le-ltb, not-true, not-false}
 use lib.Dec.{eqb}
 use Rattle.octets.specs.Text.{within}
 use Rattle.strings.specs.Prepared.{isPair}
-use Rattle.strings.specs.inner.Shapes.{several, empty, single, double, controlShape, foldOctet, lowShape, markShape, signShape, middleShape, exactShape, isCapital, pairedShape, extendedShape, latinShape, foldedShape, highShape}
+use Rattle.strings.specs.inner.Shapes.{several, empty, single, double, controlShape, foldOctet, lowShape, markShape, signShape, middleShape, exactShape}
+use Rattle.strings.specs.inner.Shapes.{isCapital, pairedShape, extendedShape, latinShape, foldedShape, highShape}
 use Rattle.strings.specs.declared.Shape.{Shape}
 
 -- ---- mark_shape
@@ -36,13 +37,31 @@ module _ (c : ℕ) (r : Shape) where
   unfolding markShape
   mark-6 n1 n2 n3 n4 n5 e q = rw (ne-eqb c 0xA8 n1, ne-eqb c 0xAF n2, ne-eqb c 0xB4 n3, ne-eqb c 0xB8 n4, ne-eqb c 0xBC n5, eq-eqb c 0xBD e) q
 
-  pub mark-7 : (c ≡ 0xA8 → ⊥) → (c ≡ 0xAF → ⊥) → (c ≡ 0xB4 → ⊥) → (c ≡ 0xB8 → ⊥) → (c ≡ 0xBC → ⊥) → (c ≡ 0xBD → ⊥) → c ≡ 0xBE → r ≡ several 0x348481E233 5 → r ≡ markShape c
+  pub mark-7 : (c ≡ 0xA8 → ⊥) → (c ≡ 0xAF → ⊥) → (c ≡ 0xB4 → ⊥) → (c ≡ 0xB8 → ⊥) → (c ≡ 0xBC → ⊥) → (c ≡ 0xBD → ⊥) → c ≡ 0xBE → r ≡ several 0x348481E233 5
+      → r ≡ markShape c
   unfolding markShape
-  mark-7 n1 n2 n3 n4 n5 n6 e q = rw (ne-eqb c 0xA8 n1, ne-eqb c 0xAF n2, ne-eqb c 0xB4 n3, ne-eqb c 0xB8 n4, ne-eqb c 0xBC n5, ne-eqb c 0xBD n6, eq-eqb c 0xBE e) q
+  mark-7 n1 n2 n3 n4 n5 n6 e q = rw (
+    ne-eqb c 0xA8 n1,
+    ne-eqb c 0xAF n2,
+    ne-eqb c 0xB4 n3,
+    ne-eqb c 0xB8 n4,
+    ne-eqb c 0xBC n5,
+    ne-eqb c 0xBD n6,
+    eq-eqb c 0xBE e,
+  ) q
 
-  pub mark-last : (c ≡ 0xA8 → ⊥) → (c ≡ 0xAF → ⊥) → (c ≡ 0xB4 → ⊥) → (c ≡ 0xB8 → ⊥) → (c ≡ 0xBC → ⊥) → (c ≡ 0xBD → ⊥) → (c ≡ 0xBE → ⊥) → r ≡ double c → r ≡ markShape c
+  pub mark-last : (c ≡ 0xA8 → ⊥) → (c ≡ 0xAF → ⊥) → (c ≡ 0xB4 → ⊥) → (c ≡ 0xB8 → ⊥) → (c ≡ 0xBC → ⊥) → (c ≡ 0xBD → ⊥) → (c ≡ 0xBE → ⊥) → r ≡ double c
+      → r ≡ markShape c
   unfolding markShape
-  mark-last n1 n2 n3 n4 n5 n6 n7 q = rw (ne-eqb c 0xA8 n1, ne-eqb c 0xAF n2, ne-eqb c 0xB4 n3, ne-eqb c 0xB8 n4, ne-eqb c 0xBC n5, ne-eqb c 0xBD n6, ne-eqb c 0xBE n7) q
+  mark-last n1 n2 n3 n4 n5 n6 n7 q = rw (
+    ne-eqb c 0xA8 n1,
+    ne-eqb c 0xAF n2,
+    ne-eqb c 0xB4 n3,
+    ne-eqb c 0xB8 n4,
+    ne-eqb c 0xBC n5,
+    ne-eqb c 0xBD n6,
+    ne-eqb c 0xBE n7,
+  ) q
 
 -- ---- sign_shape
 module _ (c : ℕ) (r : Shape) where
@@ -70,13 +89,31 @@ module _ (c : ℕ) (r : Shape) where
   unfolding signShape
   sign-6 n1 n2 n3 n4 n5 e q = rw (ne-eqb c 0xAA n1, ne-eqb c 0xAD n2, ne-eqb c 0xB2 n3, ne-eqb c 0xB3 n4, ne-eqb c 0xB5 n5, eq-eqb c 0xB9 e) q
 
-  pub sign-7 : (c ≡ 0xAA → ⊥) → (c ≡ 0xAD → ⊥) → (c ≡ 0xB2 → ⊥) → (c ≡ 0xB3 → ⊥) → (c ≡ 0xB5 → ⊥) → (c ≡ 0xB9 → ⊥) → c ≡ 0xBA → r ≡ single 0x6F → r ≡ signShape c
+  pub sign-7 : (c ≡ 0xAA → ⊥) → (c ≡ 0xAD → ⊥) → (c ≡ 0xB2 → ⊥) → (c ≡ 0xB3 → ⊥) → (c ≡ 0xB5 → ⊥) → (c ≡ 0xB9 → ⊥) → c ≡ 0xBA → r ≡ single 0x6F
+      → r ≡ signShape c
   unfolding signShape
-  sign-7 n1 n2 n3 n4 n5 n6 e q = rw (ne-eqb c 0xAA n1, ne-eqb c 0xAD n2, ne-eqb c 0xB2 n3, ne-eqb c 0xB3 n4, ne-eqb c 0xB5 n5, ne-eqb c 0xB9 n6, eq-eqb c 0xBA e) q
+  sign-7 n1 n2 n3 n4 n5 n6 e q = rw (
+    ne-eqb c 0xAA n1,
+    ne-eqb c 0xAD n2,
+    ne-eqb c 0xB2 n3,
+    ne-eqb c 0xB3 n4,
+    ne-eqb c 0xB5 n5,
+    ne-eqb c 0xB9 n6,
+    eq-eqb c 0xBA e,
+  ) q
 
-  pub sign-last : (c ≡ 0xAA → ⊥) → (c ≡ 0xAD → ⊥) → (c ≡ 0xB2 → ⊥) → (c ≡ 0xB3 → ⊥) → (c ≡ 0xB5 → ⊥) → (c ≡ 0xB9 → ⊥) → (c ≡ 0xBA → ⊥) → r ≡ markShape c → r ≡ signShape c
+  pub sign-last : (c ≡ 0xAA → ⊥) → (c ≡ 0xAD → ⊥) → (c ≡ 0xB2 → ⊥) → (c ≡ 0xB3 → ⊥) → (c ≡ 0xB5 → ⊥) → (c ≡ 0xB9 → ⊥) → (c ≡ 0xBA → ⊥) → r ≡ markShape c
+      → r ≡ signShape c
   unfolding signShape
-  sign-last n1 n2 n3 n4 n5 n6 n7 q = rw (ne-eqb c 0xAA n1, ne-eqb c 0xAD n2, ne-eqb c 0xB2 n3, ne-eqb c 0xB3 n4, ne-eqb c 0xB5 n5, ne-eqb c 0xB9 n6, ne-eqb c 0xBA n7) q
+  sign-last n1 n2 n3 n4 n5 n6 n7 q = rw (
+    ne-eqb c 0xAA n1,
+    ne-eqb c 0xAD n2,
+    ne-eqb c 0xB2 n3,
+    ne-eqb c 0xB3 n4,
+    ne-eqb c 0xB5 n5,
+    ne-eqb c 0xB9 n6,
+    ne-eqb c 0xBA n7,
+  ) q
 
 -- ---- exact_shape
 module _ (c : ℕ) (r : Shape) where
@@ -104,7 +141,8 @@ module _ (c : ℕ) (r : Shape) where
   unfolding exactShape
   exact-6 n1 n2 n3 n4 n5 e q = rw (ne-eqb c 0x0132 n1, ne-eqb c 0x0133 n2, ne-eqb c 0x013F n3, ne-eqb c 0x0140 n4, ne-eqb c 0x0149 n5, eq-eqb c 0x017F e) q
 
-  pub exact-last : (c ≡ 0x0132 → ⊥) → (c ≡ 0x0133 → ⊥) → (c ≡ 0x013F → ⊥) → (c ≡ 0x0140 → ⊥) → (c ≡ 0x0149 → ⊥) → (c ≡ 0x017F → ⊥) → r ≡ double c → r ≡ exactShape c
+  pub exact-last : (c ≡ 0x0132 → ⊥) → (c ≡ 0x0133 → ⊥) → (c ≡ 0x013F → ⊥) → (c ≡ 0x0140 → ⊥) → (c ≡ 0x0149 → ⊥) → (c ≡ 0x017F → ⊥) → r ≡ double c
+      → r ≡ exactShape c
   unfolding exactShape
   exact-last n1 n2 n3 n4 n5 n6 q = rw (ne-eqb c 0x0132 n1, ne-eqb c 0x0133 n2, ne-eqb c 0x013F n3, ne-eqb c 0x0140 n4, ne-eqb c 0x0149 n5, ne-eqb c 0x017F n6) q
 

@@ -79,7 +79,8 @@ module _ (s : List ℕ) (quoted : Bool) (at : ℕ) where
         character-last l =
             let g : length s ≤ at + 1 = omega arith in
             rw (not-false quoted q)
-            (rw (rest-none s (at + 1) g) (ap (λ (x : List ℕ). 34 ∷ x) undoubled-nil ∙ sym (undoubled-one 34) ∙ sym (ap undoubled (rest-cons s at h ∙ ap₂ (λ (b : ℕ) (x : List ℕ). b ∷ x) quote (rest-none s (at + 1) g)))))
+            (rw (rest-none s (at + 1) g) (ap (λ (x : List ℕ). 34 ∷ x) undoubled-nil ∙ sym (undoubled-one 34)
+            ∙ sym (ap undoubled (rest-cons s at h ∙ ap₂ (λ (b : ℕ) (x : List ℕ). b ∷ x) quote (rest-none s (at + 1) g)))))
 
         module _ (l : 2 ≤ length s - at) where
           second : drop (at + 1) s ≡ octet s (at + 1) ∷ drop (at + 2) s
@@ -88,7 +89,8 @@ module _ (s : List ℕ) (quoted : Bool) (at : ℕ) where
               let e : at + 1 + 1 ≡ at + 2 = omega arith in
               rest-cons s (at + 1) z ∙ ap (λ (n : ℕ). octet s (at + 1) ∷ drop n s) e
 
-          two : undoubled (drop at s) ≡ pick (both (eqb 34 34) (eqb (octet s (at + 1)) 34)) (34 ∷ undoubled (drop (at + 2) s)) (34 ∷ undoubled (octet s (at + 1) ∷ drop (at + 2) s))
+          two : undoubled (drop at s) ≡ pick (both (eqb 34 34) (eqb (octet s (at + 1)) 34)) (34 ∷ undoubled (drop (at + 2) s))
+              (34 ∷ undoubled (octet s (at + 1) ∷ drop (at + 2) s))
           two = ap undoubled (rest-cons s at h ∙ ap₂ (λ (b : ℕ) (x : List ℕ). b ∷ x) quote second) ∙ undoubled-two 34 (octet s (at + 1)) (drop (at + 2) s)
 
           pub character-single : (octet s (at + 1) ≡ 34 → ⊥) → reportOctet quoted s (Letter.Got 34 (at + 1)) ≡ octetsOf quoted (drop at s)

@@ -13,13 +13,23 @@ use Rattle.octets.specs.declared.Awaiting.{Awaiting}
 use Rattle.octets.proofs.Laws.{all-at, both-true}
 use Rattle.strings.specs.Images.{Mark, blank, shown, table, imageIn, encoded, allEncoded, marks, image}
 use Rattle.strings.specs.Prepared.{isPair, pairNumber, images, afterSpace, spaced, joined, prepared}
-use Rattle.strings.specs.Twice.{isWhole, evenSpace, isEven, noneKept}
-use Rattle.strings.specs.inner.Shapes.{unpacked, shapeMarks, lowShape, markShape, signShape, middleShape, exactShape, isCapital, extendedShape, latinShape, foldedShape, highShape, shapeOf}
+use Rattle.strings.specs.Twice.{evenSpace, isEven, noneKept}
+use Rattle.strings.specs.inner.Shapes.{unpacked, shapeMarks, lowShape, markShape, signShape, middleShape, exactShape, isCapital, extendedShape}
+use Rattle.strings.specs.inner.Shapes.{latinShape, foldedShape, highShape, shapeOf}
 use Rattle.strings.specs.declared.Before.{Before}
 use Rattle.strings.specs.declared.Shape.{Shape}
 use Rattle.strings.proofs.ImageLaws.{sameMark, sameMarks, same-marks, shape-is}
 use Rattle.strings.proofs.ImageSteps.{images-low, images-alone, images-single, images-pair, paired}
 use Rattle.strings.proofs.Preparing.{image-space}
+
+-- each octet C2 to C5 has the octet 80 to BF behind it that makes a character of the two, as in valid UTF-8
+unfoldable pub isWhole : List ℕ → Bool
+isWhole [] = true
+isWhole (a ∷ []) = no (within 0xC2 0xC5 a)
+isWhole (a ∷ b ∷ s) =
+    let pair = isWhole s in
+    let single = isWhole (b ∷ s) in
+    pick (isPair a b) pair (both (no (within 0xC2 0xC5 a)) single)
 
 -- the mark of an octet that is its own image
 abbrev mark : ℕ → Mark
@@ -112,7 +122,8 @@ abbrev ownImage : Bool → ℕ → Bool
 ownImage fold c = ownShape fold (shapeOf fold c)
 
 all-own : (fold : Bool) → all (ownImage fold) 0x0180 ≡ true
-unfolding all own sameMark sameMarks unpacked isUpper lower lowShape markShape signShape middleShape exactShape isCapital extendedShape latinShape foldedShape highShape shapeOf table imageIn encoded allEncoded marks image
+unfolding all own sameMark sameMarks unpacked isUpper lower lowShape markShape signShape middleShape exactShape isCapital extendedShape latinShape foldedShape
+    highShape shapeOf table imageIn encoded allEncoded marks image
 all-own true = refl
 all-own false = refl
 
@@ -129,7 +140,8 @@ module _ (fold : Bool) (ms : List Mark) (f : (p : Before) → Closed fold (joine
   closed-octets (b ∷ x) e p = go p
     where
       behind : Closed fold (b ∷ joined Before.Character (map shown x ++ ms))
-      behind = subst (λ (l : List ℕ). Closed fold (b ∷ l)) (sym (shown-joined x)) (closed-append fold (b ∷ x) (joined Before.Character ms) (closed-own fold (b ∷ x) e) (f Before.Character))
+      behind = subst (λ (l : List ℕ). Closed fold (b ∷ l)) (sym (shown-joined x))
+          (closed-append fold (b ∷ x) (joined Before.Character ms) (closed-own fold (b ∷ x) e) (f Before.Character))
 
       go : (p : Before) → Closed fold (spaced p (b ∷ joined Before.Character (map shown x ++ ms)))
       go Before.Nothing = behind
@@ -143,7 +155,8 @@ module _ (fold : Bool) (ms : List Mark) (f : (p : Before) → Closed fold (joine
 
   closed-image : (c : ℕ) → c < 0x0180 → (p : Before) → Closed fold (joined p (image fold c ++ ms))
   closed-image c h p =
-      subst (λ (l : List Mark). Closed fold (joined p (l ++ ms))) (shape-is fold c h) (closed-shape (shapeOf fold c) (all-at (ownImage fold) 0x0180 c (all-own fold) h) p)
+      subst (λ (l : List Mark). Closed fold (joined p (l ++ ms))) (shape-is fold c h)
+      (closed-shape (shapeOf fold c) (all-at (ownImage fold) 0x0180 c (all-own fold) h) p)
 
 high-own : (fold : Bool) (a : ℕ) → 0x80 ≤ a → no (within 0xC2 0xC5 a) ≡ true → own fold (a ∷ []) ≡ true
 unfolding own
@@ -159,7 +172,8 @@ closed-octet fold a s n f p = go (ltb a 0x80) refl
         subst (λ (l : List Mark). Closed fold (joined p l)) (sym (images-low fold a s h)) (closed-image fold (images fold s) f a (omega arith) p)
     go false q =
         let h = ltb-false a 0x80 q in
-        subst (λ (l : List Mark). Closed fold (joined p l)) (sym (images-high fold a h n s)) (closed-octets fold (images fold s) f (a ∷ []) (high-own fold a h n) p)
+        subst (λ (l : List Mark). Closed fold (joined p l)) (sym (images-high fold a h n s))
+        (closed-octets fold (images fold s) f (a ∷ []) (high-own fold a h n) p)
 
 closed-nil : (fold : Bool) (p : Before) → Closed fold (joined p (images fold []))
 unfolding joined images
@@ -172,7 +186,8 @@ closed-prepared fold (a ∷ []) e p = closed-octet fold a [] e (closed-nil fold)
 closed-prepared fold (a ∷ b ∷ s) e p = go (isPair a b) refl e (closed-prepared fold s) (closed-prepared fold (b ∷ s))
   where
     go : (u : Bool) → isPair a b ≡ u → pick u (isWhole s) (both (no (within 0xC2 0xC5 a)) (isWhole (b ∷ s))) ≡ true
-        → (isWhole s ≡ true → (p : Before) → Closed fold (joined p (images fold s))) → (isWhole (b ∷ s) ≡ true → (p : Before) → Closed fold (joined p (images fold (b ∷ s))))
+        → (isWhole s ≡ true → (p : Before) → Closed fold (joined p (images fold s)))
+        → (isWhole (b ∷ s) ≡ true → (p : Before) → Closed fold (joined p (images fold (b ∷ s))))
         → Closed fold (joined p (images fold (a ∷ b ∷ s)))
     go true q h f g =
         let w = paired a b q in
@@ -180,7 +195,8 @@ closed-prepared fold (a ∷ b ∷ s) e p = go (isPair a b) refl e (closed-prepar
         let w1 = w .first-most in
         let w2 = w .second-least in
         let w3 = w .second-most in
-        subst (λ (l : List Mark). Closed fold (joined p l)) (sym (images-pair fold a b s q)) (closed-image fold (images fold s) (f h) (pairNumber a b) (omega arith) p)
+        subst (λ (l : List Mark). Closed fold (joined p l)) (sym (images-pair fold a b s q))
+        (closed-image fold (images fold s) (f h) (pairNumber a b) (omega arith) p)
     go false q h f g = let k = both-true (no (within 0xC2 0xC5 a)) (isWhole (b ∷ s)) h in closed-octet fold a (b ∷ s) (k .0) (g (k .1)) p
 
 again : (fold : Bool) (s : List ℕ) → isWhole s ≡ true → prepared fold (prepared fold s) ≡ joined Before.Nothing (map mark (prepared fold s))
@@ -199,7 +215,8 @@ joined-even Before.Space [] e = absurd (false≢true e)
 joined-even p (b ∷ x) e = go p (eqb b 0x20) refl e (joined-even Before.Space x) (joined-even Before.Character x)
   where
     go : (p : Before) (u : Bool) → eqb b 0x20 ≡ u → pick u (evenSpace p (isEven Before.Space x)) (isEven Before.Character x) ≡ true
-        → (isEven Before.Space x ≡ true → joined Before.Space (map mark x) ≡ 0x20 ∷ x) → (isEven Before.Character x ≡ true → joined Before.Character (map mark x) ≡ x)
+        → (isEven Before.Space x ≡ true → joined Before.Space (map mark x) ≡ 0x20 ∷ x)
+        → (isEven Before.Character x ≡ true → joined Before.Character (map mark x) ≡ x)
         → joined p (pick u blank (shown b) ∷ map mark x) ≡ spaced p (b ∷ x)
     go Before.Nothing true q h f g = absurd (false≢true h)
     go Before.Character true q h f g = f h ∙ ap (λ (y : ℕ). y ∷ x) (sym (eqb-true b 0x20 q))
@@ -305,7 +322,8 @@ unfolding after
 lead-next Awaiting.Broken b s h e f = absurd (broken-never s f)
 lead-next (Awaiting.Tails n least most) b s h e f = go (eqb n 0) (within least most b) refl f
   where
-    go : (u v : Bool) → within least most b ≡ v → utf8From (pick u (afterFirst b) (pick v (awaits (n - 1)) Awaiting.Broken)) s ≡ true → utf8From (awaits 1) s ≡ true
+    go : (u v : Bool) → within least most b ≡ v → utf8From (pick u (afterFirst b) (pick v (awaits (n - 1)) Awaiting.Broken)) s ≡ true
+        → utf8From (awaits 1) s ≡ true
     go true v q f = ap (λ (y : Awaiting). utf8From y s) (sym (lead-first b e)) ∙ f
     go false true q f =
         let w = both-true (leb 0xC2 b) (leb b 0xC5) e in
@@ -333,7 +351,8 @@ whole-from st (a ∷ []) h e = go (within 0xC2 0xC5 a) refl
     go true q = absurd (false≢true (lead-next st a [] h q e))
     go false q = refl
 whole-from st (a ∷ b ∷ s) h e =
-    go (isPair a b) refl (within 0xC2 0xC5 a) refl (whole-from (after (after st a) b) s (after-tail (after st a) b) e) (whole-from (after st a) (b ∷ s) (after-tail st a) e)
+    go (isPair a b) refl (within 0xC2 0xC5 a) refl (whole-from (after (after st a) b) s (after-tail (after st a) b) e)
+    (whole-from (after st a) (b ∷ s) (after-tail st a) e)
   where
     go : (u : Bool) → isPair a b ≡ u → (v : Bool) → within 0xC2 0xC5 a ≡ v → isWhole s ≡ true → isWhole (b ∷ s) ≡ true
         → pick u (isWhole s) (both (no v) (isWhole (b ∷ s))) ≡ true

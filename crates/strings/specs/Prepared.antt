@@ -2,11 +2,11 @@
 -- each character up to U+017F has an image, of blanks and octets (`Images`); "Spaces are trimmed and joined afterwards, save one that NFKC puts before a
 -- combining mark. Characters above U+017F stand for themselves".
 use Prim.Native.Nat.{ℕ, _+_, _-_, _*_}
-use mathlib.Core.Bool.{Bool, true, false}
-use mathlib.Core.List.{List, [], _∷_, _++_, map}
+use mathlib.Core.Bool.{Bool}
+use mathlib.Core.List.{List, [], _∷_, _++_}
 use lib.Dec.{ltb}
 use Rattle.octets.specs.Pick.{pick, both}
-use Rattle.octets.specs.Text.{within, lower}
+use Rattle.octets.specs.Text.{within}
 use Rattle.strings.specs.Images.{Mark, blank, shown, image}
 use Rattle.strings.specs.declared.Before.{Before}
 use Rattle.strings.specs.declared.Before.the-variants.{Nothing, Character, Space}
@@ -49,8 +49,3 @@ joined p (shown b ∷ ms) = let rest = joined Character ms in spaced p (b ∷ re
 -- a string as prepared
 unfoldable pub prepared : Bool → List ℕ → List ℕ
 prepared fold s = joined Nothing (images fold s)
-
--- ---- A to Z folded alone, as in names
-unfoldable pub folded : Bool → List ℕ → List ℕ
-folded true s = map lower s
-folded false s = s

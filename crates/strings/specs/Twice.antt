@@ -4,20 +4,9 @@ use mathlib.Core.Bool.{Bool, true, false}
 use mathlib.Core.List.{List, [], _∷_}
 use lib.Dec.{eqb}
 use Rattle.octets.specs.Pick.{pick, both, no}
-use Rattle.octets.specs.Text.{within}
 use Rattle.strings.specs.Images.{Mark, blank, shown}
-use Rattle.strings.specs.Prepared.{isPair}
 use Rattle.strings.specs.declared.Before.{Before}
 use Rattle.strings.specs.declared.Before.the-variants.{Nothing, Character, Space}
-
--- each octet C2 to C5 has the octet 80 to BF behind it that makes a character of the two, as in valid UTF-8
-unfoldable pub isWhole : List ℕ → Bool
-isWhole [] = true
-isWhole (a ∷ []) = no (within 0xC2 0xC5 a)
-isWhole (a ∷ b ∷ s) =
-    let pair = isWhole s in
-    let single = isWhole (b ∷ s) in
-    pick (isPair a b) pair (both (no (within 0xC2 0xC5 a)) single)
 
 -- no space stands first, last or behind another
 abbrev pub evenSpace : Before → Bool → Bool

@@ -8,7 +8,7 @@ ghost use lib.ListN.{length, drop};
 ghost use Rattle.octets.specs.Octets.{same, part};
 ghost use Rattle.octets.specs.Quoted.{undoubled};
 ghost use Rattle.strings.specs.Asserted as asserted;
-ghost use Rattle.strings.specs.Prepared.{isPair, images, folded, afterSpace, prepared};
+ghost use Rattle.strings.specs.Prepared.{isPair, images, afterSpace, prepared};
 ghost use Rattle.strings.specs.inner.Shapes as shapes;
 ghost use Rattle.strings.specs.inner.Comparing as inner;
 
@@ -595,7 +595,7 @@ fn same_from(c: &[u8], x: &[u8], fold: bool, first: usize) -> bool
 
 // Whether a stored string as prepared is these octets, folded.
 pub fn same_prepared(c: &[u8], x: &[u8], fold: bool) -> bool
-    ensures { λ r. ⌜ r ≡ same (prepared fold (now (c .entry))) (folded fold (now (x .entry))) ⌝ }
+    ensures { λ r. ⌜ r ≡ same (prepared fold (now (c .entry))) (inner.folded fold (now (x .entry))) ⌝ }
 {
     let mut i = 0;
     while i < c.len() {

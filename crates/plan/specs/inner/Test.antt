@@ -16,7 +16,8 @@ use Rattle.integers.specs.inner.Bounds.{fits, lifted, boundOf, sameBound, lessB
 use Rattle.integers.specs.declared.Bound.{Bound}
 use Rattle.digits.specs.Asserted.{digits, isBitText}
 use Rattle.digits.specs.inner.Answers.{bitsIn}
-use Rattle.strings.specs.Prepared.{folded, prepared}
+use Rattle.strings.specs.Prepared.{prepared}
+use Rattle.strings.specs.inner.Comparing.{folded}
 use Rattle.rules.specs.Rule as rule
 use Rattle.rules.specs.Rule.{Syntax, Rule}
 use Rattle.plan.specs.declared.TestNumbers.{TestNumbers}

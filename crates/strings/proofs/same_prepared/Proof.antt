@@ -1,7 +1,7 @@
 use Rattle.octets.specs.Octets.{same}
 use Rattle.strings.proofs.Comparing.{from-start, from-there, from-differs, from-more, from-falls, from-end}
-use Rattle.strings.specs.inner.Comparing.{sameFrom}
-use Rattle.strings.specs.Prepared.{folded, prepared}
+use Rattle.strings.specs.Prepared.{prepared}
+use Rattle.strings.specs.inner.Comparing.{folded, sameFrom}
 use borrow.Author.Needs.{needs}
 use lib.ListN.{length}
 use mathlib.Core.Path.{_≡_}

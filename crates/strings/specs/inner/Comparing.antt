@@ -1,16 +1,16 @@
 -- What the next image of a string, and two sides that are compared, say of a prepared string.
 use Prim.Native.Nat.{ℕ, _<_, _+_}
 use mathlib.Core.Bool.{Bool, true, false}
-use mathlib.Core.List.{List, [], _∷_, _++_}
+use mathlib.Core.List.{List, [], _∷_, _++_, map}
 use lib.Dec.{eqb}
 use lib.ListN.{length, drop}
 use Rattle.octets.specs.Pick.{pick, no}
 use Rattle.octets.specs.Octets.{same}
-use Rattle.octets.specs.Text.{within}
+use Rattle.octets.specs.Text.{within, lower}
 use Rattle.octets.specs.Quoted.{undoubled}
 use Rattle.octets.specs.declared.Place.{Place}
 use Rattle.strings.specs.Images.{Mark}
-use Rattle.strings.specs.Prepared.{images, folded, joined}
+use Rattle.strings.specs.Prepared.{images, joined}
 use Rattle.strings.specs.inner.Shapes.{unpacked, shapeMarks, foldOctet as shape-fold}
 use Rattle.strings.specs.declared.Before.{Before}
 use Rattle.strings.specs.declared.Before.the-variants as before
@@ -29,7 +29,11 @@ abbrev pub reportOctet : Bool → List ℕ → Letter → List ℕ
 reportOctet quoted s Letter.End = []
 reportOctet quoted s (Letter.Got b next) = b ∷ octetsOf quoted (drop next s)
 
--- ---- the same with A to Z folded
+-- ---- octets with A to Z folded alone, or as they are
+unfoldable pub folded : Bool → List ℕ → List ℕ
+folded true s = map lower s
+folded false s = s
+
 abbrev pub foldOctet : Bool → ℕ → ℕ
 foldOctet fold b = shape-fold fold b
 
