@@ -1,5 +1,5 @@
 -- Rules: what a value text asserts, by its rule and what its reference leads to; nothing where it doesn't conform. The syntaxes of integers, octets and
--- bits, strings and times are in the crates integers, binary, strings and times; dotted OIDs in der/specs/Dotted.
+-- bits, strings and times are in the crates integers, digits, strings and times; dotted OIDs in der/specs/Dotted.
 use Prim.Native.Nat.{ℕ}
 use mathlib.Core.Bool.{Bool}
 use mathlib.Core.Option.{Option, none, some}
