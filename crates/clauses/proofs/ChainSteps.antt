@@ -14,6 +14,7 @@ use Rattle.rows.specs.Row.{kindAt, rowAt, isTypeKind, isGroup, isList, namedAt,
 use Rattle.rows.proofs.KindLaws.{member-no-type, member-no-group, list-type, list-no-group, group-type, list-names, names-none}
 use Rattle.clauses.specs.Clauses.{ofMember, chainFits}
 use Rattle.clauses.specs.inner.Work.{memberType, tallest}
+use Rattle.clauses.proofs.PassLaws.{both-end}
 
 -- ---- the largest of some numbers
 pub tallest-none : (f : ℕ → ℕ) → 0 ≡ tallest f 0
@@ -63,10 +64,6 @@ pub chain-none : (t s : List ℕ) (i : ℕ) → chainFits 0 t s i ≡ false
 unfolding chainFits
 chain-none t s i = refl
 
-both-end : (a : Bool) → both a true ≡ a
-both-end true = refl
-both-end false = refl
-
 module _ (t s : List ℕ) (i : ℕ) where
   -- one step: of a list by its element, of any other row by its members
   pub chain-step : (n : ℕ) → chainFits (suc n) t s i
@@ -85,7 +82,8 @@ module _ (t s : List ℕ) (i : ℕ) where
       go false l false m true g =
           rw (group-type (kindAt t (rowAt s i)) g, names-none t (rowAt s i) l (eqb-false (kindAt t (rowAt s i)) 16 m))
       go false l false m false g =
-          rw (names-none t (rowAt s i) l (eqb-false (kindAt t (rowAt s i)) 16 m), no-group t (rowAt s i) g) (either-true (no (isTypeKind (kindAt t (rowAt s i)))))
+          rw (names-none t (rowAt s i) l (eqb-false (kindAt t (rowAt s i)) 16 m), no-group t (rowAt s i) g)
+          (either-true (no (isTypeKind (kindAt t (rowAt s i)))))
 
   one-more : (d k : ℕ) → leb d k ≡ leb (d + 1) (suc k)
   one-more d k = sym (leb·suc-suc d k) ∙ ap (λ (x : ℕ). leb x (suc k)) (sym (add-one d))

@@ -11,10 +11,11 @@ use lib.Seq.{drop-cons, getD-drop}
 use lib.Dec.{ltb, eqb}
 use Rattle.octets.specs.Pick.{pick}
 use Rattle.octets.proofs.Laws.{both-true, all-at}
-use Rattle.rows.proofs.KindLaws.{type-no-member, member-names}
-use Rattle.rows.specs.Row.{kindAt, countAt, rowAt, isTypeKind, namesRow, namedAt, followerKind, isGroup, membersAt}
-use Rattle.clauses.specs.Clauses.{everyRow, isType, laterType, pointsLater, standing, membersStand, memberPlace}
+use Rattle.rows.proofs.KindLaws.{type-no-member, member-names, group-followers, named-followers}
+use Rattle.rows.specs.Row.{kindAt, countAt, rowAt, isTypeKind, namesRow, namedAt, followerKind, followersAt, isFollower, isGroup, membersAt, bitNamesAt}
+use Rattle.clauses.specs.Clauses.{everyRow, isType, laterType, pointsLater, standing, followersStand, memberPlace}
 use Rattle.clauses.specs.inner.Work.{memberType, Later}
+use Rattle.clauses.proofs.NameSteps.{member-or-bit}
 
 pick-true : (b x y : Bool) → pick b x y ≡ true → ((b ≡ true) × (x ≡ true)) ⊎ ((b ≡ false) × (y ≡ true))
 pick-true true x y e = inl (refl, e)
@@ -54,59 +55,105 @@ stand-due t (p ∷ ps) k due (suc j) e h =
     (λ w. let v = stand-due t ps k (due - 1) j (both-true (eqb (kindAt t p) k) _ (w .1) .1) (omega arith) in (omega arith, v .1))
     (pick-true (eqb due 0) _ _ e)
 
--- only members follow a row
-pub follower-member : (t : List ℕ) (p : ℕ) → 0 < membersAt t p → followerKind (kindAt t p) ≡ 16
-unfolding membersAt followerKind
-follower-member t p h = go (isGroup (kindAt t p)) h
+-- the rows that follow one are of a kind that follows, and none follow those
+pub due-follower : (t : List ℕ) (p : ℕ) → 0 < followersAt t p → isFollower (followerKind (kindAt t p)) ≡ true
+unfolding followersAt followerKind isFollower
+due-follower t p h = go (isGroup (kindAt t p)) (eqb (kindAt t p) 17) h
   where
-    go : (x : Bool) → 0 < pick x (countAt t p) 0 → _≡_ {A = ℕ} (pick x 16 0) 16
-    go true l = refl
-    go false l = absurd (omega arith)
+    go : (x y : Bool) → 0 < pick (eqb (pick x 16 (pick y 18 0)) 0) 0 (countAt t p) → isFollower (pick x 16 (pick y 18 0)) ≡ true
+    go true y l = refl
+    go false true l = refl
+    go false false l = absurd (omega arith)
+
+pub no-followers : (t : List ℕ) (p : ℕ) → isFollower (kindAt t p) ≡ true → followersAt t p ≡ 0
+unfolding followersAt followerKind isGroup
+no-followers t p e = ⊎-elim (λ (h : kindAt t p ≡ 16). rw h) (λ (h : kindAt t p ≡ 18). rw h) (member-or-bit (kindAt t p) e)
 
 -- the rows from i on stand as they should
 record Stands (t ps : List ℕ) : Type 0 where
   pub kind : ℕ
   pub due : ℕ
-  pub members : 0 < due → kind ≡ 16
+  pub follower : 0 < due → isFollower kind ≡ true
   pub stand : standing t kind due ps ≡ true
 
-stand-at : (t s : List ℕ) (k due i : ℕ) → (0 < due → k ≡ 16) → standing t k due s ≡ true → i < length s → Stands t (drop i s)
+stand-at : (t s : List ℕ) (k due i : ℕ) → (0 < due → isFollower k ≡ true) → standing t k due s ≡ true → i < length s → Stands t (drop i s)
 unfolding standing
 stand-at t [] k due i f e h = absurd (omega arith)
-stand-at t (p ∷ ps) k due zero f e h = record { kind = k; due = due; members = f; stand = e }
+stand-at t (p ∷ ps) k due zero f e h = record { kind = k; due = due; follower = f; stand = e }
 stand-at t (p ∷ ps) k due (suc i) f e h =
     ⊎-elim
-    (λ w. stand-at t ps (followerKind (kindAt t p)) (membersAt t p) i (follower-member t p) (both-true (isTypeKind (kindAt t p)) _ (w .1) .1) (omega arith))
+    (λ w. stand-at t ps (followerKind (kindAt t p)) (followersAt t p) i (due-follower t p) (both-true (isTypeKind (kindAt t p)) _ (w .1) .1) (omega arith))
     (λ w. stand-at t ps k (due - 1) i (λ l. f (omega arith)) (both-true (eqb (kindAt t p) k) _ (w .1) .1) (omega arith))
     (pick-true (eqb due 0) _ _ e)
 
-no-members : (t : List ℕ) (p : ℕ) → kindAt t p ≡ 16 → membersAt t p ≡ 0
-unfolding membersAt isGroup
-no-members t p k = rw k
+-- only a SEQUENCE or CHOICE has members, only a BIT STRING with names has names of bits
+module _ (t : List ℕ) (p j : ℕ) where
+  group-of : j < membersAt t p → isGroup (kindAt t p) ≡ true
+  unfolding membersAt
+  group-of h = go (isGroup (kindAt t p)) h
+    where
+      go : (x : Bool) → j < pick x (countAt t p) 0 → x ≡ true
+      go true l = refl
+      go false l = absurd (omega arith)
 
-module _ (t s : List ℕ) (stands : membersStand t s ≡ true) where
-  -- the members of row i follow it
-  behind : (i : ℕ) → i < length s → (j : ℕ) → j < membersAt t (rowAt s i) → standing t 16 (membersAt t (rowAt s i)) (drop (suc i) s) ≡ true
-  unfolding standing membersStand
-  behind i h j l =
+  named-of : j < bitNamesAt t p → kindAt t p ≡ 17
+  unfolding bitNamesAt
+  named-of h = go (eqb (kindAt t p) 17) refl h
+    where
+      go : (x : Bool) → eqb (kindAt t p) 17 ≡ x → j < pick x (countAt t p) 0 → kindAt t p ≡ 17
+      go true e l = eqb-true (kindAt t p) 17 e
+      go false e l = absurd (omega arith)
+
+pub after-group : (k : ℕ) → isGroup k ≡ true → followerKind k ≡ 16
+unfolding followerKind
+after-group k e = rw e
+
+pub after-named : (k : ℕ) → k ≡ 17 → followerKind k ≡ 18
+unfolding followerKind isGroup
+after-named k e = rw e
+
+module _ (t s : List ℕ) (stands : followersStand t s ≡ true) where
+  -- the rows that row i has behind it follow it
+  behind : (i : ℕ) → i < length s → 0 < followersAt t (rowAt s i)
+      → standing t (followerKind (kindAt t (rowAt s i))) (followersAt t (rowAt s i)) (drop (suc i) s) ≡ true
+  unfolding standing followersStand
+  behind i h l =
       let w = stand-at t s 0 0 i (λ z. absurd (omega arith)) stands h in
       let e : standing t (w .kind) (w .due) (rowAt s i ∷ drop (suc i) s) ≡ true = rw (drop-cons s i 0 h) at (w .stand) in
       ⊎-elim
-      (λ v. rw (follower-member t (rowAt s i) (omega arith)) at (both-true (isTypeKind (kindAt t (rowAt s i))) _ (v .1) .1))
-      (λ v. absurd (let z = no-members t (rowAt s i) (eqb-true _ (w .kind) (both-true (eqb (kindAt t (rowAt s i)) (w .kind)) _ (v .1) .0) ∙ w .members (some-due (w .due) (v .0))) in omega arith))
+      (λ v. both-true (isTypeKind (kindAt t (rowAt s i))) _ (v .1) .1)
+      (λ v.
+      let k : kindAt t (rowAt s i) ≡ w .kind = eqb-true _ (w .kind) (both-true (eqb (kindAt t (rowAt s i)) (w .kind)) _ (v .1) .0) in
+      absurd (let z = no-followers t (rowAt s i) (ap isFollower k ∙ w .follower (some-due (w .due) (v .0))) in omega arith))
       (pick-true (eqb (w .due) 0) _ _ e)
     where
       some-due : (n : ℕ) → eqb n 0 ≡ false → 0 < n
       some-due n q = let z = eqb-false n 0 q in omega arith
 
-  pub member-follows : (i : ℕ) → i < length s → (j : ℕ) → j < membersAt t (rowAt s i) → (i + 1 + j < length s) × (kindAt t (memberPlace s i j) ≡ 16)
-  member-follows i h j l =
-      let w = stand-due t (drop (suc i) s) 16 (membersAt t (rowAt s i)) j (behind i h j l) l in
+  pub follower-follows : (i : ℕ) → i < length s → (j : ℕ) → j < followersAt t (rowAt s i)
+      → (i + 1 + j < length s) × (kindAt t (memberPlace s i j) ≡ followerKind (kindAt t (rowAt s i)))
+  follower-follows i h j l =
+      let d : 0 < followersAt t (rowAt s i) = omega arith in
+      let w = stand-due t (drop (suc i) s) (followerKind (kindAt t (rowAt s i))) (followersAt t (rowAt s i)) j (behind i h d) l in
       let q : suc i + j ≡ i + 1 + j = omega arith in
       let n = length-drop (suc i) s in
       (omega arith, ap (λ (x : ℕ). kindAt t (getD s x 0)) (sym q) ∙ ap (kindAt t) (sym (getD-drop (suc i) s j 0)) ∙ w .1)
 
-module _ (t s : List ℕ) (points : everyRow (pointsLater t s) s ≡ true) (stands : membersStand t s ≡ true) where
+  pub member-follows : (i : ℕ) → i < length s → (j : ℕ) → j < membersAt t (rowAt s i) → (i + 1 + j < length s) × (kindAt t (memberPlace s i j) ≡ 16)
+  member-follows i h j l =
+      let g = group-of t (rowAt s i) j l in
+      let m = group-followers t (rowAt s i) g in
+      let w = follower-follows i h j (omega arith) in
+      (w .0, w .1 ∙ after-group (kindAt t (rowAt s i)) g)
+
+  pub bit-follows : (i : ℕ) → i < length s → (j : ℕ) → j < bitNamesAt t (rowAt s i) → (i + 1 + j < length s) × (kindAt t (memberPlace s i j) ≡ 18)
+  bit-follows i h j l =
+      let k = named-of t (rowAt s i) j l in
+      let m = named-followers t (rowAt s i) k in
+      let w = follower-follows i h j (omega arith) in
+      (w .0, w .1 ∙ after-named (kindAt t (rowAt s i)) k)
+
+module _ (t s : List ℕ) (points : everyRow (pointsLater t s) s ≡ true) (stands : followersStand t s ≡ true) where
   named-row : (i : ℕ) → i < length s → namesRow t (rowAt s i) ≡ true → laterType t s i (namedAt t (rowAt s i)) ≡ true
   named-row i h k = points-named t s i k (all-at (pointsLater t s) (length s) i points h)
 

@@ -1,6 +1,6 @@
 -- The first pass as one test that goes over the rows, and that it says what the clauses say.
 use mathlib.Core.Path.{_≡_, refl, sym, ap, ap₂, _∙_}
-use mathlib.Core.Bool.{Bool, true, false, false≢true}
+use mathlib.Core.Bool.{Bool, true, false}
 use mathlib.Core.Logic.{⊎-elim}
 use mathlib.Core.Option.{Option, none, some, Option·none-ne-some}
 use mathlib.Core.List.{List, [], _∷_}
@@ -8,69 +8,71 @@ use Prim.Native.Nat.{ℕ, zero, suc, _≤_, _<_, _+_, _-_, _*_}
 use native.Mathlib.Omega.{arith}
 use native.Mathlib.Numerals.{add-one}
 use native.Mathlib.Nat.{eq-or-lt-of-le, add-zero}
-use borrow.Author.Tests.{eqb-true, eqb-false, ltb-true, ltb-false, ne-eqb, lt-ltb, le-leb}
-use lib.Dec.{ltb, eqb}
+use borrow.Author.Tests.{eqb-true, eqb-false, ltb-true, ltb-false, leb-true, leb-false, ne-eqb, lt-ltb, le-ltb, le-leb}
+use lib.Dec.{ltb, leb, eqb}
 use lib.ListN.{length, drop}
 use lib.Seq.{getD-drop, drop-drop}
-use Rattle.octets.specs.Pick.{pick, both, no, all, consed}
+use Rattle.octets.specs.Pick.{pick, both, either, no, all, consed}
 use Rattle.octets.specs.Octets.{every}
 use Rattle.octets.proofs.Laws.{both-true, all-cong, never}
 use Rattle.rows.specs.Paper.{tableLimits}
-use Rattle.rows.proofs.KindLaws.{member-no-type, kind-of-row}
-use Rattle.clauses.proofs.LaterSteps.{follower-member}
-use Rattle.rows.specs.Row.{kindAt, rowAt, rowSize, isTypeKind, isGroup, isList, followerKind, membersAt, rowsFrom, rows, orNone}
-use Rattle.rows.specs.Body.{memberFormed, countFormed, rowFormed}
-use Rattle.clauses.specs.Clauses.{everyRow, wholeRows, bodyFormed, isType, firstIsType, standing, membersStand, memberPlace, sameName, differsFrom, newName, namesDiffer}
-use Rattle.clauses.specs.inner.Work.{firstPass, placeFrom, differsAt, newNameAt}
+use Rattle.rows.proofs.KindLaws.{named-followers}
+use Rattle.rows.specs.Row.{kindAt, rowAt, rowSize, isTypeKind, isGroup, isList, isFollower, followerKind, followersAt, bitNamesAt, rowsFrom, rows, orNone}
+use Rattle.rows.specs.Body.{memberFormed, bitFormed, rowFormed}
+use Rattle.clauses.specs.Clauses.{everyRow, wholeRows, bodyFormed, isType, firstIsType, standing, followersStand, memberPlace}
+use Rattle.clauses.specs.Clauses.{sameName, differsFrom, newName, namesDiffer, sameNumber, numberDiffersFrom, newNumber, numbersDiffer}
+use Rattle.clauses.specs.inner.Work.{firstPass, placeFrom, differsAt, newNameAt, numberDiffersAt, newNumberAt, memberFits, bitFits, followerSize}
+use Rattle.clauses.proofs.NameSteps.{first-place, next-place, member-size, bit-size, member-or-bit}
+use Rattle.clauses.proofs.LaterSteps.{due-follower, no-followers, after-group, after-named}
 
--- so many members are due; b members of the group whose first member stands at `first` stand before these rows
-unfoldable pub passes : List ℕ → ℕ → ℕ → ℕ → List ℕ → Bool
-passes t due first b [] = eqb due 0
-passes t due first b (p ∷ ps) =
-    let member = passes t (due - 1) first (b + 1) ps in
-    let type = passes t (membersAt t p) (p + rowSize (kindAt t p)) 0 ps in
-    pick (eqb (kindAt t p) 16)
-    (both (ltb 0 due) (both (memberFormed (tableLimits .name) t p) (both (newNameAt t first b) member)))
-    (both (eqb due 0) (both (countFormed (tableLimits .members) t p) type))
+-- rows p and q of kind k that follow one row: their names differ, and of bits their numbers
+unfoldable apart : List ℕ → ℕ → ℕ → ℕ → Bool
+apart t k p q = both (no (sameName t p q)) (either (eqb k 16) (no (sameNumber t p q)))
 
-abbrev pub goes : List ℕ → ℕ → ℕ → ℕ → Option (List ℕ) → Bool
-goes t due first b none = false
-goes t due first b (some ps) = passes t due first b ps
+-- row b differs so from each before it, where `place` gives their places
+pub newBy : List ℕ → ℕ → (ℕ → ℕ) → ℕ → Bool
+newBy t k place b = all (λ a. apart t k (place a) (place b)) b
 
-abbrev formed : List ℕ → ℕ → Bool
+abbrev pub formed : List ℕ → ℕ → Bool
 formed t p = rowFormed (tableLimits .members) (tableLimits .name) t p
+
+-- so many rows of kind k are due; b of them, of which the first stands at `first`, stand before these rows
+unfoldable pub passes : List ℕ → ℕ → ℕ → ℕ → ℕ → List ℕ → Bool
+passes t k due first b [] = eqb due 0
+passes t k due first b (p ∷ ps) =
+    let type = passes t (followerKind (kindAt t p)) (followersAt t p) (p + rowSize (kindAt t p)) 0 ps in
+    let follower = passes t k (due - 1) first (b + 1) ps in
+    pick (eqb due 0)
+    (both (isTypeKind (kindAt t p)) (both (formed t p) type))
+    (both (eqb (kindAt t p) k) (both (formed t p) (both (newBy t k (placeFrom (rowSize k) first) b) follower)))
+
+abbrev pub goes : List ℕ → ℕ → ℕ → ℕ → ℕ → Option (List ℕ) → Bool
+goes t k due first b none = false
+goes t k due first b (some ps) = passes t k due first b ps
 
 pub by-test : {P : Type 0} (x : Bool) → (x ≡ true → P) → (x ≡ false → P) → P
 by-test true f g = f refl
 by-test false f g = g refl
 
--- so many members are due before these rows
-unfoldable stands : List ℕ → ℕ → List ℕ → Bool
-stands t due [] = eqb due 0
-stands t due (p ∷ ps) =
-    let member = stands t (due - 1) ps in
-    let type = stands t (membersAt t p) ps in
-    pick (eqb (kindAt t p) 16) (both (ltb 0 due) member) (both (eqb due 0) type)
+-- ---- the test is those of bodies, of where rows stand, and of names and numbers
+-- the names and numbers are new
+unfoldable rowsNew : List ℕ → ℕ → ℕ → ℕ → ℕ → List ℕ → Bool
+rowsNew t k due first b [] = true
+rowsNew t k due first b (p ∷ ps) =
+    let type = rowsNew t (followerKind (kindAt t p)) (followersAt t p) (p + rowSize (kindAt t p)) 0 ps in
+    let follower = rowsNew t k (due - 1) first (b + 1) ps in
+    pick (eqb due 0) type (both (newBy t k (placeFrom (rowSize k) first) b) follower)
 
--- ---- the test is those of bodies, of where members stand and of names
--- the names are new
-unfoldable namesNew : List ℕ → ℕ → ℕ → List ℕ → Bool
-namesNew t first b [] = true
-namesNew t first b (p ∷ ps) =
-    let member = namesNew t first (b + 1) ps in
-    let type = namesNew t (p + rowSize (kindAt t p)) 0 ps in
-    pick (eqb (kindAt t p) 16) (both (newNameAt t first b) member) type
-
-shuffle-member : (d m n e s x : Bool) → both d (both m (both n (both e (both s x)))) ≡ both (both m e) (both (both d s) (both n x))
-shuffle-member true true true true s x = refl
-shuffle-member true true true false s x = refl
-shuffle-member true true false true true x = refl
-shuffle-member true true false true false x = refl
-shuffle-member true true false false s x = refl
-shuffle-member true false n e s x = refl
-shuffle-member false true n true s x = refl
-shuffle-member false true n false s x = refl
-shuffle-member false false n e s x = refl
+shuffle-follower : (d m n e s x : Bool) → both d (both m (both n (both e (both s x)))) ≡ both (both m e) (both (both d s) (both n x))
+shuffle-follower true true true true s x = refl
+shuffle-follower true true true false s x = refl
+shuffle-follower true true false true true x = refl
+shuffle-follower true true false true false x = refl
+shuffle-follower true true false false s x = refl
+shuffle-follower true false n e s x = refl
+shuffle-follower false true n true s x = refl
+shuffle-follower false true n false s x = refl
+shuffle-follower false false n e s x = refl
 
 shuffle-type : (d m e s x : Bool) → both d (both m (both e (both s x))) ≡ both (both m e) (both (both d s) x)
 shuffle-type true true e s x = refl
@@ -79,29 +81,32 @@ shuffle-type false true true s x = refl
 shuffle-type false true false s x = refl
 shuffle-type false false e s x = refl
 
-pick-both : (k m c e dm zs nx x : Bool) (l r : Bool) → l ≡ both (both m e) (both dm nx) → r ≡ both (both c e) (both zs x)
-    → pick k l r ≡ both (both (pick k m c) e) (both (pick k dm zs) (pick k nx x))
-pick-both true m c e dm zs nx x l r f g = f
-pick-both false m c e dm zs nx x l r f g = g
+pick-both : (z f e u v n m l r : Bool) → l ≡ both (both f e) (both u n) → r ≡ both (both f e) (both v m)
+    → pick z l r ≡ both (both f e) (both (pick z u v) (pick z n m))
+pick-both true f e u v n m l r h g = h
+pick-both false f e u v n m l r h g = g
 
-passes-split : (t : List ℕ) (due first b : ℕ) (s : List ℕ)
-    → passes t due first b s ≡ both (every (formed t) s) (both (stands t due s) (namesNew t first b s))
-unfolding passes every stands namesNew rowFormed
-passes-split t due first b [] = go (eqb due 0)
-  where
-    go : (x : Bool) → x ≡ both x true
-    go true = refl
-    go false = refl
-passes-split t due first b (p ∷ ps) =
-    pick-both (eqb (kindAt t p) 16) (memberFormed (tableLimits .name) t p) (countFormed (tableLimits .members) t p) (every (formed t) ps)
-    (both (ltb 0 due) (stands t (due - 1) ps)) (both (eqb due 0) (stands t (membersAt t p) ps))
-    (both (newNameAt t first b) (namesNew t first (b + 1) ps)) (namesNew t (p + rowSize (kindAt t p)) 0 ps)
-    (both (ltb 0 due) (both (memberFormed (tableLimits .name) t p) (both (newNameAt t first b) (passes t (due - 1) first (b + 1) ps))))
-    (both (eqb due 0) (both (countFormed (tableLimits .members) t p) (passes t (membersAt t p) (p + rowSize (kindAt t p)) 0 ps)))
-    (ap (λ (x : Bool). both (ltb 0 due) (both (memberFormed (tableLimits .name) t p) (both (newNameAt t first b) x))) (passes-split t (due - 1) first (b + 1) ps)
-    ∙ shuffle-member (ltb 0 due) (memberFormed (tableLimits .name) t p) (newNameAt t first b) (every (formed t) ps) (stands t (due - 1) ps) (namesNew t first (b + 1) ps))
-    (ap (λ (x : Bool). both (eqb due 0) (both (countFormed (tableLimits .members) t p) x)) (passes-split t (membersAt t p) (p + rowSize (kindAt t p)) 0 ps)
-    ∙ shuffle-type (eqb due 0) (countFormed (tableLimits .members) t p) (every (formed t) ps) (stands t (membersAt t p) ps) (namesNew t (p + rowSize (kindAt t p)) 0 ps))
+pub both-end : (x : Bool) → both x true ≡ x
+both-end true = refl
+both-end false = refl
+
+passes-split : (t : List ℕ) (k due first b : ℕ) (s : List ℕ)
+    → passes t k due first b s ≡ both (every (formed t) s) (both (standing t k due s) (rowsNew t k due first b s))
+unfolding passes every standing rowsNew
+passes-split t k due first b [] = sym (both-end (eqb due 0))
+passes-split t k due first b (p ∷ ps) =
+    pick-both (eqb due 0) (formed t p) (every (formed t) ps)
+    (both (isTypeKind (kindAt t p)) (standing t (followerKind (kindAt t p)) (followersAt t p) ps)) (both (eqb (kindAt t p) k) (standing t k (due - 1) ps))
+    (rowsNew t (followerKind (kindAt t p)) (followersAt t p) (p + rowSize (kindAt t p)) 0 ps)
+    (both (newBy t k (placeFrom (rowSize k) first) b) (rowsNew t k (due - 1) first (b + 1) ps))
+    (both (isTypeKind (kindAt t p)) (both (formed t p) (passes t (followerKind (kindAt t p)) (followersAt t p) (p + rowSize (kindAt t p)) 0 ps)))
+    (both (eqb (kindAt t p) k) (both (formed t p) (both (newBy t k (placeFrom (rowSize k) first) b) (passes t k (due - 1) first (b + 1) ps))))
+    (ap (λ (x : Bool). both (isTypeKind (kindAt t p)) (both (formed t p) x))
+    (passes-split t (followerKind (kindAt t p)) (followersAt t p) (p + rowSize (kindAt t p)) 0 ps)
+    ∙ shuffle-type (isTypeKind (kindAt t p)) (formed t p) (every (formed t) ps) _ _)
+    (ap (λ (x : Bool). both (eqb (kindAt t p) k) (both (formed t p) (both (newBy t k (placeFrom (rowSize k) first) b) x)))
+    (passes-split t k (due - 1) first (b + 1) ps)
+    ∙ shuffle-follower (eqb (kindAt t p) k) (formed t p) (newBy t k (placeFrom (rowSize k) first) b) (every (formed t) ps) _ _)
 
 -- ---- tests of all rows, from the first on
 swap : (x y z : Bool) → both x (both y z) ≡ both y (both x z)
@@ -122,16 +127,80 @@ bodies : (t s : List ℕ) → every (formed t) s ≡ everyRow (bodyFormed (table
 unfolding bodyFormed
 bodies t s = every-all (formed t) s
 
--- ---- names: members by their number in the rows gs from a group's first member on
-unfoldable differsIn : List ℕ → List ℕ → ℕ → ℕ → Bool
-differsIn t gs b a = no (sameName t (rowAt gs a) (rowAt gs b))
+-- ---- names and numbers together
+crossed : (a b c d : Bool) → both (both a b) (both c d) ≡ both (both a c) (both b d)
+crossed true true c d = refl
+crossed true false c d = sym (never c)
+crossed false b c d = refl
 
-unfoldable newIn : List ℕ → List ℕ → ℕ → Bool
-newIn t gs b = all (differsIn t gs b) b
+pub all-both : (f g : ℕ → Bool) (n : ℕ) → all (λ (i : ℕ). both (f i) (g i)) n ≡ both (all f n) (all g n)
+unfolding all
+all-both f g zero = refl
+all-both f g (suc n) = ap (both (both (f n) (g n))) (all-both f g n) ∙ crossed (f n) (g n) (all f n) (all g n)
 
-unfoldable namesIn : List ℕ → List ℕ → Bool
-namesIn t [] = true
-namesIn t (p ∷ ps) = let r = namesIn t ps in both (all (newIn t ps) (membersAt t p)) r
+module _ (t : List ℕ) (k : ℕ) where
+  new-cong : (f g : ℕ → ℕ) (b : ℕ) → ((a : ℕ) → a ≤ b → f a ≡ g a) → newBy t k f b ≡ newBy t k g b
+  unfolding newBy
+  new-cong f g b h =
+      let own : f b ≡ g b = h b (omega arith) in
+      all-cong (λ a. apart t k (f a) (f b)) (λ a. apart t k (g a) (g b)) b (λ a l. ap₂ (apart t k) (h a (omega arith)) own)
+
+  module _ (place : ℕ → ℕ) (b : ℕ) where
+    -- of members names alone, of bits both
+    new-member : k ≡ 16 → newBy t k place b ≡ all (λ a. no (sameName t (place a) (place b))) b
+    unfolding newBy apart
+    new-member e = rw e (all-cong _ (λ a. no (sameName t (place a) (place b))) b (λ a l. both-end (no (sameName t (place a) (place b)))))
+
+    new-bit : k ≡ 18 → newBy t k place b ≡ both (all (λ a. no (sameName t (place a) (place b))) b) (all (λ a. no (sameNumber t (place a) (place b))) b)
+    unfolding newBy apart
+    new-bit e = rw e (all-both (λ a. no (sameName t (place a) (place b))) (λ a. no (sameNumber t (place a) (place b))) b)
+
+-- the rows that follow row i
+unfoldable followersDiffer : List ℕ → List ℕ → ℕ → Bool
+followersDiffer t s i = all (newBy t (followerKind (kindAt t (rowAt s i))) (memberPlace s i)) (followersAt t (rowAt s i))
+
+module _ (t s : List ℕ) (i : ℕ) where
+  -- names of bits follow
+  differ-named : kindAt t (rowAt s i) ≡ 17 → followersDiffer t s i ≡ both (namesDiffer t s i) (numbersDiffer t s i)
+  unfolding followersDiffer namesDiffer numbersDiffer newName differsFrom newNumber numberDiffersFrom
+  differ-named k =
+      all-cong (newBy t (followerKind (kindAt t (rowAt s i))) (memberPlace s i)) (λ b. both (newName t s i b) (newNumber t s i b)) (followersAt t (rowAt s i))
+      (λ b h. new-bit t (followerKind (kindAt t (rowAt s i))) (memberPlace s i) b (after-named (kindAt t (rowAt s i)) k))
+      ∙ all-both (newName t s i) (newNumber t s i) (followersAt t (rowAt s i))
+      ∙ ap (λ (n : ℕ). both (all (newName t s i) (followersAt t (rowAt s i))) (all (newNumber t s i) n)) (named-followers t (rowAt s i) k)
+
+  module _ (k : eqb (kindAt t (rowAt s i)) 17 ≡ false) where
+    numbers-none : numbersDiffer t s i ≡ true
+    unfolding numbersDiffer bitNamesAt all
+    numbers-none = rw k
+
+    none-follow : isGroup (kindAt t (rowAt s i)) ≡ false → followersAt t (rowAt s i) ≡ 0
+    unfolding followersAt followerKind
+    none-follow g = rw (g, k)
+
+    -- members follow, or none
+    differ-names : followersDiffer t s i ≡ namesDiffer t s i
+    unfolding followersDiffer namesDiffer newName differsFrom
+    differ-names = by-test (isGroup (kindAt t (rowAt s i)))
+        (λ g. all-cong (newBy t (followerKind (kindAt t (rowAt s i))) (memberPlace s i)) (newName t s i) (followersAt t (rowAt s i))
+        (λ b h. new-member t (followerKind (kindAt t (rowAt s i))) (memberPlace s i) b (after-group (kindAt t (rowAt s i)) g)))
+        (λ g. all-cong (newBy t (followerKind (kindAt t (rowAt s i))) (memberPlace s i)) (newName t s i) (followersAt t (rowAt s i))
+        (λ b h. absurd (let z = none-follow g in omega arith)))
+
+  differ-split : followersDiffer t s i ≡ both (namesDiffer t s i) (numbersDiffer t s i)
+  differ-split = by-test (eqb (kindAt t (rowAt s i)) 17)
+      (λ k. differ-named (eqb-true (kindAt t (rowAt s i)) 17 k))
+      (λ k. differ-names k ∙ sym (ap (both (namesDiffer t s i)) (numbers-none k) ∙ both-end (namesDiffer t s i)))
+
+all-differ : (t s : List ℕ) → everyRow (followersDiffer t s) s ≡ both (everyRow (namesDiffer t s) s) (everyRow (numbersDiffer t s) s)
+all-differ t s =
+    all-cong (followersDiffer t s) (λ i. both (namesDiffer t s i) (numbersDiffer t s i)) (length s) (λ i h. differ-split t s i)
+    ∙ all-both (namesDiffer t s) (numbersDiffer t s) (length s)
+
+-- ---- by the list of the rows: those that follow a row by their number in the rows behind it
+unfoldable listsNew : List ℕ → List ℕ → Bool
+listsNew t [] = true
+listsNew t (p ∷ ps) = let r = listsNew t ps in both (all (newBy t (followerKind (kindAt t p)) (rowAt ps)) (followersAt t p)) r
 
 place-first : (p : ℕ) (ps : List ℕ) (j : ℕ) → memberPlace (p ∷ ps) 0 j ≡ rowAt ps j
 place-first p ps j = let e : 0 + 1 + j ≡ suc j = omega arith in ap (rowAt (p ∷ ps)) e
@@ -139,22 +208,26 @@ place-first p ps j = let e : 0 + 1 + j ≡ suc j = omega arith in ap (rowAt (p �
 place-next : (p : ℕ) (ps : List ℕ) (i j : ℕ) → memberPlace (p ∷ ps) (suc i) j ≡ memberPlace ps i j
 place-next p ps i j = let e : suc i + 1 + j ≡ suc (i + 1 + j) = omega arith in ap (rowAt (p ∷ ps)) e
 
-names-first : (t : List ℕ) (p : ℕ) (ps : List ℕ) → namesDiffer t (p ∷ ps) 0 ≡ all (newIn t ps) (membersAt t p)
-unfolding namesDiffer newName differsFrom newIn differsIn
-names-first t p ps =
-    all-cong (newName t (p ∷ ps) 0) (newIn t ps) (membersAt t p) (λ b h. all-cong (differsFrom t (p ∷ ps) 0 b) (differsIn t ps b) b (λ a l. ap₂ (λ (x y : ℕ). no (sameName t x y)) (place-first p ps a) (place-first p ps b)))
+differ-first : (t : List ℕ) (p : ℕ) (ps : List ℕ) → followersDiffer t (p ∷ ps) 0 ≡ all (newBy t (followerKind (kindAt t p)) (rowAt ps)) (followersAt t p)
+unfolding followersDiffer
+differ-first t p ps =
+    all-cong (newBy t (followerKind (kindAt t p)) (memberPlace (p ∷ ps) 0)) (newBy t (followerKind (kindAt t p)) (rowAt ps)) (followersAt t p)
+    (λ b h. new-cong t (followerKind (kindAt t p)) (memberPlace (p ∷ ps) 0) (rowAt ps) b (λ a l. place-first p ps a))
 
-names-next : (t : List ℕ) (p : ℕ) (ps : List ℕ) (i : ℕ) → namesDiffer t (p ∷ ps) (suc i) ≡ namesDiffer t ps i
-unfolding namesDiffer newName differsFrom
-names-next t p ps i =
-    all-cong (newName t (p ∷ ps) (suc i)) (newName t ps i) (membersAt t (rowAt ps i)) (λ b h. all-cong (differsFrom t (p ∷ ps) (suc i) b) (differsFrom t ps i b) b (λ a l. ap₂ (λ (x y : ℕ). no (sameName t x y)) (place-next p ps i a) (place-next p ps i b)))
+differ-next : (t : List ℕ) (p : ℕ) (ps : List ℕ) (i : ℕ) → followersDiffer t (p ∷ ps) (suc i) ≡ followersDiffer t ps i
+unfolding followersDiffer
+differ-next t p ps i =
+    all-cong (newBy t (followerKind (kindAt t (rowAt ps i))) (memberPlace (p ∷ ps) (suc i)))
+    (newBy t (followerKind (kindAt t (rowAt ps i))) (memberPlace ps i)) (followersAt t (rowAt ps i))
+    (λ b h. new-cong t (followerKind (kindAt t (rowAt ps i))) (memberPlace (p ∷ ps) (suc i)) (memberPlace ps i) b (λ a l. place-next p ps i a))
 
-names-in : (t s : List ℕ) → everyRow (namesDiffer t s) s ≡ namesIn t s
-unfolding namesIn all
-names-in t [] = refl
-names-in t (p ∷ ps) =
-    all-front (namesDiffer t (p ∷ ps)) (length ps)
-    ∙ ap₂ both (names-first t p ps) (all-cong (λ i. namesDiffer t (p ∷ ps) (suc i)) (namesDiffer t ps) (length ps) (λ i h. names-next t p ps i) ∙ names-in t ps)
+differ-lists : (t s : List ℕ) → everyRow (followersDiffer t s) s ≡ listsNew t s
+unfolding listsNew all
+differ-lists t [] = refl
+differ-lists t (p ∷ ps) =
+    all-front (followersDiffer t (p ∷ ps)) (length ps)
+    ∙ ap₂ both (differ-first t p ps)
+    (all-cong (λ i. followersDiffer t (p ∷ ps) (suc i)) (followersDiffer t ps) (length ps) (λ i h. differ-next t p ps i) ∙ differ-lists t ps)
 
 -- ---- the tests of d numbers from b on
 unfoldable allFrom : (ℕ → Bool) → ℕ → ℕ → Bool
@@ -163,11 +236,7 @@ allFrom f b (suc d) = let r = allFrom f (b + 1) d in both (f b) r
 
 all-on : (f : ℕ → Bool) (b d : ℕ) → both (all f b) (allFrom f b d) ≡ all f (b + d)
 unfolding allFrom all
-all-on f b zero = go (all f b) ∙ sym (ap (all f) (add-zero b))
-  where
-    go : (x : Bool) → both x true ≡ x
-    go true = refl
-    go false = refl
+all-on f b zero = both-end (all f b) ∙ sym (ap (all f) (add-zero b))
 all-on f b (suc d) =
     let e : suc b + d ≡ b + suc d = omega arith in
     ap (λ (x : ℕ). both (all f b) (both (f b) (allFrom f x d))) (add-one b)
@@ -203,7 +272,8 @@ rows-view zero t at p ps e = absurd (go (ltb at (length t)) e)
     go true q = Option·none-ne-some (p ∷ ps) q
     go false q = let z : 0 ≡ length (p ∷ ps) = ap (λ (o : Option (List ℕ)). length (orNone o)) q in omega arith
 rows-view (suc m) t at p ps e =
-    go (ltb at (length t)) refl (eqb (rowSize (kindAt t at)) 0) refl (ltb (length t - at) (rowSize (kindAt t at))) refl (rowsFrom m t (at + rowSize (kindAt t at))) refl e
+    go (ltb at (length t)) refl (eqb (rowSize (kindAt t at)) 0) refl (ltb (length t - at) (rowSize (kindAt t at))) refl
+    (rowsFrom m t (at + rowSize (kindAt t at))) refl e
   where
     go : (x : Bool) → ltb at (length t) ≡ x → (y : Bool) → eqb (rowSize (kindAt t at)) 0 ≡ y → (z : Bool) → ltb (length t - at) (rowSize (kindAt t at)) ≡ z
         → (o : Option (List ℕ)) → rowsFrom m t (at + rowSize (kindAt t at)) ≡ o
@@ -224,7 +294,11 @@ rows-view (suc m) t at p ps e =
 
 rows-few : (m : ℕ) (t : List ℕ) (at : ℕ) (s : List ℕ) → rowsFrom m t at ≡ some s → length s ≤ m
 rows-few m t at [] e = omega arith
-rows-few m t at (p ∷ ps) e = let v = rows-view m t at p ps e in let r = rows-few (v .left) t (at + rowSize (kindAt t at)) ps (v .rest) in let f = v .fuel in omega arith
+rows-few m t at (p ∷ ps) e =
+    let v = rows-view m t at p ps e in
+    let r = rows-few (v .left) t (at + rowSize (kindAt t at)) ps (v .rest) in
+    let f = v .fuel in
+    omega arith
 
 -- each row of a table is whole
 whole-row : (m : ℕ) (t : List ℕ) (at : ℕ) (s : List ℕ) (j : ℕ) → rowsFrom m t at ≡ some s → j < length s → rowAt s j + rowSize (kindAt t (rowAt s j)) ≤ length t
@@ -241,70 +315,29 @@ row-whole m t j = go (rowsFrom m t 0) refl
     go (some s) e h = whole-row m t 0 s j e h
 
 pub member-whole : (m : ℕ) (t : List ℕ) (j : ℕ) → j < length (rows m t) → kindAt t (rowAt (rows m t) j) ≡ 16 → rowAt (rows m t) j + 39 ≤ length t
-unfolding rowSize isGroup isList
-member-whole m t j h k = rw k at (row-whole m t j h)
+member-whole m t j h k = rw (member-size (kindAt t (rowAt (rows m t) j)) k) at (row-whole m t j h)
 
--- ---- where members stand, by members that are due
-stand-same : (t s : List ℕ) (m at k due : ℕ) → rowsFrom m t at ≡ some s → (0 < due → k ≡ 16) → standing t k due s ≡ stands t due s
-unfolding standing stands
-stand-same t [] m at k due rs f = refl
-stand-same t (p ∷ ps) m at k zero rs f =
-    by-test (eqb (kindAt t p) 16)
-    (λ q. rw (q, member-no-type (kindAt t p) (eqb-true (kindAt t p) 16 q)))
-    (λ q.
-    let v = rows-view m t at p ps rs in
-    let type : isTypeKind (kindAt t p) ≡ true = kind-of-row (kindAt t p) (λ z. v .sized (ap (λ (x : ℕ). rowSize (kindAt t x)) (sym (v .place)) ∙ z)) q in
-    rw (q, type) (stand-same t ps (v .left) (at + rowSize (kindAt t at)) (followerKind (kindAt t p)) (membersAt t p) (v .rest) (follower-member t p)))
-stand-same t (p ∷ ps) m at k (suc d) rs f =
-    let v = rows-view m t at p ps rs in
-    let some-due : suc d ≡ 0 → ⊥ = λ z. omega arith in
-    let pos : 0 < suc d = omega arith in
-    let kind : k ≡ 16 = f pos in
-    let next = stand-same t ps (v .left) (at + rowSize (kindAt t at)) k (suc d - 1) (v .rest) (λ l. kind) in
-    by-test (eqb (kindAt t p) 16)
-    (λ q. rw (ne-eqb (suc d) 0 some-due, lt-ltb 0 (suc d) pos, q, ap (eqb (kindAt t p)) kind ∙ q) next)
-    (λ q. rw (ne-eqb (suc d) 0 some-due, q, ap (eqb (kindAt t p)) kind ∙ q))
+-- ---- a row where rows are due
+more-due : (d : ℕ) → eqb (suc d) 0 ≡ false
+more-due d = let z : suc d ≡ 0 → ⊥ = λ q. omega arith in ne-eqb (suc d) 0 z
 
--- ---- the new names are the names that differ, where members stand as they should
-module _ (t : List ℕ) (p : ℕ) (ps : List ℕ) (k : eqb (kindAt t p) 16 ≡ true) where
-  names-member : (first b : ℕ) → namesNew t first b (p ∷ ps) ≡ both (newNameAt t first b) (namesNew t first (b + 1) ps)
-  unfolding namesNew
-  names-member first b = rw k
+one-less : (d : ℕ) → suc d - 1 ≡ d
+one-less d = omega arith
 
-  stand-none : stands t 0 (p ∷ ps) ≡ true → ⊥
-  unfolding stands
-  stand-none e = false≢true (rw k at e)
+module _ (t : List ℕ) (p : ℕ) (ps : List ℕ) (k d : ℕ) where
+  stand-next : standing t k (suc d) (p ∷ ps) ≡ true → (kindAt t p ≡ k) × (standing t k d ps ≡ true)
+  unfolding standing
+  stand-next e =
+      let w = both-true (eqb (kindAt t p) k) (standing t k (suc d - 1) ps) (rw (more-due d) at e) in
+      (eqb-true (kindAt t p) k (w .0), ap (λ (x : ℕ). standing t k x ps) (sym (one-less d)) ∙ w .1)
 
-  stand-next : (d : ℕ) → stands t (suc d) (p ∷ ps) ≡ true → stands t d ps ≡ true
-  unfolding stands
-  stand-next d e =
-      let z : suc d - 1 ≡ d = omega arith in
-      ap (λ (x : ℕ). stands t x ps) (sym z) ∙ both-true (ltb 0 (suc d)) (stands t (suc d - 1) ps) (rw k at e) .1
+  new-next : (first b : ℕ) → rowsNew t k (suc d) first b (p ∷ ps) ≡ both (newBy t k (placeFrom (rowSize k) first) b) (rowsNew t k d first (b + 1) ps)
+  unfolding rowsNew
+  new-next first b = rw (more-due d, one-less d)
 
-  member-size : rowSize (kindAt t p) ≡ 39
-  unfolding rowSize isGroup isList
-  member-size = rw (eqb-true (kindAt t p) 16 k)
-
-  member-none : membersAt t p ≡ 0
-  unfolding membersAt isGroup
-  member-none = rw (eqb-true (kindAt t p) 16 k)
-
-module _ (t : List ℕ) (p : ℕ) (ps : List ℕ) (k : eqb (kindAt t p) 16 ≡ false) where
-  names-type : (first b : ℕ) → namesNew t first b (p ∷ ps) ≡ namesNew t (p + rowSize (kindAt t p)) 0 ps
-  unfolding namesNew
-  names-type first b = rw k
-
-  stand-missing : (d : ℕ) → stands t (suc d) (p ∷ ps) ≡ true → ⊥
-  unfolding stands
-  stand-missing d e = let z : suc d ≡ 0 → ⊥ = λ q. omega arith in false≢true (rw (k, ne-eqb (suc d) 0 z) at e)
-
-  stand-group : stands t 0 (p ∷ ps) ≡ true → stands t (membersAt t p) ps ≡ true
-  unfolding stands
-  stand-group e = rw k at e
-
--- members found so far stand 39 octets apart
-abbrev Apart : List ℕ → ℕ → ℕ → Type 0
-Apart gs first b = (a : ℕ) → a < b → rowAt gs a ≡ placeFrom first a
+-- rows of kind k found so far stand one after another
+abbrev Adjoining : ℕ → List ℕ → ℕ → ℕ → Type 0
+Adjoining k gs first b = (a : ℕ) → a < b → rowAt gs a ≡ placeFrom (rowSize k) first a
 
 module _ (p : ℕ) (ps gs : List ℕ) (b : ℕ) (e : p ∷ ps ≡ drop b gs) where
   head-is : p ≡ rowAt gs b
@@ -313,45 +346,43 @@ module _ (p : ℕ) (ps gs : List ℕ) (b : ℕ) (e : p ∷ ps ≡ drop b gs) whe
   tail-is : ps ≡ drop (b + 1) gs
   tail-is = ap (drop 1) e ∙ drop-drop 1 b gs
 
-  apart-more : (first : ℕ) → p ≡ placeFrom first b → Apart gs first b → Apart gs first (b + 1)
-  apart-more first q f a h = ⊎-elim (λ (z : a ≡ b). ap (rowAt gs) z ∙ sym head-is ∙ q ∙ ap (placeFrom first) (sym z)) (λ l. f a l) (eq-or-lt-of-le (omega arith))
+  adjoining-more : (k first : ℕ) → p ≡ placeFrom (rowSize k) first b → Adjoining k gs first b → Adjoining k gs first (b + 1)
+  adjoining-more k first q f a h =
+      ⊎-elim (λ (z : a ≡ b). ap (rowAt gs) z ∙ sym head-is ∙ q ∙ ap (placeFrom (rowSize k) first) (sym z)) (λ l. f a l) (eq-or-lt-of-le (omega arith))
 
-  new-is : (t : List ℕ) (first : ℕ) → p ≡ placeFrom first b → Apart gs first b → newNameAt t first b ≡ newIn t gs b
-  unfolding newNameAt differsAt newIn differsIn
-  new-is t first q f = all-cong (differsAt t first b) (differsIn t gs b) b (λ a l. ap₂ (λ (x y : ℕ). no (sameName t x y)) (sym (f a l)) (sym q ∙ head-is))
+  new-is : (t : List ℕ) (k first : ℕ) → p ≡ placeFrom (rowSize k) first b → Adjoining k gs first b
+      → newBy t k (placeFrom (rowSize k) first) b ≡ newBy t k (rowAt gs) b
+  new-is t k first q f = new-cong t k (placeFrom (rowSize k) first) (rowAt gs) b (λ a l. sym (adjoining-more k first q f a (omega arith)))
 
-names-are : (t : List ℕ) (ps gs : List ℕ) (m at first b due : ℕ) → stands t due ps ≡ true → rowsFrom m t at ≡ some ps → at ≡ placeFrom first b → ps ≡ drop b gs → Apart gs first b
-    → namesNew t first b ps ≡ both (allFrom (newIn t gs) b due) (namesIn t ps)
-unfolding namesNew namesIn allFrom stands all
-names-are t [] gs m at first b due st rs pl dr ap' = go due (eqb-true due 0 st)
+new-are : (t : List ℕ) (ps gs : List ℕ) (m at k first b due : ℕ) → standing t k due ps ≡ true → (0 < due → isFollower k ≡ true)
+    → rowsFrom m t at ≡ some ps → at ≡ placeFrom (rowSize k) first b → ps ≡ drop b gs → Adjoining k gs first b
+    → rowsNew t k due first b ps ≡ both (allFrom (newBy t k (rowAt gs)) b due) (listsNew t ps)
+unfolding rowsNew listsNew allFrom standing all
+new-are t [] gs m at k first b due st fo rs pl dr f = go due (eqb-true due 0 st)
   where
-    go : (d : ℕ) → d ≡ 0 → true ≡ both (allFrom (newIn t gs) b d) true
+    go : (d : ℕ) → d ≡ 0 → true ≡ both (allFrom (newBy t k (rowAt gs)) b d) true
     go zero e = refl
     go (suc d) e = absurd (omega arith)
-names-are t (p ∷ ps) gs m at first b zero st rs pl dr ap' =
-    by-test (eqb (kindAt t p) 16)
-    (λ k. absurd (stand-none t p ps k st))
-    (λ k.
+new-are t (p ∷ ps) gs m at k first b zero st fo rs pl dr f =
     let v = rows-view m t at p ps rs in
-    names-type t p ps k first b
-    ∙ names-are t ps ps (v .left) (at + rowSize (kindAt t at)) (p + rowSize (kindAt t p)) 0 (membersAt t p) (stand-group t p ps k st) (v .rest)
-    (ap (λ (x : ℕ). x + rowSize (kindAt t x)) (sym (v .place)) ∙ first-place (p + rowSize (kindAt t p))) refl (λ a h. absurd (omega arith))
-    ∙ ap (λ (x : Bool). both x (namesIn t ps)) (all-from (newIn t ps) (membersAt t p)))
-  where
-    first-place : (x : ℕ) → x ≡ x + 39 * 0
-    first-place x = omega arith
-names-are t (p ∷ ps) gs m at first b (suc d) st rs pl dr ap' =
-    by-test (eqb (kindAt t p) 16)
-    (λ k.
+    new-are t ps ps (v .left) (at + rowSize (kindAt t at)) (followerKind (kindAt t p)) (p + rowSize (kindAt t p)) 0 (followersAt t p)
+    (both-true (isTypeKind (kindAt t p)) _ st .1) (due-follower t p) (v .rest)
+    (ap (λ (x : ℕ). x + rowSize (kindAt t x)) (sym (v .place)) ∙ first-place (rowSize (followerKind (kindAt t p))) (p + rowSize (kindAt t p)))
+    refl (λ a h. absurd (omega arith))
+    ∙ ap (λ (x : Bool). both x (listsNew t ps)) (all-from (newBy t (followerKind (kindAt t p)) (rowAt ps)) (followersAt t p))
+new-are t (p ∷ ps) gs m at k first b (suc d) st fo rs pl dr f =
     let v = rows-view m t at p ps rs in
-    let here : p ≡ placeFrom first b = v .place ∙ pl in
-    let size : rowSize (kindAt t at) ≡ 39 = ap (λ (x : ℕ). rowSize (kindAt t x)) (sym (v .place)) ∙ member-size t p ps k in
-    names-member t p ps k first b
-    ∙ ap₂ both (new-is p ps gs b dr t first here ap')
-    (names-are t ps gs (v .left) (at + rowSize (kindAt t at)) first (b + 1) d (stand-next t p ps k d st) (v .rest) (omega arith) (tail-is p ps gs b dr) (apart-more p ps gs b dr first here ap'))
-    ∙ glue (newIn t gs b) (allFrom (newIn t gs) (b + 1) d) (namesIn t ps)
-    ∙ ap (λ (n : ℕ). both (both (newIn t gs b) (allFrom (newIn t gs) (b + 1) d)) (both (all (newIn t ps) n) (namesIn t ps))) (sym (member-none t p ps k)))
-    (λ k. absurd (stand-missing t p ps k d st))
+    let w = stand-next t p ps k d st in
+    let here : p ≡ placeFrom (rowSize k) first b = v .place ∙ pl in
+    let size : rowSize (kindAt t at) ≡ rowSize k = ap (λ (x : ℕ). rowSize (kindAt t x)) (sym (v .place)) ∙ ap rowSize (w .0) in
+    let none : followersAt t p ≡ 0 = no-followers t p (ap isFollower (w .0) ∙ fo (omega arith)) in
+    new-next t p ps k d first b
+    ∙ ap₂ both (new-is p ps gs b dr t k first here f)
+    (new-are t ps gs (v .left) (at + rowSize (kindAt t at)) k first (b + 1) d (w .1) (λ l. fo (omega arith)) (v .rest)
+    (ap (λ (x : ℕ). at + x) size ∙ next-place (rowSize k) first b at pl) (tail-is p ps gs b dr) (adjoining-more p ps gs b dr k first here f))
+    ∙ glue (newBy t k (rowAt gs) b) (allFrom (newBy t k (rowAt gs)) (b + 1) d) (listsNew t ps)
+    ∙ ap (λ (n : ℕ). both (both (newBy t k (rowAt gs) b) (allFrom (newBy t k (rowAt gs)) (b + 1) d))
+    (both (all (newBy t (followerKind (kindAt t p)) (rowAt ps)) n) (listsNew t ps))) (sym none)
   where
     glue : (x y z : Bool) → both x (both y z) ≡ both (both x y) (both true z)
     glue true y z = refl
@@ -359,17 +390,11 @@ names-are t (p ∷ ps) gs m at first b (suc d) st rs pl dr ap' =
 
 -- ---- the clauses together
 module _ (t : List ℕ) (p : ℕ) (ps : List ℕ) (found : rowsFrom (tableLimits .rows) t 0 ≡ some (p ∷ ps)) where
-  stand-is : standing t 0 0 (p ∷ ps) ≡ stands t 0 (p ∷ ps)
-  stand-is = stand-same t (p ∷ ps) (tableLimits .rows) 0 0 0 found (λ h. absurd (omega arith))
-
-  first-type : stands t 0 (p ∷ ps) ≡ true → firstIsType t (p ∷ ps) ≡ true
-  unfolding firstIsType isType
+  first-type : standing t 0 0 (p ∷ ps) ≡ true → firstIsType t (p ∷ ps) ≡ true
+  unfolding standing firstIsType isType
   first-type st =
-      let v = rows-view (tableLimits .rows) t 0 p ps found in
       let h : 0 < length (p ∷ ps) = omega arith in
-      by-test (eqb (kindAt t p) 16)
-      (λ k. absurd (stand-none t p ps k st))
-      (λ k. rw (lt-ltb 0 (length (p ∷ ps)) h) (kind-of-row (kindAt t p) (λ z. v .sized (ap (λ (x : ℕ). rowSize (kindAt t x)) (sym (v .place)) ∙ z)) k))
+      rw (lt-ltb 0 (length (p ∷ ps)) h) (both-true (isTypeKind (kindAt t p)) _ st .0)
 
   whole : wholeRows (tableLimits .rows) (p ∷ ps) ≡ true
   unfolding wholeRows
@@ -378,37 +403,89 @@ module _ (t : List ℕ) (p : ℕ) (ps : List ℕ) (found : rowsFrom (tableLimits
       let l : 1 ≤ length (p ∷ ps) = omega arith in
       ap₂ both (le-leb 1 (length (p ∷ ps)) l) (le-leb (length (p ∷ ps)) (tableLimits .rows) h)
 
-  new-names : stands t 0 (p ∷ ps) ≡ true → namesNew t 0 0 (p ∷ ps) ≡ everyRow (namesDiffer t (p ∷ ps)) (p ∷ ps)
+  abbrev differ : Bool
+  differ = both (everyRow (namesDiffer t (p ∷ ps)) (p ∷ ps)) (everyRow (numbersDiffer t (p ∷ ps)) (p ∷ ps))
+
+  new-rows : standing t 0 0 (p ∷ ps) ≡ true → rowsNew t 0 0 0 0 (p ∷ ps) ≡ differ
   unfolding allFrom
-  new-names st = names-are t (p ∷ ps) (p ∷ ps) (tableLimits .rows) 0 0 0 0 st found refl refl (λ a h. absurd (omega arith)) ∙ sym (names-in t (p ∷ ps))
+  new-rows st =
+      new-are t (p ∷ ps) (p ∷ ps) (tableLimits .rows) 0 0 0 0 0 st (λ h. absurd (omega arith)) found
+      (first-place (rowSize 0) 0) refl (λ a h. absurd (omega arith))
+      ∙ sym (differ-lists t (p ∷ ps))
+      ∙ all-differ t (p ∷ ps)
 
-  stand-and : both (stands t 0 (p ∷ ps)) (namesNew t 0 0 (p ∷ ps))
-      ≡ both (firstIsType t (p ∷ ps)) (both (membersStand t (p ∷ ps)) (everyRow (namesDiffer t (p ∷ ps)) (p ∷ ps)))
-  unfolding membersStand
-  stand-and = by-test (stands t 0 (p ∷ ps))
-      (λ st. ap₂ both st (new-names st) ∙ sym (ap₂ (λ (x y : Bool). both x (both y (everyRow (namesDiffer t (p ∷ ps)) (p ∷ ps)))) (first-type st) (stand-is ∙ st)))
-      (λ st. ap (λ (x : Bool). both x (namesNew t 0 0 (p ∷ ps))) st
-      ∙ sym (ap (λ (x : Bool). both (firstIsType t (p ∷ ps)) (both x (everyRow (namesDiffer t (p ∷ ps)) (p ∷ ps)))) (stand-is ∙ st) ∙ never (firstIsType t (p ∷ ps))))
+  stand-and : both (standing t 0 0 (p ∷ ps)) (rowsNew t 0 0 0 0 (p ∷ ps)) ≡ both (firstIsType t (p ∷ ps)) (both (followersStand t (p ∷ ps)) differ)
+  unfolding followersStand
+  stand-and = by-test (standing t 0 0 (p ∷ ps))
+      (λ st. ap₂ both st (new-rows st) ∙ sym (ap₂ (λ (x y : Bool). both x (both y differ)) (first-type st) st))
+      (λ st. ap (λ (x : Bool). both x (rowsNew t 0 0 0 0 (p ∷ ps))) st
+      ∙ sym (ap (λ (x : Bool). both (firstIsType t (p ∷ ps)) (both x differ)) st ∙ never (firstIsType t (p ∷ ps))))
 
-  all-clauses : passes t 0 0 0 (p ∷ ps) ≡ firstPass tableLimits t (p ∷ ps)
+  all-clauses : passes t 0 0 0 0 (p ∷ ps) ≡ firstPass tableLimits t (p ∷ ps)
   unfolding firstPass
   all-clauses =
-      passes-split t 0 0 0 (p ∷ ps)
+      passes-split t 0 0 0 0 (p ∷ ps)
       ∙ ap₂ both (bodies t (p ∷ ps)) stand-and
       ∙ sym (ap (λ (x : Bool). both x (both (everyRow (bodyFormed (tableLimits .members) (tableLimits .name) t (p ∷ ps)) (p ∷ ps))
-      (both (firstIsType t (p ∷ ps)) (both (membersStand t (p ∷ ps)) (everyRow (namesDiffer t (p ∷ ps)) (p ∷ ps)))))) whole)
+      (both (firstIsType t (p ∷ ps)) (both (followersStand t (p ∷ ps)) differ)))) whole)
 
 none-pass : (t : List ℕ) → firstPass tableLimits t [] ≡ false
 unfolding firstPass wholeRows
 none-pass t = refl
 
-pub pass-counts : (t : List ℕ) → pick (goes t 0 0 0 (rowsFrom (tableLimits .rows) t 0)) (length (rows (tableLimits .rows) t)) 0
+pub pass-counts : (t : List ℕ) → pick (goes t 0 0 0 0 (rowsFrom (tableLimits .rows) t 0)) (length (rows (tableLimits .rows) t)) 0
     ≡ pick (firstPass tableLimits t (rows (tableLimits .rows) t)) (length (rows (tableLimits .rows) t)) 0
 unfolding rows passes
 pass-counts t = go (rowsFrom (tableLimits .rows) t 0) refl
   where
     go : (o : Option (List ℕ)) → rowsFrom (tableLimits .rows) t 0 ≡ o
-        → pick (goes t 0 0 0 o) (length (orNone o)) 0 ≡ pick (firstPass tableLimits t (orNone o)) (length (orNone o)) 0
+        → pick (goes t 0 0 0 0 o) (length (orNone o)) 0 ≡ pick (firstPass tableLimits t (orNone o)) (length (orNone o)) 0
     go none e = rw (none-pass t)
     go (some []) e = rw (none-pass t)
     go (some (p ∷ ps)) e = ap (λ (x : Bool). pick x (length (p ∷ ps)) 0) (all-clauses t p ps e)
+
+-- ---- the size of a row: 0 where it isn't whole, or isn't good
+abbrev pub sizeIf : List ℕ → ℕ → Bool → ℕ
+sizeIf t p good = pick (ltb (length t - p) (rowSize (kindAt t p))) 0 (pick good (rowSize (kindAt t p)) 0)
+
+module _ (t : List ℕ) (at : ℕ) where
+  -- of a row that follows another, in the words of its own kind
+  in-words : (place size : ℕ) (f : ℕ → Bool) (n : Bool) → at ≡ place → rowSize (kindAt t at) ≡ size
+      → pick (both (leb size (length t - place)) (both (f place) n)) size 0 ≡ sizeIf t at (both (f at) n)
+  in-words place size f n e s =
+      ap (λ (x : ℕ). pick (both (leb size (length t - x)) (both (f x) n)) size 0) (sym e)
+      ∙ by-test (leb size (length t - at))
+      (λ q. rw (q, s, le-ltb (length t - at) size (leb-true size (length t - at) q)))
+      (λ q. rw (q, s, lt-ltb (length t - at) size (leb-false size (length t - at) q)))
+
+  member-formed : kindAt t at ≡ 16 → formed t at ≡ memberFormed (tableLimits .name) t at
+  unfolding rowFormed
+  member-formed k = rw k
+
+  bit-formed : kindAt t at ≡ 18 → formed t at ≡ bitFormed (tableLimits .name) t at
+  unfolding rowFormed
+  bit-formed k = rw k
+
+  module _ (first b : ℕ) where
+    member-told : at ≡ first + 39 * b → kindAt t at ≡ 16
+        → followerSize (tableLimits .name) 16 t first b ≡ sizeIf t at (both (formed t at) (newBy t 16 (placeFrom 39 first) b))
+    unfolding followerSize memberFits newNameAt differsAt
+    member-told e k =
+        in-words (first + 39 * b) 39 (memberFormed (tableLimits .name) t) (newNameAt 39 t first b) e (member-size (kindAt t at) k)
+        ∙ ap₂ (λ (x y : Bool). sizeIf t at (both x y)) (sym (member-formed k)) (sym (new-member t 16 (placeFrom 39 first) b refl))
+
+    bit-told : at ≡ first + 26 * b → kindAt t at ≡ 18
+        → followerSize (tableLimits .name) 18 t first b ≡ sizeIf t at (both (formed t at) (newBy t 18 (placeFrom 26 first) b))
+    unfolding followerSize bitFits newNameAt differsAt newNumberAt numberDiffersAt
+    bit-told e k =
+        in-words (first + 26 * b) 26 (bitFormed (tableLimits .name) t) (both (newNameAt 26 t first b) (newNumberAt t first b)) e (bit-size (kindAt t at) k)
+        ∙ ap₂ (λ (x y : Bool). sizeIf t at (both x y)) (sym (bit-formed k)) (sym (new-bit t 18 (placeFrom 26 first) b refl))
+
+    pub follower-told : (k : ℕ) → isFollower k ≡ true → at ≡ placeFrom (rowSize k) first b → kindAt t at ≡ k
+        → followerSize (tableLimits .name) k t first b ≡ sizeIf t at (both (formed t at) (newBy t k (placeFrom (rowSize k) first) b))
+    unfolding rowSize isGroup isList
+    follower-told k f e q =
+        ⊎-elim
+        (λ (h : k ≡ 16). rw h (member-told (rw h at e) (q ∙ h)))
+        (λ (h : k ≡ 18). rw h (bit-told (rw h at e) (q ∙ h)))
+        (member-or-bit k f)

@@ -1,49 +1,55 @@
 -- The first pass: one lemma for each return and each turn of its loop; its premises are the facts as the code has them.
 use mathlib.Core.Path.{_≡_, refl, sym, ap, _∙_}
-use mathlib.Core.Bool.{Bool, true, false, not, false≢true}
+use mathlib.Core.Bool.{Bool, true, false, false≢true}
 use mathlib.Core.Logic.{⊎-elim}
 use mathlib.Core.Option.{Option, none, some}
 use mathlib.Core.List.{List, [], _∷_, _++_, append-assoc, append-nil}
 use Prim.Native.Nat.{ℕ, zero, suc, _≤_, _<_, _+_, _-_, _*_}
 use native.Mathlib.Omega.{arith}
 use native.Mathlib.Nat.{eq-or-lt-of-le}
-use borrow.Author.Tests.{not-true, not-false, eq-eqb, ne-eqb, eqb-true, eqb-false, lt-ltb, le-ltb, leb-true, leb-false, ltb-true, ltb-false}
-use lib.Dec.{ltb, leb, eqb}
+use borrow.Author.Tests.{eq-eqb, ne-eqb, eqb-true, eqb-false, lt-ltb, le-ltb, ltb-true, ltb-false}
+use lib.Dec.{ltb, eqb}
 use lib.ListN.{length, getD, set, length-set, length-append, List·getD-append}
 use lib.Seq.{getD-set-same, getD-set-other, getD-at}
-use Rattle.octets.specs.Pick.{pick, both, consed}
+use Rattle.octets.specs.Pick.{pick, both, either, consed}
 use Rattle.octets.specs.Octets.{octet}
-use Rattle.octets.proofs.Laws.{both-true}
 use Rattle.rows.specs.Paper.{tableLimits}
-use Rattle.rows.specs.Row.{kindAt, rowAt, rowSize, isGroup, isList, membersAt, rowsFrom, rows, orNone}
-use Rattle.rows.specs.Body.{memberFormed, countFormed}
+use Rattle.rows.specs.Row.{kindAt, rowAt, rowSize, isTypeKind, isFollower, followerKind, followersAt, rowsFrom, rows, orNone}
+use Rattle.rows.specs.Body.{memberFormed, bitFormed, countFormed, rowFormed}
 use Rattle.rows.specs.inner.Sizes.{typeSize}
-use Rattle.clauses.specs.inner.Work.{firstPass, Placed, newNameAt, memberFits}
-use Rattle.clauses.proofs.PassLaws.{passes, goes, by-test, pass-counts}
+use Rattle.rows.proofs.KindLaws.{kind-of-row}
+use Rattle.clauses.specs.inner.Work.{firstPass, Placed, placeFrom, followerSize}
+use Rattle.clauses.proofs.NameSteps.{first-place, next-place, member-or-bit}
+use Rattle.clauses.proofs.LaterSteps.{due-follower}
+use Rattle.clauses.proofs.PassLaws.{passes, goes, newBy, formed, sizeIf, by-test, follower-told, pass-counts}
 
 abbrev joined : List ℕ → Option (List ℕ) → Option (List ℕ)
 joined xs none = none
 joined xs (some ys) = some (xs ++ ys)
 
 -- n rows have been met and passed, and stand in w; what is left of the table passes if all of it does
-pub record Passing (t w : List ℕ) (at n due first before : ℕ) : Type 0 where
+pub record Passing (t w : List ℕ) (at n k due first before : ℕ) : Type 0 where
   pub few : n ≤ tableLimits .rows
+  pub fewer : before ≤ n
   pub inside : at ≤ length t
   pub space : length w ≡ 256
-  pub stands : at ≡ first + 39 * before
+  pub stands : at ≡ first + rowSize k * before
+  pub follows : 0 < due → isFollower k ≡ true
   pub found : List ℕ
   pub counted : length found ≡ n
   pub places : (i : ℕ) → i < n → getD w (2 * i) 0 ≡ rowAt found i
   pub rest : joined found (rowsFrom (tableLimits .rows - n) t at) ≡ rowsFrom (tableLimits .rows) t 0
-  pub passing : goes t due first before (rowsFrom (tableLimits .rows - n) t at) ≡ goes t 0 0 0 (rowsFrom (tableLimits .rows) t 0)
+  pub passing : goes t k due first before (rowsFrom (tableLimits .rows - n) t at) ≡ goes t 0 0 0 0 (rowsFrom (tableLimits .rows) t 0)
 
-pub pass-start : (t w : List ℕ) → length w ≡ 256 → Passing t w 0 0 0 0 0
+pub pass-start : (t w : List ℕ) → length w ≡ 256 → Passing t w 0 0 0 0 0 0
 pass-start t w e =
     record {
       few = omega arith;
+      fewer = omega arith;
       inside = omega arith;
       space = e;
-      stands = refl;
+      stands = first-place (rowSize 0) 0;
+      follows = λ h. absurd (omega arith);
       found = [];
       counted = refl;
       places = λ i h. absurd (omega arith);
@@ -57,13 +63,16 @@ pass-start t w e =
 
 -- a table that doesn't pass
 abbrev Fails : List ℕ → Type 0
-Fails t = goes t 0 0 0 (rowsFrom (tableLimits .rows) t 0) ≡ false
+Fails t = goes t 0 0 0 0 (rowsFrom (tableLimits .rows) t 0) ≡ false
 
 abbrev Counted : List ℕ → ℕ → Type 0
 Counted t r = r ≡ pick (firstPass tableLimits t (rows (tableLimits .rows) t)) (length (rows (tableLimits .rows) t)) 0
 
 pub fails : (t w : List ℕ) → length w ≡ 256 → Fails t → (Counted t 0) × ((Placed t w 0) × (length w ≡ 256))
-fails t w space e = (sym (ap (λ (x : Bool). pick x (length (rows (tableLimits .rows) t)) 0) e) ∙ pass-counts t, (record { at = λ i h. absurd (omega arith) }, space))
+fails t w space e = (
+  sym (ap (λ (x : Bool). pick x (length (rows (tableLimits .rows) t)) 0) e) ∙ pass-counts t,
+  (record { at = λ i h. absurd (omega arith) }, space),
+)
 
 -- ---- one row of what is left
 none-left : (k : ℕ) (t : List ℕ) (at : ℕ) → length t ≤ at → rowsFrom k t at ≡ some []
@@ -90,29 +99,52 @@ module _ (k : ℕ) (t : List ℕ) (at : ℕ) (inside : at < length t) where
     whole-row h = rw (lt-ltb at (length t) inside, sized, ne-eqb size 0 some-size, le-ltb (length t - at) size h)
 
 -- ---- the test at one row
-module _ (t : List ℕ) (due first b at : ℕ) where
-  goes-not : ((ps : List ℕ) → passes t due first b (at ∷ ps) ≡ false) → (o : Option (List ℕ)) → goes t due first b (consed at o) ≡ false
+module _ (t : List ℕ) (k due first b at : ℕ) where
+  goes-not : ((ps : List ℕ) → passes t k due first b (at ∷ ps) ≡ false) → (o : Option (List ℕ)) → goes t k due first b (consed at o) ≡ false
   goes-not f none = refl
   goes-not f (some ps) = f ps
 
-  goes-on : (due' first' b' : ℕ) → ((ps : List ℕ) → passes t due first b (at ∷ ps) ≡ passes t due' first' b' ps)
-      → (o : Option (List ℕ)) → goes t due first b (consed at o) ≡ goes t due' first' b' o
-  goes-on due' first' b' f none = refl
-  goes-on due' first' b' f (some ps) = f ps
+  goes-on : (k' due' first' b' : ℕ) → ((ps : List ℕ) → passes t k due first b (at ∷ ps) ≡ passes t k' due' first' b' ps)
+      → (o : Option (List ℕ)) → goes t k due first b (consed at o) ≡ goes t k' due' first' b' o
+  goes-on k' due' first' b' f none = refl
+  goes-on k' due' first' b' f (some ps) = f ps
 
-never-both : (x y : Bool) → x ≡ false → both y x ≡ false
-never-both x true e = e
-never-both x false e = refl
+-- no row that follows another is a type's; any other has the body of a type's
+follower-no-type : (k : ℕ) → isFollower k ≡ true → isTypeKind k ≡ false
+unfolding isTypeKind
+follower-no-type k e = ⊎-elim (λ (h : k ≡ 16). rw h) (λ (h : k ≡ 18). rw h) (member-or-bit k e)
 
-module _ (t w : List ℕ) (at n due first before : ℕ) (inv : Passing t w at n due first before) where
+type-formed : (t : List ℕ) (p : ℕ) → isFollower (kindAt t p) ≡ false → formed t p ≡ countFormed (tableLimits .members) t p
+unfolding isFollower rowFormed
+type-formed t p e = go (eqb (kindAt t p) 16) (eqb (kindAt t p) 18) e
+  where
+    go : (x y : Bool) → either x y ≡ false
+        → pick x (memberFormed (tableLimits .name) t p) (pick y (bitFormed (tableLimits .name) t p) (countFormed (tableLimits .members) t p))
+        ≡ countFormed (tableLimits .members) t p
+    go true y h = absurd (false≢true (sym h))
+    go false true h = absurd (false≢true (sym h))
+    go false false h = refl
+
+module _ (t w : List ℕ) (at n k due first before : ℕ) (inv : Passing t w at n k due first before) where
+  -- ---- a row that is due
+  some-due : (due ≡ 0 → ⊥) → 0 < due
+  some-due e = omega arith
+
+  module _ (kind : ℕ) (same : kind ≡ k) where
+    pub due-kind : (due ≡ 0 → ⊥) → isFollower kind ≡ true
+    due-kind e = ap isFollower same ∙ inv .follows (some-due e)
+
+    pub due-place : first + rowSize kind * before ≤ length t
+    due-place = let l = inv .inside in rw same (rw (inv .stands) at l)
+
   -- ---- behind the last row
   module _ (h : length t ≤ at) where
     ended : rowsFrom (tableLimits .rows - n) t at ≡ some []
     ended = none-left (tableLimits .rows - n) t at h
 
-    told : eqb due 0 ≡ goes t 0 0 0 (rowsFrom (tableLimits .rows) t 0)
+    told : eqb due 0 ≡ goes t 0 0 0 0 (rowsFrom (tableLimits .rows) t 0)
     unfolding passes
-    told = sym (ap (goes t due first before) ended) ∙ inv .passing
+    told = sym (ap (goes t k due first before) ended) ∙ inv .passing
 
     pub pass-due : (due ≡ 0 → ⊥) → Fails t
     pass-due e = sym told ∙ ne-eqb due 0 e
@@ -130,10 +162,10 @@ module _ (t w : List ℕ) (at n due first before : ℕ) (inv : Passing t w at n 
 
   module _ (inside : at < length t) where
     pub pass-many : n ≡ tableLimits .rows → Fails t
-    pass-many e = sym (inv .passing) ∙ ap (goes t due first before) none-more
+    pass-many e = sym (inv .passing) ∙ ap (goes t k due first before) none-more
       where
         none-more : rowsFrom (tableLimits .rows - n) t at ≡ none
-        none-more = let z : tableLimits .rows - n ≡ 0 = omega arith in ap (λ (k : ℕ). rowsFrom k t at) z ∙ no-room 0 t at inside
+        none-more = let z : tableLimits .rows - n ≡ 0 = omega arith in ap (λ (r : ℕ). rowsFrom r t at) z ∙ no-room 0 t at inside
 
     module _ (room : n ≡ tableLimits .rows → ⊥) where
       below : n < tableLimits .rows
@@ -148,18 +180,18 @@ module _ (t w : List ℕ) (at n due first before : ℕ) (inv : Passing t w at n 
       abbrev left : Option (List ℕ)
       left = rowsFrom (suc (tableLimits .rows - (n + 1))) t at
 
-      fail : goes t due first before left ≡ false → Fails t
-      fail e = sym (inv .passing) ∙ ap (λ (k : ℕ). goes t due first before (rowsFrom k t at)) more ∙ e
+      fail : goes t k due first before left ≡ false → Fails t
+      fail e = sym (inv .passing) ∙ ap (λ (r : ℕ). goes t k due first before (rowsFrom r t at)) more ∙ e
+
+      abbrev rest : ℕ → Option (List ℕ)
+      rest size = rowsFrom (tableLimits .rows - (n + 1)) t (at + size)
 
       -- the row at `at` is whole and passes
-      module _ (size due' first' before' : ℕ) (whole : left ≡ consed at (rowsFrom (tableLimits .rows - (n + 1)) t (at + size)))
-          (short : at + size ≤ length t) (stand : at + size ≡ first' + 39 * before')
-          (on : (ps : List ℕ) → passes t due first before (at ∷ ps) ≡ passes t due' first' before' ps) where
-        abbrev o : Option (List ℕ)
-        o = rowsFrom (tableLimits .rows - (n + 1)) t (at + size)
-
-        whole-left : rowsFrom (tableLimits .rows - n) t at ≡ consed at o
-        whole-left = ap (λ (k : ℕ). rowsFrom k t at) more ∙ whole
+      module _ (size k' due' first' before' : ℕ) (whole : left ≡ consed at (rest size))
+          (short : at + size ≤ length t) (stand : at + size ≡ first' + rowSize k' * before') (follow : 0 < due' → isFollower k' ≡ true)
+          (fewer : before' ≤ n + 1) (on : (ps : List ℕ) → passes t k due first before (at ∷ ps) ≡ passes t k' due' first' before' ps) where
+        whole-left : rowsFrom (tableLimits .rows - n) t at ≡ consed at (rest size)
+        whole-left = ap (λ (r : ℕ). rowsFrom r t at) more ∙ whole
 
         set-places : (i : ℕ) → i < n + 1 → getD (set w (2 * n) at) (2 * i) 0 ≡ rowAt (inv .found ++ (at ∷ [])) i
         set-places i h = ⊎-elim (λ (e : i ≡ n). last i e) (λ l. earlier i l) (eq-or-lt-of-le (omega arith))
@@ -184,140 +216,125 @@ module _ (t w : List ℕ) (at n due first before : ℕ) (inv : Passing t w at n 
         glue xs none = refl
         glue xs (some ys) = ap some (append-assoc xs (at ∷ []) ys)
 
-        next : Passing t (set w (2 * n) at) (at + size) (n + 1) due' first' before'
+        next : Passing t (set w (2 * n) at) (at + size) (n + 1) k' due' first' before'
         next =
             record {
               few = let l = below in omega arith;
+              fewer = fewer;
               inside = short;
               space = length-set w (2 * n) at ∙ inv .space;
               stands = stand;
+              follows = follow;
               found = inv .found ++ (at ∷ []);
               counted = length-append (inv .found) (at ∷ []) ∙ ap (λ (k : ℕ). k + 1) (inv .counted);
               places = set-places;
-              rest = glue (inv .found) o ∙ sym (ap (joined (inv .found)) whole-left) ∙ inv .rest;
-              passing = sym (goes-on t due first before at due' first' before' on o) ∙ sym (ap (goes t due first before) whole-left) ∙ inv .passing;
+              rest = glue (inv .found) (rest size) ∙ sym (ap (joined (inv .found)) whole-left) ∙ inv .rest;
+              passing = sym (goes-on t k due first before at k' due' first' before' on (rest size))
+                  ∙ sym (ap (goes t k due first before) whole-left) ∙ inv .passing;
             }
 
-      -- ---- a member row
-      module _ (member : octet t at ≡ 16) where
-        kind-is : eqb (kindAt t at) 16 ≡ true
-        kind-is = eq-eqb (kindAt t at) 16 member
+      abbrev size-at : ℕ
+      size-at = rowSize (kindAt t at)
 
-        size-is : rowSize (kindAt t at) ≡ 39
-        unfolding rowSize isGroup isList
-        size-is = rw member
+      not-kind : eqb size-at 0 ≡ true → Fails t
+      not-kind z = fail (ap (goes t k due first before) (no-kind (tableLimits .rows - (n + 1)) t at inside (eqb-true _ _ z)))
 
-        -- where the test fails at the row, it fails
-        member-fails : ((ps : List ℕ) → passes t due first before (at ∷ ps) ≡ false) → Fails t
-        member-fails f = fail (by-test (ltb (length t - at) 39)
-            (λ e. ap (goes t due first before) (not-whole (tableLimits .rows - (n + 1)) t at inside 39 size-is (λ z. omega arith) (ltb-true _ _ e)))
-            (λ e. ap (goes t due first before) (whole-row (tableLimits .rows - (n + 1)) t at inside 39 size-is (λ z. omega arith) (ltb-false _ _ e))
-            ∙ goes-not t due first before at f (rowsFrom (tableLimits .rows - (n + 1)) t (at + 39))))
+      cut : eqb size-at 0 ≡ false → ltb (length t - at) size-at ≡ true → Fails t
+      cut z e = fail (ap (goes t k due first before) (not-whole (tableLimits .rows - (n + 1)) t at inside size-at refl (eqb-false _ _ z) (ltb-true _ _ e)))
 
-        pub pass-extra : due ≡ 0 → Fails t
+      uncut : eqb size-at 0 ≡ false → ltb (length t - at) size-at ≡ false → left ≡ consed at (rest size-at)
+      uncut z e = whole-row (tableLimits .rows - (n + 1)) t at inside size-at refl (eqb-false _ _ z) (ltb-false _ _ e)
+
+      -- where the test fails at a whole row, it fails
+      row-fails : (eqb size-at 0 ≡ false → ltb (length t - at) size-at ≡ false → (ps : List ℕ) → passes t k due first before (at ∷ ps) ≡ false) → Fails t
+      row-fails f = by-test (eqb size-at 0) not-kind
+          (λ z. by-test (ltb (length t - at) size-at) (cut z)
+          (λ e. fail (ap (goes t k due first before) (uncut z e) ∙ goes-not t k due first before at (f z e) (rest size-at))))
+
+      -- a row of another kind than the one that is due, and one that follows where none is due
+      pub pass-missing : (due ≡ 0 → ⊥) → (octet t at ≡ k → ⊥) → Fails t
+      unfolding passes
+      pass-missing d e = row-fails (λ z l ps. rw (ne-eqb due 0 d, ne-eqb (kindAt t at) k e))
+
+      pub pass-extra : (u : Bool) → due ≡ 0 → u ≡ isFollower (octet t at) → u ≡ true → Fails t
+      unfolding passes
+      pass-extra u d told e = row-fails (λ z l ps. rw (eq-eqb due 0 d, follower-no-type (kindAt t at) (sym told ∙ e)))
+
+      -- a row that stands where it may; `good` is what the test asks of it besides
+      module _ (size : ℕ) (good : Bool) (sized : size ≡ sizeIf t at good) where
+        module _ (e : size ≡ 0 → ⊥) where
+          is-long : ltb (length t - at) size-at ≡ false
+          is-long = by-test (ltb (length t - at) size-at) (λ l. absurd (e (rw l at sized))) (λ l. l)
+
+          is-good : good ≡ true
+          is-good = by-test good (λ g. g) (λ g. absurd (e (rw (is-long, g) at sized)))
+
+          size-is : size ≡ size-at
+          size-is = rw (is-long, is-good) at sized
+
+        module _ (k' due' first' before' : ℕ)
+            (on : (size-at ≡ 0 → ⊥) → (ps : List ℕ) → passes t k due first before (at ∷ ps) ≡ both good (passes t k' due' first' before' ps)) where
+          unsized : size ≡ 0 → Fails t
+          unsized e = row-fails (λ z l ps.
+              on (eqb-false _ _ z) ps ∙ ap (λ (x : Bool). both x (passes t k' due' first' before' ps)) (bad z good (rw l at (sym e ∙ sized))))
+            where
+              bad : eqb size-at 0 ≡ false → (c : Bool) → _≡_ {A = ℕ} 0 (pick c size-at 0) → c ≡ false
+              bad z true r = absurd (eqb-false _ _ z (sym r))
+              bad z false r = refl
+
+          sized-next : (size ≡ 0 → ⊥) → at + size-at ≡ first' + rowSize k' * before' → (0 < due' → isFollower k' ≡ true) → before' ≤ n + 1
+              → Passing t (set w (2 * n) at) (at + size) (n + 1) k' due' first' before'
+          sized-next e stand follow fewer =
+              let some : size-at ≡ 0 → ⊥ = λ z. e (size-is e ∙ z) in
+              let long : size-at ≤ length t - at = ltb-false _ _ (is-long e) in
+              rw (size-is e) (next size-at k' due' first' before' (uncut (ne-eqb size-at 0 some) (is-long e)) (omega arith) stand follow fewer
+              (λ ps. on some ps ∙ ap (λ (x : Bool). both x (passes t k' due' first' before' ps)) (is-good e)))
+
+      -- ---- a row that follows another
+      module _ (size : ℕ) (d : due ≡ 0 → ⊥) (same : octet t at ≡ k) (told : size ≡ followerSize (tableLimits .name) (octet t at) t first before) where
+        abbrev new : Bool
+        new = newBy t k (placeFrom (rowSize k) first) before
+
+        follower-sized : size ≡ sizeIf t at (both (formed t at) new)
+        follower-sized = told ∙ ap (λ (x : ℕ). followerSize (tableLimits .name) x t first before) same
+            ∙ follower-told t at first before k (inv .follows (some-due d)) (inv .stands) same
+
+        follower-on : (ps : List ℕ) → passes t k due first before (at ∷ ps) ≡ both (both (formed t at) new) (passes t k (due - 1) first (before + 1) ps)
         unfolding passes
-        pass-extra e = let z : due ≤ 0 = omega arith in member-fails (λ ps. rw (kind-is, le-ltb 0 due z))
+        follower-on ps = rw (ne-eqb due 0 d, eq-eqb (kindAt t at) k same) (join (formed t at) new (passes t k (due - 1) first (before + 1) ps))
+          where
+            join : (x y z : Bool) → both x (both y z) ≡ both (both x y) z
+            join true y z = refl
+            join false y z = refl
 
-        module _ (u : Bool) (told : u ≡ memberFits (tableLimits .name) t first before) where
-          place : first + 39 * before ≡ at
-          place = sym (inv .stands)
+        pub pass-misfit : size ≡ 0 → Fails t
+        pass-misfit e = unsized size (both (formed t at) new) follower-sized k (due - 1) first (before + 1) (λ s ps. follower-on ps) e
 
-          unfit : memberFits (tableLimits .name) t first before ≡ false → leb 39 (length t - at) ≡ true
-              → both (memberFormed (tableLimits .name) t at) (newNameAt t first before) ≡ false
-          unfolding memberFits
-          unfit e l = rw l at (rw place at e)
-
-          pub pass-misfit : not u ≡ true → Fails t
-          unfolding passes
-          pass-misfit e = fail (by-test (leb 39 (length t - at)) long short)
-            where
-              short : leb 39 (length t - at) ≡ false → goes t due first before left ≡ false
-              short q = ap (goes t due first before) (not-whole (tableLimits .rows - (n + 1)) t at inside 39 size-is (λ z. omega arith) (leb-false _ _ q))
-
-              spoil : (d m c r : Bool) → both m c ≡ false → both d (both m (both c r)) ≡ false
-              spoil true true true r z = absurd (false≢true (sym z))
-              spoil true true false r z = refl
-              spoil true false c r z = refl
-              spoil false m c r z = refl
-
-              long : leb 39 (length t - at) ≡ true → goes t due first before left ≡ false
-              long q =
-                  ap (goes t due first before) (whole-row (tableLimits .rows - (n + 1)) t at inside 39 size-is (λ z. omega arith) (leb-true _ _ q))
-                  ∙ goes-not t due first before at
-                  (λ ps. rw kind-is (spoil (ltb 0 due) (memberFormed (tableLimits .name) t at) (newNameAt t first before) (passes t (due - 1) first (before + 1) ps) (unfit (sym told ∙ not-true u e) q)))
-                  (rowsFrom (tableLimits .rows - (n + 1)) t (at + 39))
-
-          pub pass-member : (due ≡ 0 → ⊥) → not u ≡ false → Passing t (set w (2 * n) at) (at + 39) (n + 1) (due - 1) first (before + 1)
-          unfolding passes memberFits
-          pass-member e f =
-              let fits : memberFits (tableLimits .name) t first before ≡ true = sym told ∙ not-false u f in
-              let all : both (leb 39 (length t - at)) (both (memberFormed (tableLimits .name) t at) (newNameAt t first before)) ≡ true = rw place at fits in
-              let a = both-true (leb 39 (length t - at)) (both (memberFormed (tableLimits .name) t at) (newNameAt t first before)) all in
-              let b = both-true (memberFormed (tableLimits .name) t at) (newNameAt t first before) (a .1) in
-              let long : 39 ≤ length t - at = leb-true 39 (length t - at) (a .0) in
-              let st = inv .stands in
-              let some-due : 0 < due = positive due e in
-              next 39 (due - 1) first (before + 1)
-              (whole-row (tableLimits .rows - (n + 1)) t at inside 39 size-is (λ z. omega arith) long)
-              (omega arith) (omega arith)
-              (λ ps. rw (kind-is, lt-ltb 0 due some-due, b .0, b .1))
-            where
-              positive : (n : ℕ) → (n ≡ 0 → ⊥) → 0 < n
-              positive n e = omega arith
+        pub pass-follower : (size ≡ 0 → ⊥) → Passing t (set w (2 * n) at) (at + size) (n + 1) k (due - 1) first (before + 1)
+        pass-follower e =
+            sized-next size (both (formed t at) new) follower-sized k (due - 1) first (before + 1) (λ s ps. follower-on ps) e
+            (ap (λ (x : ℕ). at + rowSize x) same ∙ next-place (rowSize k) first before at (inv .stands))
+            (λ l. inv .follows (some-due d)) (let l = inv .fewer in omega arith)
 
       -- ---- a type row
-      module _ (type : octet t at ≡ 16 → ⊥) where
-        kind-not : eqb (kindAt t at) 16 ≡ false
-        kind-not = ne-eqb (kindAt t at) 16 type
+      module _ (size : ℕ) (u : Bool) (d : due ≡ 0) (asked : u ≡ isFollower (octet t at)) (none : u ≡ false)
+          (told : size ≡ typeSize (tableLimits .members) t at) where
+        type-sized : size ≡ sizeIf t at (countFormed (tableLimits .members) t at)
+        unfolding typeSize
+        type-sized = told
 
-        type-fails : ((ps : List ℕ) → passes t due first before (at ∷ ps) ≡ false) → Fails t
-        type-fails f = fail (by-test (eqb (rowSize (kindAt t at)) 0)
-            (λ z. ap (goes t due first before) (no-kind (tableLimits .rows - (n + 1)) t at inside (eqb-true _ _ z)))
-            (λ z. by-test (ltb (length t - at) (rowSize (kindAt t at)))
-            (λ e. ap (goes t due first before) (not-whole (tableLimits .rows - (n + 1)) t at inside (rowSize (kindAt t at)) refl (eqb-false _ _ z) (ltb-true _ _ e)))
-            (λ e. ap (goes t due first before) (whole-row (tableLimits .rows - (n + 1)) t at inside (rowSize (kindAt t at)) refl (eqb-false _ _ z) (ltb-false _ _ e))
-            ∙ goes-not t due first before at f (rowsFrom (tableLimits .rows - (n + 1)) t (at + rowSize (kindAt t at))))))
-
-        pub pass-missing : (due ≡ 0 → ⊥) → Fails t
+        type-on : (size-at ≡ 0 → ⊥) → (ps : List ℕ) → passes t k due first before (at ∷ ps)
+            ≡ both (countFormed (tableLimits .members) t at) (passes t (followerKind (kindAt t at)) (followersAt t at) (at + size-at) 0 ps)
         unfolding passes
-        pass-missing e = type-fails (λ ps. rw (kind-not, ne-eqb due 0 e))
+        type-on s ps = rw (eq-eqb due 0 d, kind-of-row (kindAt t at) s (sym asked ∙ none), type-formed t at (sym asked ∙ none))
 
-        module _ (size : ℕ) (sized : size ≡ typeSize (tableLimits .members) t at) where
-          pub pass-unsized : size ≡ 0 → Fails t
-          unfolding passes typeSize
-          pass-unsized e = by-test (eqb (rowSize (kindAt t at)) 0) zero-size
-              (λ z. by-test (ltb (length t - at) (rowSize (kindAt t at))) (λ q. short z q) (λ q. long z q))
-            where
-              zero-size : eqb (rowSize (kindAt t at)) 0 ≡ true → Fails t
-              zero-size z = fail (ap (goes t due first before) (no-kind (tableLimits .rows - (n + 1)) t at inside (eqb-true _ _ z)))
+        pub pass-unsized : size ≡ 0 → Fails t
+        pass-unsized e =
+            unsized size (countFormed (tableLimits .members) t at) type-sized (followerKind (kindAt t at)) (followersAt t at) (at + size-at) 0 type-on e
 
-              short : eqb (rowSize (kindAt t at)) 0 ≡ false → ltb (length t - at) (rowSize (kindAt t at)) ≡ true → Fails t
-              short z q = fail (ap (goes t due first before) (not-whole (tableLimits .rows - (n + 1)) t at inside (rowSize (kindAt t at)) refl (eqb-false _ _ z) (ltb-true _ _ q)))
-
-              unformed : eqb (rowSize (kindAt t at)) 0 ≡ false → (c : Bool) → _≡_ {A = ℕ} 0 (pick c (rowSize (kindAt t at)) 0) → c ≡ false
-              unformed z true r = absurd (eqb-false _ _ z (sym r))
-              unformed z false r = refl
-
-              long : eqb (rowSize (kindAt t at)) 0 ≡ false → ltb (length t - at) (rowSize (kindAt t at)) ≡ false → Fails t
-              long z q =
-                  let c : countFormed (tableLimits .members) t at ≡ false = unformed z (countFormed (tableLimits .members) t at) (rw q at (sym e ∙ sized)) in
-                  type-fails (λ ps. rw (kind-not, c) (never-both false (eqb due 0) refl))
-
-          pub pass-type : (m : ℕ) → due ≡ 0 → (size ≡ 0 → ⊥) → m ≡ membersAt t at → Passing t (set w (2 * n) at) (at + size) (n + 1) m (at + size) 0
-          unfolding passes typeSize
-          pass-type m d e c = go (ltb (length t - at) (rowSize (kindAt t at))) refl (countFormed (tableLimits .members) t at) refl
-            where
-              row : (q : size ≡ rowSize (kindAt t at)) → ltb (length t - at) (rowSize (kindAt t at)) ≡ false → countFormed (tableLimits .members) t at ≡ true
-                  → Passing t (set w (2 * n) at) (at + size) (n + 1) m (at + size) 0
-              row q l f =
-                  let long : size ≤ length t - at = rw q (ltb-false _ _ l) in
-                  next size m (at + size) 0
-                  (whole-row (tableLimits .rows - (n + 1)) t at inside size (sym q) e long)
-                  (omega arith) (omega arith)
-                  (λ ps. rw (kind-not, eq-eqb due 0 d, f, c, q))
-
-              go : (x : Bool) → ltb (length t - at) (rowSize (kindAt t at)) ≡ x → (y : Bool) → countFormed (tableLimits .members) t at ≡ y
-                  → Passing t (set w (2 * n) at) (at + size) (n + 1) m (at + size) 0
-              go true l y f = absurd (e (rw l at sized))
-              go false l true f = row (rw (l, f) at sized) l f
-              go false l false f = absurd (e (rw (l, f) at sized))
+        pub pass-type : (f m : ℕ) → (size ≡ 0 → ⊥) → f ≡ followerKind (octet t at) → m ≡ followersAt t at
+            → Passing t (set w (2 * n) at) (at + size) (n + 1) f m (at + size) 0
+        pass-type f m e g c =
+            rw (g, c) (rw (sym (size-is size (countFormed (tableLimits .members) t at) type-sized e)) at
+            (sized-next size (countFormed (tableLimits .members) t at) type-sized (followerKind (kindAt t at)) (followersAt t at) (at + size-at) 0 type-on e
+            (first-place (rowSize (followerKind (kindAt t at))) (at + size-at)) (due-follower t at) (omega arith)))

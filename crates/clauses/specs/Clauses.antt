@@ -9,7 +9,8 @@ use Rattle.octets.specs.Octets.{same}
 use Rattle.octets.specs.Text.{within}
 use Rattle.der.specs.Kind as kind
 use Rattle.der.specs.Contents.{legal}
-use Rattle.rows.specs.Row.{nameAt, kindAt, modeAt, presenceAt, defaultLengthAt, defaultAt, isTypeKind, namesRow, namedAt, rowAt, followerKind, membersAt}
+use Rattle.rows.specs.Row.{nameAt, kindAt, modeAt, presenceAt, defaultLengthAt, defaultAt, bitNumberAt, isTypeKind, namesRow, namedAt, rowAt}
+use Rattle.rows.specs.Row.{membersAt, bitNamesAt, followerKind, followersAt}
 use Rattle.rows.specs.Body.{rowFormed}
 
 -- a test of every row, by its number
@@ -38,19 +39,19 @@ laterType t s i j = both (ltb i j) (isType t s j)
 unfoldable pub pointsLater : List ℕ → List ℕ → ℕ → Bool
 pointsLater t s i = either (no (namesRow t (rowAt s i))) (laterType t s i (namedAt t (rowAt s i)))
 
--- "member rows stand directly after their SEQUENCE or CHOICE and nowhere else": so many rows of kind k are still due before these rows;
--- where none is due, a row is a type's, and the rows that follow it are due
+-- "member rows stand directly after their SEQUENCE or CHOICE and nowhere else"; document 02, Q-2: "Rows that only follow another, here and later, stand
+-- nowhere else". So many rows of kind k are still due before these rows; where none is due, a row is a type's, and the rows that follow it are due
 unfoldable pub standing : List ℕ → ℕ → ℕ → List ℕ → Bool
 standing t k due [] = eqb due 0
 standing t k due (p ∷ ps) =
-    let type = standing t (followerKind (kindAt t p)) (membersAt t p) ps in
+    let type = standing t (followerKind (kindAt t p)) (followersAt t p) ps in
     let follower = standing t k (due - 1) ps in
     pick (eqb due 0) (both (isTypeKind (kindAt t p)) type) (both (eqb (kindAt t p) k) follower)
 
-unfoldable pub membersStand : List ℕ → List ℕ → Bool
-membersStand t s = standing t 0 0 s
+unfoldable pub followersStand : List ℕ → List ℕ → Bool
+followersStand t s = standing t 0 0 s
 
--- "names in one type differ": members a and b of row i
+-- "names in one type differ"; of bits, "names and numbers in one list differ" (document 02, Q-2): the rows a and b of those that follow row i
 abbrev pub memberPlace : List ℕ → ℕ → ℕ → ℕ
 memberPlace s i j = rowAt s (i + 1 + j)
 
@@ -64,7 +65,19 @@ unfoldable pub newName : List ℕ → List ℕ → ℕ → ℕ → Bool
 newName t s i b = all (differsFrom t s i b) b
 
 unfoldable pub namesDiffer : List ℕ → List ℕ → ℕ → Bool
-namesDiffer t s i = all (newName t s i) (membersAt t (rowAt s i))
+namesDiffer t s i = all (newName t s i) (followersAt t (rowAt s i))
+
+unfoldable pub sameNumber : List ℕ → ℕ → ℕ → Bool
+sameNumber t p q = eqb (bitNumberAt t p) (bitNumberAt t q)
+
+unfoldable pub numberDiffersFrom : List ℕ → List ℕ → ℕ → ℕ → ℕ → Bool
+numberDiffersFrom t s i b a = no (sameNumber t (memberPlace s i a) (memberPlace s i b))
+
+unfoldable pub newNumber : List ℕ → List ℕ → ℕ → ℕ → Bool
+newNumber t s i b = all (numberDiffersFrom t s i b) b
+
+unfoldable pub numbersDiffer : List ℕ → List ℕ → ℕ → Bool
+numbersDiffer t s i = all (newNumber t s i) (bitNamesAt t (rowAt s i))
 
 -- "alternatives are mandatory"
 unfoldable pub mandatoryAt : List ℕ → List ℕ → ℕ → ℕ → Bool

@@ -36,7 +36,7 @@ OfRow t s m = memberOf t (m .row) (rowAt s (m .row)) ≡ m
 
 unfoldable mutual
   Rowed : List ℕ → List ℕ → Ty → Type 0
-  Rowed t s (basic k) = Unit {0}
+  Rowed t s (basic k names) = Unit {0}
   Rowed t s (sequence ms) = RowedIn t s ms
   Rowed t s (choice ms) = RowedIn t s ms
   Rowed t s (listOf k ty) = Rowed t s ty

@@ -4,3 +4,4 @@ pub mod Demand2
 pub mod Determined
 pub mod Demand3
 pub mod Prepared
+pub mod NamedBits

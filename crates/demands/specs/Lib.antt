@@ -7,3 +7,4 @@ pub mod Demand
 pub mod Shown
 pub mod Licence
 pub mod Rfc3687
+pub mod Rights

@@ -19,7 +19,8 @@ use Rattle.octets.specs.Utf8.{utf8}
 use Rattle.octets.proofs.Laws.{all-at, both-true, every-holds}
 use Rattle.octets.proofs.TextLaws.{larger-least, larger-most}
 use Rattle.der.specs.Time.{legalTime}
-use Rattle.der.specs.Contents.{legalBoolean, shortest, legalInteger, legalBits, isSign, isMark, isPrintable, isIa5, legalNull, legalOid, legalPrintable}
+use Rattle.der.specs.Contents.{legalBoolean, shortest, legalInteger, legalBits, legalNamedBits, isSign, isMark, isPrintable, isIa5, legalNull, legalOid}
+use Rattle.der.specs.Contents.{legalPrintable}
 use Rattle.der.specs.Contents.{legalIa5, legalText, legal}
 use Rattle.der.specs.inner.Answers.{fourPrintable}
 
@@ -106,6 +107,35 @@ module _ (c : List ℕ) (h : 1 ≤ length c) where
     pub bits-last : (r : Bool) → (length c ≡ 1 → ⊥) → r ≡ eqb (octet c (length c - 1) % 2 ^ octet c 0) 0 → r ≡ legalBits c
     unfolding legalBits
     bits-last r n e = rw (le-leb 1 (length c) h, le-leb (octet c 0) 7 g, ne-eqb _ _ n) e
+
+-- without a trailing zero bit
+module _ (c : List ℕ) (r : Bool) (told : r ≡ legalBits c) where
+  pub named-illegal : not r ≡ true → false ≡ legalNamedBits c
+  unfolding legalNamedBits
+  named-illegal e = rw (sym told ∙ not-true r e)
+
+  module _ (e : not r ≡ false) where
+    pub named-empty : length c ≡ 1 → true ≡ legalNamedBits c
+    unfolding legalNamedBits
+    named-empty n = rw (sym told ∙ not-false r e, eq-eqb (length c) 1 n)
+
+    pub named-long : 1 ≤ length c
+    unfolding legalBits
+    named-long = leb-true 1 (length c) (both-true (leb 1 (length c)) _ (sym told ∙ not-false r e) .0)
+
+    pub named-first-in : 0 < length c
+    named-first-in = named-long
+
+    pub named-last-in : length c - 1 < length c
+    named-last-in = let l = named-long in omega arith
+
+    pub named-unused : octet c 0 < 8
+    unfolding legalBits
+    named-unused = omega (arith, leb-true (octet c 0) 7 (both-true (leb (octet c 0) 7) _ (both-true (leb 1 (length c)) _ (sym told ∙ not-false r e) .1) .0))
+
+    pub named-last : (length c ≡ 1 → ⊥) → eqb (bitAnd (octet c (length c - 1) / 2 ^ octet c 0) 1) 1 ≡ legalNamedBits c
+    unfolding legalNamedBits
+    named-last n = rw (sym told ∙ not-false r e, ne-eqb (length c) 1 n) (ap (λ (x : ℕ). eqb x 1) (and-mask (octet c (length c - 1) / 2 ^ octet c 0) 1))
 
 -- ---- PrintableString
 abbrev agree : Bool → Bool → Bool
@@ -258,9 +288,15 @@ module _ (k : ℕ) (c : List ℕ) (r : Bool) where
   unfolding legal
   kind-bits n1 n2 n3 n4 n5 n6 e q = rw (ne-eqb k 1 n1, ne-eqb k 2 n2, ne-eqb k 3 n3, ne-eqb k 4 n4, ne-eqb k 5 n5, ne-eqb k 6 n6, eq-eqb k 7 e) q
 
-  pub kind-text : (k ≡ 1 → ⊥) → (k ≡ 2 → ⊥) → (k ≡ 3 → ⊥) → (k ≡ 4 → ⊥) → (k ≡ 5 → ⊥) → (k ≡ 6 → ⊥) → (k ≡ 7 → ⊥) → r ≡ legalText k c → r ≡ legal k c
+  pub kind-named : k ≡ 17 → r ≡ legalNamedBits c → r ≡ legal k c
   unfolding legal
-  kind-text n1 n2 n3 n4 n5 n6 n7 q = rw (ne-eqb k 1 n1, ne-eqb k 2 n2, ne-eqb k 3 n3, ne-eqb k 4 n4, ne-eqb k 5 n5, ne-eqb k 6 n6, ne-eqb k 7 n7) q
+  kind-named e q = rw e q
+
+  pub kind-text : (k ≡ 1 → ⊥) → (k ≡ 2 → ⊥) → (k ≡ 3 → ⊥) → (k ≡ 4 → ⊥) → (k ≡ 5 → ⊥) → (k ≡ 6 → ⊥) → (k ≡ 7 → ⊥) → (k ≡ 17 → ⊥)
+      → r ≡ legalText k c → r ≡ legal k c
+  unfolding legal
+  kind-text n1 n2 n3 n4 n5 n6 n7 n8 q =
+      rw (ne-eqb k 1 n1, ne-eqb k 2 n2, ne-eqb k 3 n3, ne-eqb k 4 n4, ne-eqb k 5 n5, ne-eqb k 6 n6, ne-eqb k 7 n7, ne-eqb k 17 n8) q
 
   -- the kinds that are looked at first
   pub direct-integer : k ≡ 2 → r ≡ legalInteger c → r ≡ legal k c

@@ -38,9 +38,10 @@ pub universal-most : (k : ℕ) → universal k ≤ 24
 unfolding universal universalText
 universal-most k =
     low (eqb k 1) 1 _ (omega arith) (low (eqb k 2) 2 _ (omega arith) (low (eqb k 3) 10 _ (omega arith) (low (eqb k 4) 5 _ (omega arith)
-    (low (eqb k 5) 6 _ (omega arith) (low (eqb k 6) 4 _ (omega arith) (low (eqb k 7) 3 _ (omega arith) (low (eqb k 8) 12 _ (omega arith)
+    (low (eqb k 5) 6 _ (omega arith) (low (eqb k 6) 4 _ (omega arith) (low (eqb k 7) 3 _ (omega arith) (low (eqb k 17) 3 _ (omega arith)
+    (low (eqb k 8) 12 _ (omega arith)
     (low (eqb k 9) 19 _ (omega arith) (low (eqb k 10) 22 _ (omega arith) (low (eqb k 11) 24 _ (omega arith) (low (eqb k 12) 16 _ (omega arith)
-    (low (eqb k 14) 16 _ (omega arith) (low (eqb k 15) 17 0 (omega arith) (omega arith))))))))))))))
+    (low (eqb k 14) 16 _ (omega arith) (low (eqb k 15) 17 0 (omega arith) (omega arith)))))))))))))))
   where
     low : (x : Bool) (a b : ℕ) → a ≤ 24 → b ≤ 24 → pick x a b ≤ 24
     low true a b p q = p

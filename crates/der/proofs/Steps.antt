@@ -46,9 +46,10 @@ module _ (o : ℕ) (g : Tag) (read : g ≡ split o) where
     unfolding tagOf
     tag-other e = rw (ne-eqb (class o) 0 (λ z. h (class-of ∙ z)), ne-eqb (class o) 2 (λ z. e (class-of ∙ z)))
 
-pub universal-text : (k r : ℕ) → (k ≡ 1 → ⊥) → (k ≡ 2 → ⊥) → (k ≡ 3 → ⊥) → (k ≡ 4 → ⊥) → (k ≡ 5 → ⊥) → (k ≡ 6 → ⊥) → (k ≡ 7 → ⊥) → r ≡ universalText k → r ≡ universal k
+pub universal-text : (k r : ℕ) → (k ≡ 1 → ⊥) → (k ≡ 2 → ⊥) → (k ≡ 3 → ⊥) → (k ≡ 4 → ⊥) → (k ≡ 5 → ⊥) → (k ≡ 6 → ⊥) → (k ≡ 7 → ⊥) → (k ≡ 17 → ⊥)
+    → r ≡ universalText k → r ≡ universal k
 unfolding universal
-universal-text k r a b c d e f g q = rw (ne-eqb k 1 a, ne-eqb k 2 b, ne-eqb k 3 c, ne-eqb k 4 d, ne-eqb k 5 e, ne-eqb k 6 f, ne-eqb k 7 g) q
+universal-text k r a b c d e f g h q = rw (ne-eqb k 1 a, ne-eqb k 2 b, ne-eqb k 3 c, ne-eqb k 4 d, ne-eqb k 5 e, ne-eqb k 6 f, ne-eqb k 7 g, ne-eqb k 17 h) q
 
 -- ---- lengths
 pub one-past : (s : List ℕ) (n at end : ℕ) → at < end → end - at < 2 → Length.Unusable ≡ longLength n 128 (at + 2) end

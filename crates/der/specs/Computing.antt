@@ -4,7 +4,7 @@ use Rattle.octets.specs.Computing.{octetsCompute}
 use Rattle.der.specs.Kind.{isString, isConstructed}
 use Rattle.der.specs.Tag.{class, constructed, number, tagOf, universalText, universal, ownOctet, implicitOctet, wrapperOctet}
 use Rattle.der.specs.Header.{longLength, lengthAt, headerAt, insideAt}
-use Rattle.der.specs.Contents.{legalBoolean, shortest, legalInteger, legalNull, subsFrom, subidentifiers, legalOid, legalBits}
+use Rattle.der.specs.Contents.{legalBoolean, shortest, legalInteger, legalNull, subsFrom, subidentifiers, legalOid, legalBits, legalNamedBits}
 use Rattle.der.specs.Contents.{isSign, isMark, isPrintable, legalPrintable, legalIa5, legalText, legal}
 use Rattle.der.specs.Time.{isLeap, hasThirty, daysIn, realDate, realTime, fractionDigits, fractionFormed, tailFormed, realMoment, legalTime}
 use Rattle.der.specs.Time.{scaled, billionths, timeOf, sameTime, earlier}
@@ -15,7 +15,7 @@ use Rattle.der.specs.Order.{notAbove}
 unfoldable pub derComputes : ℕ
 unfolding octetsCompute isString isConstructed class constructed number tagOf universalText universal ownOctet implicitOctet wrapperOctet
     longLength lengthAt headerAt insideAt
-    legalBoolean shortest legalInteger legalNull subsFrom subidentifiers legalOid legalBits
+    legalBoolean shortest legalInteger legalNull subsFrom subidentifiers legalOid legalBits legalNamedBits
     isSign isMark isPrintable legalPrintable legalIa5 legalText legal
     isLeap hasThirty daysIn realDate realTime fractionDigits fractionFormed tailFormed realMoment legalTime scaled billionths timeOf sameTime earlier
     sameWhole lessWhole integerOf booleanOf arcsOf octetBits allBits bitsOf everyNumber dottedArcs isDotted notAbove

@@ -1,5 +1,5 @@
 -- Legal contents of the basic kinds (Stored value).
-use Prim.Native.Nat.{ℕ, _+_, _-_, _*_, _%_, _^_}
+use Prim.Native.Nat.{ℕ, _+_, _-_, _*_, _/_, _%_, _^_}
 use mathlib.Core.Bool.{Bool, true, false}
 use mathlib.Core.Option.{Option, none, some}
 use mathlib.Core.List.{List, [], _∷_}
@@ -9,7 +9,7 @@ use Rattle.octets.specs.Pick.{pick, both, either, no, consed}
 use Rattle.octets.specs.Octets.{octet, same, every}
 use Rattle.octets.specs.Text.{within, isAlnum}
 use Rattle.octets.specs.Utf8.{utf8}
-use Rattle.der.specs.Kind.{boolean, integer, enumerated, null, objectIdentifier, octetString, bitString}
+use Rattle.der.specs.Kind.{boolean, integer, enumerated, null, objectIdentifier, octetString, bitString, namedBitString}
 use Rattle.der.specs.Kind.{utf8String, printableString, ia5String, generalizedTime}
 use Rattle.der.specs.Time.{legalTime}
 
@@ -60,6 +60,10 @@ legalBits c =
     (both (leb (octet c 0) 7)
     (pick (eqb (length c) 1) (eqb (octet c 0) 0) (eqb (octet c (length c - 1) % 2 ^ octet c 0) 0)))
 
+-- BIT STRING with names (document 02, Q-2): "Stored values carry no trailing zero bit, as X.690 asks": no bits, or the last bit that is used is 1
+unfoldable pub legalNamedBits : List ℕ → Bool
+legalNamedBits c = both (legalBits c) (either (eqb (length c) 1) (eqb (octet c (length c - 1) / 2 ^ octet c 0 % 2) 1))
+
 -- PrintableString by X.680: letters, digits, space and ' ( ) + , - . / : = and the question mark
 unfoldable pub isSign : ℕ → Bool
 isSign b = either (eqb b 58) (either (eqb b 61) (eqb b 63))
@@ -98,4 +102,5 @@ legal k c =
     (pick (eqb k objectIdentifier) (legalOid c)
     (pick (eqb k octetString) true
     (pick (eqb k bitString) (legalBits c)
-    (legalText k c)))))))
+    (pick (eqb k namedBitString) (legalNamedBits c)
+    (legalText k c))))))))

@@ -24,8 +24,9 @@ tags : map class (hex "30A09E") ++ map constructed (hex "30A09E") ++ map number 
 unfolding derComputes
 tags = refl
 
--- the tag octets of the kinds 1..12, 14, 15; a CHOICE, a member and what is no kind have none
-octets-of-kinds : map ownOctet (1 ∷ 2 ∷ 3 ∷ 4 ∷ 5 ∷ 6 ∷ 7 ∷ 8 ∷ 9 ∷ 10 ∷ 11 ∷ 12 ∷ 14 ∷ 15 ∷ 13 ∷ 16 ∷ 0 ∷ 17 ∷ []) ≡ hex "01020A050604030C13161830303100000000"
+-- the tag octets of the kinds 1..12, 14, 15, 17; a CHOICE, a member, a named bit and what is no kind have none
+octets-of-kinds : map ownOctet (1 ∷ 2 ∷ 3 ∷ 4 ∷ 5 ∷ 6 ∷ 7 ∷ 8 ∷ 9 ∷ 10 ∷ 11 ∷ 12 ∷ 14 ∷ 15 ∷ 17 ∷ 13 ∷ 16 ∷ 18 ∷ 0 ∷ 19 ∷ [])
+    ≡ hex "01020A050604030C131618303031030000000000"
 unfolding derComputes
 octets-of-kinds = refl
 
@@ -75,6 +76,13 @@ bit-strings : map (legal kind.bitString) (hex "08FF" ∷ hex "04FF" ∷ hex "04F
     ≡ false ∷ false ∷ true ∷ false ∷ true ∷ false ∷ true ∷ false ∷ []
 unfolding derComputes
 bit-strings = refl
+
+-- with names: no bits, the count alone; the last bit used 1, and 0 with any number of unused bits; set unused bits; the count of no bits
+named-bit-strings : map (legal kind.namedBitString) (hex "00" ∷ [] ∷ hex "06C0" ∷ hex "00FF" ∷ hex "000001" ∷ hex "05C0" ∷ hex "00FE" ∷ hex "0780" ∷ hex "0700"
+    ∷ hex "0600" ∷ hex "06E0" ∷ hex "01" ∷ hex "0800" ∷ [])
+    ≡ true ∷ false ∷ true ∷ true ∷ true ∷ false ∷ false ∷ true ∷ false ∷ false ∷ false ∷ false ∷ false ∷ []
+unfolding derComputes
+named-bit-strings = refl
 
 -- a surrogate; * and @ are not printable; 80 is not of IA5String
 strings : map (legal kind.utf8String) (hex "EDA080" ∷ hex "ED9FBF" ∷ [] ∷ [])

@@ -1,4 +1,4 @@
--- The kinds of a type, by document 01's numbers (Type table).
+-- The kinds of rows, by document 01's numbers (Type table) and document 02's.
 use Prim.Native.Nat.{ℕ}
 use mathlib.Core.Bool.{Bool}
 use lib.Dec.{eqb}
@@ -52,6 +52,13 @@ setOf = 15
 
 abbrev pub member : ℕ
 member = 16
+
+-- document 02, Q-2: a BIT STRING with names, and a named bit
+abbrev pub namedBitString : ℕ
+namedBitString = 17
+
+abbrev pub namedBit : ℕ
+namedBit = 18
 
 -- the string kinds
 unfoldable pub isString : ℕ → Bool

@@ -2,7 +2,7 @@
 use Prim.Native.Nat.{ℕ, _+_, _/_, _%_}
 use lib.Dec.{eqb}
 use Rattle.octets.specs.Pick.{pick}
-use Rattle.der.specs.Kind.{boolean, integer, enumerated, null, objectIdentifier, octetString, bitString, isConstructed}
+use Rattle.der.specs.Kind.{boolean, integer, enumerated, null, objectIdentifier, octetString, bitString, namedBitString, isConstructed}
 use Rattle.der.specs.Kind.{utf8String, printableString, ia5String, generalizedTime, sequence, sequenceOf, setOf}
 use Rattle.der.specs.declared.Tag.{Tag}
 
@@ -51,7 +51,8 @@ universal k =
     (pick (eqb k objectIdentifier) 6
     (pick (eqb k octetString) 4
     (pick (eqb k bitString) 3
-    (universalText k)))))))
+    (pick (eqb k namedBitString) 3
+    (universalText k))))))))
 
 -- the constructed bit of a kind's tag octet
 abbrev pub form : ℕ → ℕ

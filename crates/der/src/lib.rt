@@ -59,7 +59,7 @@ pub struct Time {
     pub fraction: u64,
 }
 
-// The kinds of a type, by document 01's numbers.
+// The kinds of rows, by document 01's numbers and document 02's.
 pub struct Kind;
 
 impl Kind {
@@ -94,6 +94,10 @@ impl Kind {
     pub const SET_OF: u8 = 15;
 
     pub const MEMBER: u8 = 16;
+
+    pub const NAMED_BIT_STRING: u8 = 17;
+
+    pub const NAMED_BIT: u8 = 18;
 }
 
 // ---- tags
@@ -172,6 +176,9 @@ pub fn universal(kind: u8) -> u8
         return 4;
     }
     if kind == Kind::BIT_STRING {
+        return 3;
+    }
+    if kind == Kind::NAMED_BIT_STRING {
         return 3;
     }
     universal_text(kind)
@@ -456,6 +463,20 @@ fn legal_bits(c: &[u8]) -> bool
     }
     let last = c.len() - 1;
     unused_clear(c[0], c[last])
+}
+
+// Whether bits are legal without a trailing zero bit: there are none, or the last that is used is 1.
+fn legal_named_bits(c: &[u8]) -> bool
+    ensures { λ r. ⌜ r ≡ contents.legalNamedBits (now (c .entry)) ⌝ }
+{
+    if !legal_bits(c) {
+        return false;
+    }
+    if c.len() == 1 {
+        return true;
+    }
+    let last = c.len() - 1;
+    (c[last] >> c[0]) & 1 == 1
 }
 
 // The characters of a PrintableString as sets of bits: those below 64, and those from 64 on.
@@ -752,6 +773,9 @@ pub fn legal_contents(kind: u8, c: &[u8]) -> bool
     }
     if kind == Kind::BIT_STRING {
         return legal_bits(c);
+    }
+    if kind == Kind::NAMED_BIT_STRING {
+        return legal_named_bits(c);
     }
     legal_text(kind, c)
 }

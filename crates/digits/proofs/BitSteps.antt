@@ -68,8 +68,11 @@ module _ (h : List ℕ) (hexed : Bool) where
   bit-text c x l q e = rw (q, e) (ap textBits (sym (rest-cons h (c .at) l)))
 
 -- ---- stored bits against those of a text
+pub rest-start : (h : List ℕ) (hexed : Bool) → restBits hexed h (record { at = 0; quarter = Quarter.First }) ≡ bitsIn hexed h
+rest-start h hexed = ap (λ (x : List ℕ). pick hexed x (textBits h)) (hex-first h)
+
 pub bits-start : (s h : List ℕ) (hexed : Bool) → same s (restBits hexed h (record { at = 0; quarter = Quarter.First })) ≡ same s (bitsIn hexed h)
-bits-start s h hexed = ap (λ (x : List ℕ). same s (pick hexed x (textBits h))) (hex-first h)
+bits-start s h hexed = ap (same s) (rest-start h hexed)
 
 module _ (s h : List ℕ) (hexed : Bool) (i : ℕ) (a : Bits) (step : BitStep) (m : Bool) (inv : same (drop i s) (restBits hexed h a) ≡ m)
     (read : reportBit hexed h step ≡ restBits hexed h a) where

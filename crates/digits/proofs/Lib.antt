@@ -1,2 +1,4 @@
 pub mod Steps
 pub mod BitSteps
+pub mod NamedLaws
+pub mod NamedSteps

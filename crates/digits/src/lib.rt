@@ -1,13 +1,17 @@
 // Octet strings and bit strings in a value text: `'..'H` and `'..'B`.
 ghost use mathlib.Core.Path.{_≡_};
 ghost use Prim.Native.Nat.{_≤_, _+_, _-_, _*_};
+ghost use mathlib.Core.List.{[]};
 ghost use lib.ListN.{length, drop};
 ghost use lib.Dec.{leb};
 ghost use Rattle.octets.specs.Pick.{both};
 ghost use Rattle.octets.specs.Octets as octets;
 ghost use Rattle.der.specs.Meaning.{bitsOf};
 ghost use Rattle.digits.specs.Asserted as asserted;
+ghost use Rattle.digits.specs.Named as named;
 ghost use Rattle.digits.specs.inner.Answers as answers;
+ghost use Rattle.digits.specs.inner.Masks as masks;
+ghost use Rattle.digits.specs.inner.Alike.{alike, alikeNumber, padded};
 
 pub enum Order {
     Less,
@@ -39,6 +43,12 @@ pub struct Bits {
 pub enum BitStep {
     Bit(u8, Bits),
     End,
+}
+
+// A bit, 0 past the end, and the place after it.
+pub struct Drawn {
+    pub bit: u8,
+    pub after: Bits,
 }
 
 // ---- conforming
@@ -341,4 +351,91 @@ pub fn same_bits(c: &[u8], h: &[u8], hexed: bool) -> bool
         return false;
     }
     same_bit_list(c, h, hexed)
+}
+
+// ---- bits with names: trailing zero bits don't count
+fn draw_bit(h: &[u8], hexed: bool, a: Bits) -> Drawn
+    ensures { λ r. ⌜ answers.reportDrawn hexed (now (h .entry)) r ≡ padded (answers.restBits hexed (now (h .entry)) a) ⌝ }
+{
+    let BitStep::Bit(bit, after) = next_bit(h, hexed, a) else {
+        return Drawn { bit: 0, after: a };
+    };
+    Drawn { bit, after }
+}
+
+// Whether the bits from a place on are all 0.
+fn only_zeros(h: &[u8], hexed: bool, from: Bits) -> bool
+    ensures { λ r. ⌜ r ≡ alike [] (answers.restBits hexed (now (h .entry)) from) ⌝ }
+{
+    let mut a = from;
+    loop {
+        let BitStep::Bit(x, a2) = next_bit(h, hexed, a) else {
+            return true;
+        };
+        if x != 0 {
+            return false;
+        }
+        a = a2;
+    }
+}
+
+fn alike_text(c: &[u8], h: &[u8], hexed: bool) -> bool
+    requires { ⌜ length (now c) ≤ 65536 ⌝ }
+    ensures { λ r. ⌜ r ≡ alike (bitsOf (now (c .entry))) (answers.bitsIn hexed (now (h .entry))) ⌝ }
+{
+    let n = der::bit_count(c);
+    let mut i = 0;
+    let mut a = Bits {
+        at: 0,
+        quarter: Quarter::First,
+    };
+    while i < n {
+        let drawn = draw_bit(h, hexed, a);
+        if der::bit_at(c, i) != drawn.bit {
+            return false;
+        }
+        i += 1;
+        a = drawn.after;
+    }
+    only_zeros(h, hexed, a)
+}
+
+// Whether stored bits are those of hexadecimal digits (`hexed`), or of binary ones, trailing zero bits not counted on either side. Of contents above
+// 65,536 octets the answer is false.
+pub fn same_named_bits(c: &[u8], h: &[u8], hexed: bool) -> bool
+    ensures { λ r. ⌜ r ≡ both (leb (length (now (c .entry))) 65536)
+        (octets.same (named.trimmed (bitsOf (now (c .entry)))) (named.trimmed (answers.bitsIn hexed (now (h .entry))))) ⌝ }
+{
+    if 65536 < c.len() {
+        return false;
+    }
+    alike_text(c, h, hexed)
+}
+
+fn alike_mask(c: &[u8], mask: u64) -> bool
+    requires { ⌜ length (now c) ≤ 65536 ⌝ }
+    ensures { λ r. ⌜ r ≡ alikeNumber (bitsOf (now (c .entry))) mask ⌝ }
+{
+    let n = der::bit_count(c);
+    let mut i = 0;
+    let mut rest = mask;
+    while i < n {
+        if octets::wide64(der::bit_at(c, i)) != rest % 2 {
+            return false;
+        }
+        i += 1;
+        rest = rest / 2;
+    }
+    rest == 0
+}
+
+// Whether stored bits are those of a set, trailing zero bits not counted.
+pub fn same_mask(c: &[u8], mask: u64) -> bool
+    ensures { λ r. ⌜ r ≡ both (leb (length (now (c .entry))) 65536)
+        (octets.same (named.trimmed (bitsOf (now (c .entry)))) (named.trimmed (masks.maskBits mask))) ⌝ }
+{
+    if 65536 < c.len() {
+        return false;
+    }
+    alike_mask(c, mask)
 }

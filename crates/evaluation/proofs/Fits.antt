@@ -1,6 +1,6 @@
 -- Each value that a reference names fits what the reference leads to; so the code's acceptance is the definition's, for what is named in a stored value.
 use mathlib.Core.Path.{_≡_, refl, sym, ap, ap₂, _∙_, subst}
-use mathlib.Core.Bool.{Bool, true, false}
+use mathlib.Core.Bool.{Bool, true, false, false≢true}
 use mathlib.Core.Option.{Option, some}
 use mathlib.Core.List.{List, [], _∷_, _++_}
 use Prim.Native.Nat.{ℕ, _≤_, _+_, _-_}
@@ -25,12 +25,14 @@ use Rattle.reference.specs.Named.{Held, value, defaultValue, countValue, absent
 use Rattle.reference.specs.Numbers.{Component, component, contentsOf}
 use Rattle.rules.specs.Rule.{Rule}
 use Rattle.rules.specs.Suits.{suits}
+use Rattle.rules.specs.Asserted.{Asserted}
 use Rattle.rules.specs.Accepts.{acceptsContents, accepts}
-use Rattle.rules.specs.inner.Answers.{conforms, said}
-use Rattle.plan.specs.inner.Test.{accepted, testFor}
+use Rattle.rules.specs.inner.Answers.{readByTarget, conforms, said}
+use Rattle.plan.specs.inner.Test.{Test, accepted, testFor}
 use Rattle.plan.specs.inner.Operand.{operandOf}
 use Rattle.plan.specs.inner.Task as task
 use Rattle.plan.specs.inner.Task.{passesContents, passesCount, passes}
+use Rattle.plan.proofs.BitsAccepting.{Accepting, bits-no-sequence, bits-no-choice, bits-no-list, bits-no-count}
 use Rattle.plan.proofs.Accepting.{basic-passes, choice-passes, sequence-passes, list-passes, count-passes}
 use Rattle.evaluation.specs.Truth.{TRUE}
 use Rattle.evaluation.specs.Reading.{Outcome, settled}
@@ -237,25 +239,35 @@ module _ (defaults : Bool) (v : List ℕ) where
   unfolding allowed named
   named-fit is ty k x f e h = held-fit is (ofType ty) k (value x ∷ []) (one-fits v (ofType ty) ty x refl (decoded-is (decodes-stored ty v x e) (omega arith)) f) h
 
+-- ---- tests that say the same of what fits
+all-alike : (f h : Held → Bool) (v : List ℕ) (g : Target) → ((x : Held) → Fits v x g → f x ≡ h x) → (hs : List Held) (n : ℕ) → AllFit v g hs
+    → testing f n hs ≡ testing h n hs
+unfolding AllFit testing
+all-alike f h v g same [] n w = refl
+all-alike f h v g same (x ∷ hs) n w = ap₂ (λ (b : Bool) (o : Outcome). pick b (settled TRUE (n + 1)) o) (same x (w .0))
+    (all-alike f h v g same hs (n + 1) (w .1))
+
+part-short : (v : List ℕ) → length v ≤ 65536 → (start n : ℕ) → length (part v start n) ≤ 65536
+part-short v short start n = omega (arith, length-take n (drop start v), rest-length v start)
+
 -- ---- a plan's test accepts what the rule accepts
 module _ (t : List ℕ) (r : Rule) (budget : ℕ) (v : List ℕ) (short : length v ≤ 65536) (asserted : conforms r t ≡ true) where
   abbrev tests : Component → Bool
   tests c = passes (task.testing (testFor r (operandOf r t)) budget) (operandOf r t) c
 
-  part-short : (start n : ℕ) → length (part v start n) ≤ 65536
-  part-short start n = omega (arith, length-take n (drop start v), rest-length v start)
-
   value-passes : {ty : Ty} {g : Tagging} {at end : ℕ} {x : Value} {after : ℕ} → Decodes v ty g at end x after → suits r (ofType ty) ≡ true
       → accepted (testFor r (operandOf r t)) (operandOf r t) (spotOf x .contents) ≡ acceptsContents r (said r t) (spotOf x .contents)
   unfolding spotAt
-  value-passes (is-basic {k = k} {start = start} {n = n} b l) h =
-      subst (λ (s : Spot). accepted (testFor r (operandOf r t)) (operandOf r t) (s .contents) ≡ acceptsContents r (said r t) (s .contents)) (b .spot) (basic-passes t (part v start n) r k h asserted l (part-short start n))
+  value-passes (is-basic {k = k} {names = names} {start = start} {n = n} b l) h =
+      subst (λ (s : Spot). accepted (testFor r (operandOf r t)) (operandOf r t) (s .contents) ≡ acceptsContents r (said r t) (s .contents)) (b .spot)
+      (basic-passes t (part v start n) r k names h asserted l (part-short v short start n))
   value-passes (is-sequence {ms = ms} {s = s} b w) h = sequence-passes t (s .contents) r ms h
   value-passes (is-choice {ms = ms} {x = x} c) h = choice-passes t (spotOf x .contents) r ms h
   value-passes (is-list {k = k} {ty = ty} {s = s} b w q) h = list-passes t (s .contents) r k ty h
 
   default-passes : (ty : Ty) (c : List ℕ) → Defaulted ty c → suits r (ofType ty) ≡ true → accepted (testFor r (operandOf r t)) (operandOf r t) c ≡ acceptsContents r (said r t) c
-  default-passes ty c d h = basic-passes t c r (d .kind) (subst (λ (y : Ty). suits r (ofType y) ≡ true) (d .is-basic) h) asserted (d .legal) (omega (arith, d .short))
+  default-passes ty c d h = basic-passes t c r (d .kind) (d .names) (subst (λ (y : Ty). suits r (ofType y) ≡ true) (d .is-basic) h) asserted (d .legal)
+      (omega (arith, d .short))
 
   held-passes : (g : Target) (h : Held) → suits r g ≡ true → Fits v h g → tests (component h) ≡ accepts r (said r t) h
   unfolding Fits passes passesContents passesCount accepts
@@ -266,12 +278,34 @@ module _ (t : List ℕ) (r : Rule) (budget : ℕ) (v : List ℕ) (short : length
   held-passes (ofType ty) (countValue p n) e w = absurd w
   held-passes ofCount (countValue p n) e w = count-passes t n (omega (arith, short, w)) r e asserted
 
-  all-tests : (g : Target) (hs : List Held) (n : ℕ) → suits r g ≡ true → AllFit v g hs → testing (λ h. tests (component h)) n hs ≡ testing (accepts r (said r t)) n hs
-  unfolding AllFit testing
-  all-tests g [] n e w = refl
-  all-tests g (h ∷ hs) n e w = ap₂ (λ (b : Bool) (o : Outcome). pick b (settled TRUE (n + 1)) o) (held-passes g h e (w .0)) (all-tests g hs (n + 1) e (w .1))
-
   -- with a rule that is for what the reference leads to and a text that conforms
   pub named-tests : (defaults : Bool) (is : List Id) (ty : Ty) (k : Target) (x : Value) (n : ℕ) → Fine ty → storedValue ty v ≡ some x → allowed is ty ≡ some k → suits r k ≡ true
       → testing (λ h. tests (component h)) n (named defaults is x) ≡ testing (accepts r (said r t)) n (named defaults is x)
-  named-tests defaults is ty k x n f e h q = all-tests k (named defaults is x) n q (named-fit defaults v is ty k x f e h)
+  named-tests defaults is ty k x n f e h q = all-alike _ _ v k (λ y w. held-passes k y q w) (named defaults is x) n (named-fit defaults v is ty k x f e h)
+
+-- ---- a test of bits accepts what the rule accepts
+module _ (r : Rule) (bits : readByTarget r ≡ true) (x : List ℕ) (test : Test) (a : Asserted) (agrees : Accepting r x test a) (budget : ℕ) (v : List ℕ)
+    (short : length v ≤ 65536) where
+  bits-value : {ty : Ty} {g : Tagging} {at end : ℕ} {y : Value} {after : ℕ} → Decodes v ty g at end y after → suits r (ofType ty) ≡ true
+      → accepted test x (spotOf y .contents) ≡ acceptsContents r a (spotOf y .contents)
+  unfolding spotAt
+  bits-value (is-basic {start = start} {n = n} b l) h =
+      subst (λ (s : Spot). accepted test x (s .contents) ≡ acceptsContents r a (s .contents)) (b .spot)
+      (agrees .contents (part v start n) (part-short v short start n))
+  bits-value (is-sequence {ms = ms} b w) h = absurd (false≢true (sym (bits-no-sequence r bits ms) ∙ h))
+  bits-value (is-choice {ms = ms} c) h = absurd (false≢true (sym (bits-no-choice r bits ms) ∙ h))
+  bits-value (is-list {k = k} {ty = ty} b w q) h = absurd (false≢true (sym (bits-no-list r bits k ty) ∙ h))
+
+  bits-held : (g : Target) (h : Held) → suits r g ≡ true → Fits v h g → passes (task.testing test budget) x (component h) ≡ accepts r a h
+  unfolding Fits passes passesContents accepts
+  bits-held (ofType ty) (value y) e w = bits-value (w .0 .decodes) e
+  bits-held ofCount (value y) e w = absurd w
+  bits-held (ofType ty) (defaultValue p m) e w = agrees .contents (contentsOf (m .presence)) (omega (arith, w .short))
+  bits-held ofCount (defaultValue p m) e w = absurd w
+  bits-held (ofType ty) (countValue p n) e w = absurd w
+  bits-held ofCount (countValue p n) e w = absurd (false≢true (sym (bits-no-count r bits) ∙ e))
+
+  pub bits-tests : (defaults : Bool) (is : List Id) (ty : Ty) (k : Target) (y : Value) (n : ℕ) → Fine ty → storedValue ty v ≡ some y → allowed is ty ≡ some k
+      → suits r k ≡ true
+      → testing (λ h. passes (task.testing test budget) x (component h)) n (named defaults is y) ≡ testing (accepts r a) n (named defaults is y)
+  bits-tests defaults is ty k y n f e h q = all-alike _ _ v k (λ z w. bits-held k z q w) (named defaults is y) n (named-fit defaults v is ty k y f e h)

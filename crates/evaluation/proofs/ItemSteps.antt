@@ -27,11 +27,11 @@ use Rattle.reference.proofs.Laws.{undoubled-reference}
 use Rattle.rules.specs.Rule as rule
 use Rattle.rules.specs.Rule.{ruleOf, knownRules}
 use Rattle.rules.specs.Suits.{suits}
-use Rattle.rules.specs.RuleFor.{comparison, ruleFor}
-use Rattle.rules.specs.inner.Answers.{meant, reportRule, conforms, said}
+use Rattle.rules.specs.RuleFor.{comparison, ifFor, ruleFor}
+use Rattle.rules.specs.inner.Answers.{meant, readByTarget, reportRule, conforms, said}
 use Rattle.rules.specs.declared.Rule.{Rule}
 use Rattle.rules.specs.declared.Named.{Named}
-use Rattle.rules.proofs.Laws.{rule-for-none, rule-for-is}
+use Rattle.rules.proofs.Laws.{rule-for-none, rule-for-known, rule-for-is}
 use Rattle.plan.specs.inner.Test.{testFor}
 use Rattle.plan.specs.inner.Operand.{operandOf, Part, stands, folds}
 use Rattle.plan.proofs.Accepting.{operand-stands, operand-prepared}
@@ -90,15 +90,16 @@ module _ (t f : List ℕ) (c : Component) (g : Target) where
 
 -- ---- what an assertion asks
 module _ (ty : Ty) (i : Item) where
-  abbrev byTarget : List Id → allowed.Target → Option Asked
+  abbrev pub byTarget : List Id → allowed.Target → Option Asked
   byTarget is g = bind (ruleFor knownRules g (i .rule) (i .value)) (λ x. some (record { ids = is; rule = x .rule; asserted = x .asserted }))
 
-  asked-by : asked knownRules ty i ≡ bind (identifiers (i .component)) (λ is. bind (allowed.allowed is ty) (byTarget is))
+  pub asked-by : asked knownRules ty i ≡ bind (identifiers (i .component)) (λ is. bind (allowed.allowed is ty) (byTarget is))
   unfolding asked
   asked-by = refl
 
   -- nothing, where the rule is not for what the reference leads to, or the text doesn't conform
-  asked-none : ((is : List Id) → identifiers (i .component) ≡ some is → (g : allowed.Target) → allowed.allowed is ty ≡ some g → ruleFor knownRules g (i .rule) (i .value) ≡ none)
+  pub asked-none : ((is : List Id) → identifiers (i .component) ≡ some is → (g : allowed.Target) → allowed.allowed is ty ≡ some g
+      → ruleFor knownRules g (i .rule) (i .value) ≡ none)
       → asked knownRules ty i ≡ none
   asked-none h = asked-by ∙ go (identifiers (i .component)) refl
     where
@@ -112,7 +113,7 @@ module _ (ty : Ty) (i : Item) where
 
   module _ (v : List ℕ) (budget n : ℕ) (within : n ≤ budget) where
     -- "an Undefined assertion makes no test"
-    undefined-then : asked knownRules ty i ≡ none → Judged.Of Verdict.Undefined n ≡ charged budget n (storedOutcome ty v i)
+    pub undefined-then : asked knownRules ty i ≡ none → Judged.Of Verdict.Undefined n ≡ charged budget n (storedOutcome ty v i)
     unfolding storedOutcome outcome charged
     undefined-then q = go (storedValue ty v)
       where
@@ -124,14 +125,18 @@ module _ (ty : Ty) (i : Item) where
     unruled-then e = undefined-then (asked-none (λ is p g q. rule-for-none knownRules g (i .rule) (i .value) e))
 
   module _ (r : rule.Rule) (known : ruleOf knownRules (i .rule) ≡ some r) where
-    by-rule : (g : allowed.Target) (a b : Bool) → suits r g ≡ a → conforms r (i .value) ≡ b → ruleFor knownRules g (i .rule) (i .value) ≡ pick (both a b) (some (comparison r (said r (i .value)))) none
-    by-rule g a b e h = rule-for-is knownRules g (i .rule) (i .value) r known ∙ rw (e, h)
+    by-rule : readByTarget r ≡ false → (g : allowed.Target) (a b : Bool) → suits r g ≡ a → conforms r (i .value) ≡ b
+        → ruleFor knownRules g (i .rule) (i .value) ≡ pick (both a b) (some (comparison r (said r (i .value)))) none
+    by-rule plain g a b e h = rule-for-is knownRules g (i .rule) (i .value) r plain known ∙ rw (e, h)
 
-    unconforming : conforms r (i .value) ≡ false → asked knownRules ty i ≡ none
-    unconforming e = asked-none (λ is p g q. by-rule g (suits r g) false refl e ∙ rw (never (suits r g)))
+    unconforming : readByTarget r ≡ false → conforms r (i .value) ≡ false → asked knownRules ty i ≡ none
+    unconforming plain e = asked-none (λ is p g q. by-rule plain g (suits r g) false refl e ∙ rw (never (suits r g)))
 
     unsuited : suitsAny r (leadsBy (i .component) ty) ≡ false → asked knownRules ty i ≡ none
-    unsuited e = asked-none (λ is p g q. by-rule g false (conforms r (i .value)) (sym (rw (p, q)) ∙ e) refl)
+    unsuited e = asked-none (λ is p g q. rule-for-known knownRules g (i .rule) (i .value) r known ∙ not-for g (rw (p, q) at e))
+      where
+        not-for : (g : allowed.Target) → suits r g ≡ false → ifFor g (i .value) r ≡ none
+        not-for g h = rw h
 
 -- where a rule is for what a reference leads to, the reference leads somewhere
 abbrev pub Led : rule.Rule → Option (List ℕ) → Ty → Type 0
@@ -165,10 +170,12 @@ module _ (ty : Ty) (v f : List ℕ) (p : Parts) (budget n : ℕ) (within : n ≤
   parts-unknown name x h e q = unruled-then ty (itemOf f p) v budget n within (ap (ruleOf knownRules) (sym h) ∙ sym e ∙ ap reportRule q)
 
   module _ (r : Rule) (known : ruleOf knownRules (itemOf f p .rule) ≡ some (meant r)) where
-    pub ruled-undefined : (text : List ℕ) (b : Bool) → text ≡ itemOf f p .value → b ≡ conforms (meant r) text → not b ≡ true
+    pub ruled-undefined : (text : List ℕ) (a b : Bool) → a ≡ readByTarget (meant r) → a ≡ false → text ≡ itemOf f p .value → b ≡ conforms (meant r) text
+        → not b ≡ true
         → Judged.Of Verdict.Undefined n ≡ charged budget n (storedOutcome ty v (itemOf f p))
-    ruled-undefined text b h e q =
-        undefined-then ty (itemOf f p) v budget n within (unconforming ty (itemOf f p) (meant r) known (ap (conforms (meant r)) (sym h) ∙ sym e ∙ not-true b q))
+    ruled-undefined text a b reads plain h e q =
+        undefined-then ty (itemOf f p) v budget n within (unconforming ty (itemOf f p) (meant r) known (sym reads ∙ plain) (ap (conforms (meant r)) (sym h)
+        ∙ sym e ∙ not-true b q))
 
 pub parts-known : (f : List ℕ) (p : Parts) (name : List ℕ) (x : Named) (r : Rule) → name ≡ itemOf f p .rule → reportRule x ≡ ruleOf knownRules name → x ≡ Named.Known r
     → ruleOf knownRules (itemOf f p .rule) ≡ some (meant r)
@@ -201,11 +208,12 @@ module _ (t f : List ℕ) (p : Parts) (r : Rule) (g : Target) (leads : targetOf 
           stored = value .1;
         }
 
-    module _ (budget n : ℕ) (within : n ≤ budget) (known : ruleOf knownRules (itemOf f p .rule) ≡ some (meant r)) (conforming : conforms (meant r) (itemOf f p .value) ≡ true) (operand : x ≡ operandOf (meant r) (itemOf f p .value)) where
+    module _ (budget n : ℕ) (within : n ≤ budget) (known : ruleOf knownRules (itemOf f p .rule) ≡ some (meant r)) (plain : readByTarget (meant r) ≡ false)
+        (conforming : conforms (meant r) (itemOf f p .value) ≡ true) (operand : x ≡ operandOf (meant r) (itemOf f p .value)) where
       asked-there : asked knownRules (typeAt t 0) (itemOf f p) ≡ some (record { ids = there .0; rule = meant r; asserted = said (meant r) (itemOf f p .value) })
       asked-there =
           asked-by (typeAt t 0) (itemOf f p)
-          ∙ rw (there .1, there .3, by-rule (typeAt t 0) (itemOf f p) (meant r) known (there .2) true true (there .4) conforming)
+          ∙ rw (there .1, there .3, by-rule (typeAt t 0) (itemOf f p) (meant r) known plain (there .2) true true (there .4) conforming)
 
       test : Task
       test = task.testing (testFor (meant r) x) budget
@@ -249,6 +257,12 @@ module _ (f : List ℕ) (p : Parts) (r : Rule) (text part : List ℕ) (value : t
 
 pub ruled-conforms : (r : Rule) (text : List ℕ) (b : Bool) → b ≡ conforms (meant r) text → not b ≡ false → conforms (meant r) text ≡ true
 ruled-conforms r text b e q = sym e ∙ not-false b q
+
+pub ruled-plain : (r : Rule) (a : Bool) → a ≡ readByTarget (meant r) → a ≡ false → readByTarget (meant r) ≡ false
+ruled-plain r a e q = sym e ∙ q
+
+pub ruled-bits : (r : Rule) (a : Bool) → a ≡ readByTarget (meant r) → a ≡ true → readByTarget (meant r) ≡ true
+ruled-bits r a e q = sym e ∙ q
 
 -- ---- answers
 module _ (s : State) (k : ℕ) where

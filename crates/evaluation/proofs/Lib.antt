@@ -3,6 +3,7 @@ pub mod Testing
 pub mod Typed
 pub mod Fits
 pub mod ItemSteps
+pub mod BitsSteps
 pub mod ListLaws
 pub mod FilterSteps
 pub mod Same

@@ -19,7 +19,8 @@ use Rattle.rows.specs.Row.{nameAt, kindAt, namedAt, presenceAt, defaultLengthAt
 use Rattle.rows.proofs.KindLaws.{list-names}
 use Rattle.clauses.specs.Clauses.{memberPlace, defaultAllowed, defaultLegal}
 use Rattle.types.proofs.TypeCases.{typed-cases, typed-small}
-use Rattle.types.specs.Types.{Presence, mandatory, optional, default, Ty, basic, sequence, choice, listOf, Members, noMore, more, unfilled, presenceOf, memberOf, membersFrom, typed, typeFrom}
+use Rattle.types.specs.Types.{Presence, mandatory, optional, default, NamedBit, Ty, basic, sequence, choice, listOf, Members, noMore, more, unfilled}
+use Rattle.types.specs.Types.{presenceOf, memberOf, membersFrom, typed, typeFrom}
 use Rattle.types.specs.Admitted.{admitted}
 use Rattle.types.specs.inner.Work.{Sound}
 use Rattle.types.proofs.NameLaws.{unfilled-differ}
@@ -65,7 +66,9 @@ default-short k c e =
 -- the contents of a default, which only a basic type has
 pub record Defaulted (ty : Ty) (c : List ℕ) : Type 0 where
   pub kind : ℕ
-  pub is-basic : ty ≡ basic kind
+  pub names : List NamedBit
+  pub is-basic : ty ≡ basic kind names
+  pub low : kind ≤ 3
   pub legal : legal kind c ≡ true
   pub short : length c ≤ 8
 
@@ -81,7 +84,7 @@ Fresh x (more m ty ms) = (same (m .name) x ≡ false) × Fresh x ms
 
 unfoldable mutual
   pub Fine : Ty → Type 0
-  Fine (basic k) = Unit {0}
+  Fine (basic k names) = Unit {0}
   Fine (sequence ms) = FineIn ms
   Fine (choice ms) = FineIn ms
   Fine (listOf k ty) = Fine ty
@@ -90,9 +93,9 @@ unfoldable mutual
   FineIn noMore = Unit {0}
   FineIn (more m ty ms) = DefaultFine ty (m .presence) × (Fresh (m .name) ms × (Fine ty × FineIn ms))
 
-module _ (chain : ℕ) (t s m : List ℕ) (ok : Sound chain t s m) (names : NamesDiffer t s) where
+module _ (chain : ℕ) (t s m : List ℕ) (ok : Sound chain t s m) where
   -- the default of a member row
-  default-fine : (i : ℕ) → i < length s → kindAt t (rowAt s i) ≡ 16 → namedAt t (rowAt s i) < length s
+  pub default-fine : (i : ℕ) → i < length s → kindAt t (rowAt s i) ≡ 16 → namedAt t (rowAt s i) < length s
       → DefaultFine (typeFrom chain t s (namedAt t (rowAt s i))) (memberOf t i (rowAt s i) .presence)
   unfolding memberOf presenceOf defaultLegal defaultAllowed
   default-fine i h k there = go (eqb (presenceAt t (rowAt s i)) 0) refl (eqb (presenceAt t (rowAt s i)) 1) refl
@@ -108,7 +111,9 @@ module _ (chain : ℕ) (t s m : List ℕ) (ok : Sound chain t s m) (names : Name
           let z = both-true (leb 1 k) (leb k 3) (u .0) in
           record {
             kind = k;
+            names = _;
             is-basic = ok .step (namedAt t (rowAt s i)) there ∙ typed-small t s (namedAt t (rowAt s i)) _ _ (omega (arith, leb-true k 3 (z .1)));
+            low = leb-true k 3 (z .1);
             legal = u .1;
             short = default-short k (defaultAt t (rowAt s i)) w;
           }
@@ -124,6 +129,7 @@ module _ (chain : ℕ) (t s m : List ℕ) (ok : Sound chain t s m) (names : Name
           let d : presenceAt t (rowAt s i) ≡ 2 = omega arith in
           allowed (eq-eqb (presenceAt t (rowAt s i)) 2 d)
 
+module _ (chain : ℕ) (t s m : List ℕ) (ok : Sound chain t s m) (names : NamesDiffer t s) where
   fresh-rows : (f : ℕ → Ty) (x : List ℕ) (k a : ℕ) → ((j : ℕ) → j < k → same (unfilled (nameAt t (rowAt s (a + j)))) x ≡ false) → Fresh x (membersFrom f t s a k)
   unfolding Fresh membersFrom memberOf
   fresh-rows f x zero a h = tt
@@ -141,7 +147,7 @@ module _ (chain : ℕ) (t s m : List ℕ) (ok : Sound chain t s m) (names : Name
   fine-rows n fine (suc k) a rows apart =
       let z : a + 0 ≡ a = omega arith in
       let first = subst (λ (y : ℕ). (y < length s) × (kindAt t (rowAt s y) ≡ 16) × (n < namedAt t (rowAt s y)) × (namedAt t (rowAt s y) < length s)) z (rows 0 (omega arith)) in (
-        default-fine a (first .0) (first .1) (first .3),
+        default-fine chain t s m ok a (first .0) (first .1) (first .3),
         (
           fresh-rows (typeFrom chain t s) _ k (a + 1) (λ j d. shift (λ (y : ℕ). same (unfilled (nameAt t (rowAt s y))) (unfilled (nameAt t (rowAt s a))) ≡ false) j (subst (λ (y : ℕ). same (unfilled (nameAt t (rowAt s (a + suc j)))) (unfilled (nameAt t (rowAt s y))) ≡ false) z (apart 0 (suc j) (omega arith) (omega arith)))),
           (

@@ -6,13 +6,14 @@ use filter::Filter;
 use filter::Head;
 use filter::Join;
 use filter::Tail;
+use plan::BitsTest;
 use reference::Target;
 use rules::Named;
 use rules::Rule;
 use walk::State;
 ghost use Prim.Native.Nat.{_≤_};
 ghost use mathlib.Core.Path.{_≡_};
-ghost use mathlib.Core.Bool.{true};
+ghost use mathlib.Core.Bool.{true, false};
 ghost use mathlib.Core.Option.{some};
 ghost use lib.ListN.{length};
 ghost use Rattle.rows.specs.Paper.{tableLimits};
@@ -21,7 +22,8 @@ ghost use Rattle.table.specs.inner.Rows.{tableRows, typeAt};
 ghost use Rattle.table.specs.inner.Words.{Worded};
 ghost use Rattle.reference.specs.inner.Work as reference;
 ghost use Rattle.rules.specs.Rule.{ruleOf, knownRules};
-ghost use Rattle.rules.specs.inner.Answers.{meant, conforms};
+ghost use Rattle.rules.specs.inner.Answers.{meant, readByTarget, conforms};
+ghost use Rattle.plan.specs.inner.Test.{reportBits};
 ghost use Rattle.plan.specs.inner.Task.{taskOf};
 ghost use Rattle.plan.specs.inner.Operand.{operandOf};
 ghost use Rattle.assertion.specs.Assertion.{assertionAt};
@@ -99,6 +101,20 @@ fn suits_target(rule: Rule, t: &[u8], w: &[u64; 256], target: Target) -> bool
     }
 }
 
+// The test of a rule of bits with a value text on what a reference leads to.
+fn bits_test(rule: Rule, t: &[u8], w: &[u64; 256], target: Target, x: &[u8]) -> BitsTest
+    requires worded { ⌜ Worded (now t) (now w) ⌝ }
+    requires here { ⌜ reference.rowWithin (tableRows (now t)) target ≡ true ⌝ }
+    requires bits { ⌜ readByTarget (meant rule) ≡ true ⌝ }
+    ensures { λ r. ⌜ reportBits r ≡ work.bitsAny (meant rule) (work.targetOf (now (t .entry)) target) (now (x .entry)) ⌝ }
+{
+    match target {
+        Target::Row(i) => plan::bits_test_at(rule, t, w, i, x),
+        Target::Count => BitsTest::No,
+        Target::No => BitsTest::No,
+    }
+}
+
 // Writes the steps of an assertion's reference, for the plan's test with the operand; what it leads to.
 fn resolve_component(
     t: &[u8],
@@ -116,6 +132,7 @@ fn resolve_component(
     ensures within { λ g. ⌜ reference.rowWithin (tableRows (now (t .entry))) g ≡ true ⌝ }
     ensures planned { λ g. ⌜ work.PlannedFor (now (t .entry)) (now (q .exit)) (now (x .entry)) defaults (componentOf (now (f .entry)) component) g ⌝ }
     ensures task { λ g. ⌜ taskOf (now (q .exit)) ≡ taskOf (now (q .entry)) ⌝ }
+    ensures room { λ g. ⌜ length (now (q .exit)) ≡ 72 ⌝ }
 {
     match component {
         Component::Missing => plan::resolve(t, w, q, false, f, x, defaults),
@@ -150,6 +167,7 @@ fn judge_operand(
 ) -> Judged
     requires ready { ⌜ work.Ready (now t) (now w) (now v) (now f) ⌝ }
     requires known { ⌜ ruleOf knownRules (itemOf (now f) p .rule) ≡ some (meant rule) ⌝ }
+    requires plain { ⌜ readByTarget (meant rule) ≡ false ⌝ }
     requires conforming { ⌜ conforms (meant rule) (itemOf (now f) p .value) ≡ true ⌝ }
     requires operand { ⌜ now x ≡ operandOf (meant rule) (itemOf (now f) p .value) ⌝ }
     requires within { ⌜ tests .made ≤ tests .budget ⌝ }
@@ -179,6 +197,7 @@ fn judge_conforming(
 ) -> Judged
     requires ready { ⌜ work.Ready (now t) (now w) (now v) (now f) ⌝ }
     requires known { ⌜ ruleOf knownRules (itemOf (now f) p .rule) ≡ some (meant rule) ⌝ }
+    requires plain { ⌜ readByTarget (meant rule) ≡ false ⌝ }
     requires value { ⌜ now text ≡ itemOf (now f) p .value ⌝ }
     requires conforming { ⌜ conforms (meant rule) (now text) ≡ true ⌝ }
     requires within { ⌜ tests .made ≤ tests .budget ⌝ }
@@ -192,6 +211,35 @@ fn judge_conforming(
     let mut memory = [0u8; 5120];
     let n = strings::prepare(part, plan::folds(rule), &mut memory);
     judge_operand(t, w, v, f, p, rule, octets::part(&memory, 0, n), tests)
+}
+
+// An assertion with a rule of bits: its value text is read by what the reference leads to, where bits may have names.
+fn judge_bits(
+    t: &[u8],
+    w: &[u64; 256],
+    v: &[u8],
+    f: &[u8],
+    p: Parts,
+    rule: Rule,
+    text: &[u8],
+    tests: Tests,
+) -> Judged
+    requires ready { ⌜ work.Ready (now t) (now w) (now v) (now f) ⌝ }
+    requires known { ⌜ ruleOf knownRules (itemOf (now f) p .rule) ≡ some (meant rule) ⌝ }
+    requires bits { ⌜ readByTarget (meant rule) ≡ true ⌝ }
+    requires value { ⌜ now text ≡ itemOf (now f) p .value ⌝ }
+    requires within { ⌜ tests .made ≤ tests .budget ⌝ }
+    ensures { λ j. ⌜ j
+        ≡ work.charged (tests .budget) (tests .made) (work.storedOutcome (typeAt (now (t .entry)) 0) (now (v .entry)) (itemOf (now (f .entry)) p)) ⌝ }
+{
+    let mut q = [0usize; 72];
+    let component = p.component;
+    let target = resolve_component(t, w, &mut q, f, component, text, p.defaults);
+    let BitsTest::Of(comparison, number) = bits_test(rule, t, w, target, text) else {
+        return Judged::Of(Verdict::Undefined, tests.made);
+    };
+    plan::set_test(&mut q, comparison, number, tests.budget);
+    ended(walk::test(t, w, &q, v, text, tests.made))
 }
 
 // An assertion with a rule.
@@ -211,6 +259,9 @@ fn judge_ruled(
         ≡ work.charged (tests .budget) (tests .made) (work.storedOutcome (typeAt (now (t .entry)) 0) (now (v .entry)) (itemOf (now (f .entry)) p)) ⌝ }
 {
     let text = octets::between(f, p.value, p.value_end);
+    if rules::reads_by_target(rule) {
+        return judge_bits(t, w, v, f, p, rule, text, tests);
+    }
     if !rules::conforms(rule, text) {
         return Judged::Of(Verdict::Undefined, tests.made);
     }

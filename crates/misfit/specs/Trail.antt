@@ -124,7 +124,7 @@ inList (name x) is o l f = done
 inList (index i) is o l f = alongIndex i is o l f
 
 abbrev pub inValue : Bool → Id → List Id → Ty → List ℕ → Opened → (Ty → Opened → Trail) → Trail
-inValue defaults i is (basic k) v o f = done
+inValue defaults i is (basic k names) v o f = done
 inValue defaults i is (sequence ms) v o f = inMembers defaults i is (λ x. findMember x ms v (after o) (o .start)) (o .place) f
 inValue defaults i is (choice ms) v o f = inMembers defaults i is (λ x. findAlternative x ms v (after o) (o .place)) (o .place) f
 inValue defaults i is (listOf k ty) v o f = inList i is (openAt ty untagged v) o (f ty)

@@ -29,7 +29,7 @@ use Rattle.strings.specs.inner.Comparing.{folded, isPlain}
 use Rattle.strings.proofs.Preparing.{folded-prepared, plain-folds, plain-same, not-plain}
 use Rattle.times.specs.Asserted.{assertedTime}
 use Rattle.times.proofs.Laws.{time-asserted, time-part}
-use Rattle.types.specs.Types.{Ty, basic, sequence, choice, listOf, Members}
+use Rattle.types.specs.Types.{NamedBit, Ty, basic, sequence, choice, listOf, Members}
 use Rattle.reference.specs.Allowed.{ofType, ofCount}
 use Rattle.rules.specs.Rule.{Syntax, booleans, integers, objectIdentifiers, octetStrings, bitStrings, strings, times, Rule, present, equal, less}
 use Rattle.rules.specs.Suits.{suitsKind, allStrings, suitsTarget, suits}
@@ -182,12 +182,13 @@ module _ (t c : List ℕ) where
   basic-less times k h f l = time-less f
 
   -- of a basic type that the rule is for
-  pub basic-passes : (r : Rule) (k : ℕ) → suits r (ofType (basic k)) ≡ true → conforms r t ≡ true → legal k c ≡ true → length c ≤ 65536
+  pub basic-passes : (r : Rule) (k : ℕ) (names : List NamedBit) → suits r (ofType (basic k names)) ≡ true → conforms r t ≡ true → legal k c ≡ true
+      → length c ≤ 65536
       → accepted (testFor r (operandOf r t)) (operandOf r t) c ≡ acceptsContents r (said r t) c
   unfolding suits suitsTarget conforms testFor operandOf acceptsContents said accepted
-  basic-passes present k h f l n = refl
-  basic-passes (equal s) k h f l n = basic-same s k h f l n
-  basic-passes (less s) k h f l n = basic-less s k h f l
+  basic-passes present k names h f l n = refl
+  basic-passes (equal s) k names h f l n = basic-same s k h f l n
+  basic-passes (less s) k names h f l n = basic-less s k h f l
 
   choice-same : (s : Syntax) → suitsKind s kind.utf8String ≡ true → accepted (equalTest s (operandIn (syntaxForm s) t)) (operandIn (syntaxForm s) t) c ≡ isEqual (saidIn s t) c
   choice-same booleans h = absurd (false≢true h)

@@ -2,6 +2,8 @@ pub mod TaskLaws
 pub mod TestSteps
 pub mod PassSteps
 pub mod Accepting
+pub mod BitsSteps
+pub mod BitsAccepting
 pub mod RowLaws
 pub mod PlanSteps
 pub mod Identifying

@@ -17,10 +17,12 @@ use Rattle.integers.specs.Asserted.{assertedInteger}
 use Rattle.integers.specs.inner.Bounds.{fits, lifted, sameBound, lessBound, isShort, shortFits}
 use Rattle.integers.specs.declared.Bound.{Bound}
 use Rattle.digits.specs.Asserted.{digits}
+use Rattle.digits.specs.Named.{trimmed}
 use Rattle.digits.specs.inner.Answers.{bitsIn}
+use Rattle.digits.specs.inner.Masks.{maskBits}
 use Rattle.strings.specs.Prepared.{prepared}
 use Rattle.strings.specs.inner.Comparing.{folded}
-use Rattle.plan.specs.inner.Test.{Test, integerIs, accepted, acceptedCount, boundNumbered, plainTest, digitTest, textTest, testOf}
+use Rattle.plan.specs.inner.Test.{Test, integerIs, accepted, acceptedCount, boundNumbered, plainTest, digitTest, textTest, namedTest, testOf}
 use Rattle.plan.specs.inner.Task.{Task, testing, taskOf, passesContents, passesCount}
 use Rattle.plan.proofs.TaskLaws.{is-counting, is-listing, is-testing}
 
@@ -93,6 +95,17 @@ module _ (k : ℕ) (x c : List ℕ) where
     unfolding accepted
     text-string a b h = rw (ne-eqb k 17 a, ne-eqb k 18 b) h
 
+    -- ---- bits with names
+    pub named-listed : k ≡ 21 → (n : ℕ) → r ≡ both (leb (length c) 65536) (same (trimmed (bitsOf c)) (trimmed (maskBits n))) → r ≡ accepted (namedTest k n) x c
+    unfolding accepted
+    named-listed e n h = rw (eq-eqb k 21 e) h
+
+    pub named-digits : (d : List ℕ) (n : ℕ) → d ≡ digits x → (k ≡ 21 → ⊥)
+        → r ≡ both (leb (length c) 65536) (same (trimmed (bitsOf c)) (trimmed (bitsIn (eqb k 19) d))) → r ≡ accepted (namedTest k n) x c
+    unfolding accepted
+    named-digits d n inside a h =
+        rw (ne-eqb k 21 a) (h ∙ ap (λ (y : List ℕ). both (leb (length c) 65536) (same (trimmed (bitsOf c)) (trimmed (bitsIn (eqb k 19) y)))) inside)
+
 -- ---- a test by its numbers
 integer-told : (c : List ℕ) (r told otherwise : Bool) → r ≡ both (isShort c) told → shortFits c ≡ true → r ≡ integerIs told otherwise c
 unfolding integerIs shortFits
@@ -131,9 +144,14 @@ module _ (k n : ℕ) (x c : List ℕ) (r : Bool) where
         unfolding testOf
         accepts-digits h e = rw (le-ltb k 4 a, le-ltb k 7 b, le-ltb k 10 d, lt-ltb k 15 h) e
 
-        pub accepts-text : 15 ≤ k → r ≡ accepted (textTest k) x c → r ≡ accepted (testOf k n) x c
-        unfolding testOf
-        accepts-text h e = rw (le-ltb k 4 a, le-ltb k 7 b, le-ltb k 10 d, le-ltb k 15 h) e
+        module _ (h : 15 ≤ k) where
+          pub accepts-text : k < 19 → r ≡ accepted (textTest k) x c → r ≡ accepted (testOf k n) x c
+          unfolding testOf
+          accepts-text l e = rw (le-ltb k 4 a, le-ltb k 7 b, le-ltb k 10 d, le-ltb k 15 h, lt-ltb k 19 l) e
+
+          pub accepts-named : 19 ≤ k → r ≡ accepted (namedTest k n) x c → r ≡ accepted (testOf k n) x c
+          unfolding testOf
+          accepts-named l e = rw (le-ltb k 4 a, le-ltb k 7 b, le-ltb k 10 d, le-ltb k 15 h, le-ltb k 19 l) e
 
 module _ (k n m : ℕ) where
   pub count-plain : k < 4 → eqb k 0 ≡ acceptedCount (testOf k n) m
@@ -157,16 +175,27 @@ module _ (k n m : ℕ) where
 
       pub count-other : 10 ≤ k → false ≡ acceptedCount (testOf k n) m
       unfolding testOf acceptedCount
-      count-other d = rw (le-ltb k 4 a, le-ltb k 7 b, le-ltb k 10 d) (go (ltb k 15) (eqb k 10) (eqb k 11) (eqb k 12) (eqb k 17) (eqb k 18))
+      count-other d = rw (le-ltb k 4 a, le-ltb k 7 b, le-ltb k 10 d) (go (ltb k 15) (digitTest k) _ (digit (eqb k 10) (eqb k 11) (eqb k 12))
+          (go (ltb k 19) (textTest k) (namedTest k n) (text (eqb k 17) (eqb k 18)) (named (eqb k 21))))
         where
-          go : (u a b c d e : Bool) → false ≡ acceptedCount (pick u (pick a Test.arcs (pick b Test.octets (pick c Test.lessOctets (Test.bits (eqb k 13))))) (pick d Test.time (pick e Test.earlierTime (Test.string (eqb k 15))))) m
-          go true true b c d e = refl
-          go true false true c d e = refl
-          go true false false true d e = refl
-          go true false false false d e = refl
-          go false a b c true e = refl
-          go false a b c false true = refl
-          go false a b c false false = refl
+          go : (u : Bool) (v w : Test) → false ≡ acceptedCount v m → false ≡ acceptedCount w m → false ≡ acceptedCount (pick u v w) m
+          go true v w p q = p
+          go false v w p q = q
+
+          digit : (a b c : Bool) → false ≡ acceptedCount (pick a Test.arcs (pick b Test.octets (pick c Test.lessOctets (Test.bits (eqb k 13))))) m
+          digit true b c = refl
+          digit false true c = refl
+          digit false false true = refl
+          digit false false false = refl
+
+          text : (a b : Bool) → false ≡ acceptedCount (pick a Test.time (pick b Test.earlierTime (Test.string (eqb k 15)))) m
+          text true b = refl
+          text false true = refl
+          text false false = refl
+
+          named : (a : Bool) → false ≡ acceptedCount (pick a (Test.listed (maskBits n)) (Test.namedBits (eqb k 19))) m
+          named true = refl
+          named false = refl
 
 -- ---- the task
 module _ (q : List ℕ) (task : ℕ) (read : task ≡ getD q 0 0) where

@@ -1,18 +1,22 @@
 -- The task of a plan's first numbers, and plans for another task.
 use mathlib.Core.Path.{_≡_, refl, sym, ap, ap₂, _∙_}
 use mathlib.Core.Bool.{Bool}
+use mathlib.Core.Option.{some}
 use mathlib.Core.List.{List, [], _∷_}
 use Prim.Native.Nat.{ℕ, _≤_, _<_, _+_, _*_}
 use native.Mathlib.Omega.{arith}
 use borrow.Author.Tests.{eq-eqb, ne-eqb}
 use lib.ListN.{length, getD, set, length-set}
 use lib.Seq.{getD-set-same, getD-set-other}
-use Rattle.types.specs.Types.{Presence, mandatory, optional, default, Ty}
-use Rattle.table.specs.inner.Rows.{memberAt}
+use Rattle.rows.specs.Row.{membersAt}
+use Rattle.types.specs.Types.{Presence, mandatory, optional, default, Member, Ty, Members}
+use Rattle.table.specs.inner.Rows.{tableRows, placeAt, memberAt, memberTypeAt}
 use Rattle.reference.specs.Reference.{Id}
+use Rattle.reference.specs.Allowed.{Target, ofType, memberType, under, allowedFrom}
 use Rattle.plan.specs.inner.Task.{Task, counting, listing, testing, taskOf, passesContents}
 use Rattle.plan.specs.inner.Test.{Test, testOf}
-use Rattle.plan.specs.inner.Plan.{absentOf, Planned, over, member, alternative, to-position, from-end, to-count, to-all, Relisted}
+use Rattle.plan.specs.inner.Plan.{absentOf, Names, here, later, ByName, SameSteps, Relisted}
+use Rattle.plan.specs.inner.Plan.{Planned, over, member, alternative, to-position, from-end, to-count, to-all}
 
 module _ (q : List ℕ) where
   pub is-counting : getD q 0 0 ≡ 0 → taskOf q ≡ counting (getD q 1 0)
@@ -83,6 +87,60 @@ two-long q a b e = length-set (set q 0 a) 1 b ∙ length-set q 0 a ∙ e
 pub listing-is : (q : List ℕ) → length q ≡ 72 → taskOf (set q 0 1) ≡ listing
 listing-is q long = let e = getD-set-same q 0 1 0 (omega arith) in is-listing (set q 0 1) (λ z. absurd (omega arith)) e
 
+pub test-set : (q : List ℕ) (k n budget : ℕ) → length q ≡ 72 → taskOf (set (set (set (set q 0 2) 1 budget) 2 k) 3 n) ≡ testing (testOf k n) budget
+test-set q k n budget long = testing-is q budget k n long (testOf k n) refl
+
+pub steps-kept : (q : List ℕ) (k n budget : ℕ) → SameSteps q (set (set (set (set q 0 2) 1 budget) 2 k) 3 n)
+steps-kept q k n budget =
+    record {
+      kept = λ i h.
+          getD-set-other (set (set (set q 0 2) 1 budget) 2 k) 3 i n 0 (λ z. absurd (omega arith))
+          ∙ getD-set-other (set (set q 0 2) 1 budget) 2 i k 0 (λ z. absurd (omega arith))
+          ∙ getD-set-other (set q 0 2) 1 i budget 0 (λ z. absurd (omega arith))
+          ∙ getD-set-other q 0 i 2 0 (λ z. absurd (omega arith));
+    }
+
+-- the type of the member that has a name
+pub names-type : {x : List ℕ} {ms : Members} {j : ℕ} {m : Member} {u : Ty} → Names x ms j m u → memberType x ms ≡ some u
+unfolding memberType
+names-type (here e _) = rw e
+names-type (later e n) = rw e (names-type n)
+
+-- ---- the steps of a plan for another task
+-- where what each last member comes to is the same; `Led` is what is known of where the identifiers lead
+module _ (t q p x : List ℕ) (d : Bool) (steps : SameSteps q p) (Led : Target → Type 0)
+    (same : (is : List Id) (row j : ℕ) → row < length (tableRows t) → j < membersAt t (placeAt t row)
+    → ((g : Target) → allowedFrom is (ofType (memberTypeAt t (row + 1 + j))) ≡ some g → Led g)
+    → absentOf d (taskOf q) x is (memberAt t (row + 1 + j) .presence) ≡ absentOf d (taskOf p) x is (memberAt t (row + 1 + j) .presence)) where
+  by-name : (k row j : ℕ) (nm : List ℕ) → 0 < k → ByName t q k row j nm → ByName t p k row j nm
+  by-name k row j nm h n =
+      record {
+        low = n .low;
+        row-is = steps .kept (4 * k + 1) (omega arith) ∙ n .row-is;
+        index-is = steps .kept (4 * k + 2) (omega arith) ∙ n .index-is;
+        here = n .here;
+        one = n .one;
+        named = n .named;
+      }
+
+  pub replanned : (k : ℕ) (ty : Ty) (is : List Id) → 0 < k → ((g : Target) → allowedFrom is (ofType ty) ≡ some g → Led g) → Planned t q x d k ty is
+      → Planned t p x d k ty is
+  unfolding allowedFrom under
+  replanned k ty is h led (over e) = over (steps .kept (4 * k) (omega arith) ∙ e)
+  replanned k ty is h led (member {row = row} {j = j} {nm = nm} {is = js} e n c rest) =
+      let on : (g : Target) → allowedFrom js (ofType (memberTypeAt t (row + 1 + j))) ≡ some g → Led g = λ g a. led g (rw (names-type (n .named)) a) in
+      member (steps .kept (4 * k) (omega arith) ∙ e) (by-name k row j nm h n)
+      (steps .kept (4 * k + 3) (omega arith) ∙ c ∙ same js row j (n .here) (n .one) on) (replanned (k + 1) _ js (omega arith) on rest)
+  replanned k ty is h led (alternative {row = row} {j = j} {nm = nm} {is = js} e n c rest) =
+      alternative (steps .kept (4 * k) (omega arith) ∙ e) (by-name k row j nm h n) c
+      (replanned (k + 1) _ js (omega arith) (λ g a. led g (rw (names-type (n .named)) a)) rest)
+  replanned k ty is h led (to-position {is = js} e low r rest) =
+      to-position (steps .kept (4 * k) (omega arith) ∙ e) low (steps .kept (4 * k + 1) (omega arith) ∙ r) (replanned (k + 1) _ js (omega arith) led rest)
+  replanned k ty is h led (from-end {is = js} e low r rest) =
+      from-end (steps .kept (4 * k) (omega arith) ∙ e) low (steps .kept (4 * k + 1) (omega arith) ∙ r) (replanned (k + 1) _ js (omega arith) led rest)
+  replanned k ty is h led (to-count e low) = to-count (steps .kept (4 * k) (omega arith) ∙ e) low
+  replanned k ty is h led (to-all {is = js} e low rest) = to-all (steps .kept (4 * k) (omega arith) ∙ e) low (replanned (k + 1) _ js (omega arith) led rest)
+
 -- ---- a listing of what was counted
 same-absent : (limit : ℕ) (d : Bool) (x : List ℕ) (is : List Id) (p : Presence) → absentOf d (counting limit) x is p ≡ absentOf d listing x is p
 unfolding passesContents
@@ -93,23 +151,9 @@ same-absent limit d x (i ∷ is) p = refl
 
 pub relisted : (q : List ℕ) → length q ≡ 72 → Relisted q (set q 0 1)
 unfolding Relisted
-relisted q long t x d k limit ty is counts from w = go k ty is from w
+relisted q long t x d k limit ty is counts from w =
+    replanned t q (set q 0 1) x d (record { kept = λ i h. getD-set-other q 0 i 1 0 (λ z. absurd (omega arith)) }) (λ _. Unit {0})
+    (λ js row j _ _ _. absent-same js (memberAt t (row + 1 + j) .presence)) k ty is from (λ _ _. tt) w
   where
-    kept : (i : ℕ) → 0 < i → getD (set q 0 1) i 0 ≡ getD q i 0
-    kept i h = getD-set-other q 0 i 1 0 (λ z. absurd (omega arith))
-
     absent-same : (js : List Id) (p : Presence) → absentOf d (taskOf q) x js p ≡ absentOf d (taskOf (set q 0 1)) x js p
     absent-same js p = ap (λ (y : Task). absentOf d y x js p) counts ∙ same-absent limit d x js p ∙ sym (ap (λ (y : Task). absentOf d y x js p) (listing-is q long))
-
-    go : (k : ℕ) (ty : Ty) (is : List Id) → 0 < k → Planned t q x d k ty is → Planned t (set q 0 1) x d k ty is
-    go k ty is h (over e) = over (kept (4 * k) (omega arith) ∙ e)
-    go k ty is h (member {row = row} {j = j} {is = js} e n c rest) =
-        member (kept (4 * k) (omega arith) ∙ e) (record { low = n .low; row-is = kept (4 * k + 1) (omega arith) ∙ n .row-is; index-is = kept (4 * k + 2) (omega arith) ∙ n .index-is; here = n .here; one = n .one; named = n .named })
-        (kept (4 * k + 3) (omega arith) ∙ c ∙ absent-same js (memberAt t (row + 1 + j) .presence)) (go (k + 1) _ js (omega arith) rest)
-    go k ty is h (alternative {is = js} e n c rest) =
-        alternative (kept (4 * k) (omega arith) ∙ e) (record { low = n .low; row-is = kept (4 * k + 1) (omega arith) ∙ n .row-is; index-is = kept (4 * k + 2) (omega arith) ∙ n .index-is; here = n .here; one = n .one; named = n .named }) c
-        (go (k + 1) _ js (omega arith) rest)
-    go k ty is h (to-position {is = js} e low r rest) = to-position (kept (4 * k) (omega arith) ∙ e) low (kept (4 * k + 1) (omega arith) ∙ r) (go (k + 1) _ js (omega arith) rest)
-    go k ty is h (from-end {is = js} e low r rest) = from-end (kept (4 * k) (omega arith) ∙ e) low (kept (4 * k + 1) (omega arith) ∙ r) (go (k + 1) _ js (omega arith) rest)
-    go k ty is h (to-count e low) = to-count (kept (4 * k) (omega arith) ∙ e) low
-    go k ty is h (to-all {is = js} e low rest) = to-all (kept (4 * k) (omega arith) ∙ e) low (go (k + 1) _ js (omega arith) rest)

@@ -1,4 +1,5 @@
 // A plan: one lent array of numbers, the task first, then four for each identifier of a reference.
+use bitnames::BitSet;
 use der::Kind;
 use integers::Bound;
 use reference::Step;
@@ -7,6 +8,7 @@ use rules::Rule;
 use rules::Syntax;
 ghost use mathlib.Core.Path.{_≡_};
 ghost use mathlib.Core.Bool.{true};
+ghost use mathlib.Core.Option.{none, some};
 ghost use mathlib.Core.List.{[]};
 ghost use Prim.Native.Nat.{_≤_, _<_, _+_, _*_};
 ghost use lib.ListN.{length, getD, set};
@@ -16,9 +18,11 @@ ghost use Rattle.octets.specs.inner.Answers.{between};
 ghost use Rattle.rows.specs.Paper.{tableLimits};
 ghost use Rattle.rows.specs.Row.{membersAt};
 ghost use Rattle.types.specs.Admitted.{admitted};
-ghost use Rattle.table.specs.inner.Rows.{tableRows, MemberRow, placeAt};
+ghost use Rattle.table.specs.inner.Rows.{tableRows, MemberRow, placeAt, typeAt};
 ghost use Rattle.table.specs.inner.Words.{Worded};
+ghost use Rattle.reference.specs.Allowed.{ofType};
 ghost use Rattle.reference.specs.inner.Work as reference;
+ghost use Rattle.bitnames.specs.inner.Sets.{namesAfter};
 ghost use Rattle.rules.specs.Rule as rule;
 ghost use Rattle.rules.specs.inner.Answers.{syntaxOf, meant};
 ghost use Rattle.plan.specs.inner.Test as tests;
@@ -48,7 +52,7 @@ impl Sort {
 }
 
 // The comparisons of a test: any value, none, a truth; an integer equal to one, to one below or above all that can be stored, or less; arcs; octets equal or
-// less; bits of hexadecimal or binary digits; a string, folded or exact; a time equal or earlier.
+// less; bits of hexadecimal or binary digits; a string, folded or exact; a time equal or earlier; bits with names, of hexadecimal or binary digits, or listed.
 pub struct Comparison;
 
 impl Comparison {
@@ -89,12 +93,24 @@ impl Comparison {
     pub const TIME: usize = 17;
 
     pub const EARLIER: usize = 18;
+
+    pub const NAMED_HEXADECIMAL: usize = 19;
+
+    pub const NAMED_BINARY: usize = 20;
+
+    pub const LISTED: usize = 21;
 }
 
 // A test: its comparison, and the number that it is with.
 pub struct TestNumbers {
     pub comparison: usize,
     pub number: usize,
+}
+
+// The same of a rule of bits; or the rule isn't for what the reference leads to, or the text doesn't conform.
+pub enum BitsTest {
+    Of(usize, usize),
+    No,
 }
 
 // How a value text makes an operand: as it stands; what stands between its quotes; the same as prepared, folded or not.
@@ -335,6 +351,61 @@ fn test_for(rule: Rule, x: &[u8]) -> TestNumbers
     }
 }
 
+// ---- the test of a rule of bits on the type of a row
+// Bits with names, by a comparison; an ordering rule accepts none.
+fn named_test(rule: Rule, comparison: usize, number: usize) -> BitsTest
+    ensures { λ r. ⌜ tests.reportBits r ≡ some (tests.ofRule (meant rule) (tests.testOf comparison number)) ⌝ }
+{
+    match rule {
+        Rule::Present => BitsTest::Of(Comparison::ANY, 0),
+        Rule::Equal(_) => BitsTest::Of(comparison, number),
+        Rule::Less(_) => BitsTest::Of(Comparison::NONE, 0),
+    }
+}
+
+// Digits, or a list of names, each looked up once.
+fn names_test(rule: Rule, t: &[u8], w: &[u64; 256], row: usize, x: &[u8]) -> BitsTest
+    requires worded { ⌜ Worded (now t) (now w) ⌝ }
+    requires here { ⌜ row < length (tableRows (now t)) ⌝ }
+    ensures { λ r. ⌜ tests.reportBits r ≡ tests.bitsTestBy (meant rule) (some (namesAfter (now (t .entry)) row)) (now (x .entry)) ⌝ }
+{
+    if digits::is_bit_text(x) {
+        return named_test(rule, Comparison::NAMED_BINARY, 0);
+    }
+    if digits::is_hex_string(x) {
+        return named_test(rule, Comparison::NAMED_HEXADECIMAL, 0);
+    }
+    match bitnames::listed_bits(t, w, row, x) {
+        BitSet::Of(set) => named_test(rule, Comparison::LISTED, set as usize),
+        BitSet::No => BitsTest::No,
+    }
+}
+
+// Digits, where there are no names.
+fn digits_test(rule: Rule, x: &[u8]) -> BitsTest
+    ensures { λ r. ⌜ tests.reportBits r ≡ tests.bitsTestBy (meant rule) none (now (x .entry)) ⌝ }
+{
+    if !digits::is_bits(x) {
+        return BitsTest::No;
+    }
+    let test = test_for(rule, x);
+    BitsTest::Of(test.comparison, test.number)
+}
+
+pub fn bits_test_at(rule: Rule, t: &[u8], w: &[u64; 256], row: usize, x: &[u8]) -> BitsTest
+    requires worded { ⌜ Worded (now t) (now w) ⌝ }
+    requires here { ⌜ row < length (tableRows (now t)) ⌝ }
+    ensures { λ r. ⌜ tests.reportBits r ≡ tests.bitsTest (meant rule) (ofType (typeAt (now (t .entry)) row)) (now (x .entry)) ⌝ }
+{
+    if !rules::suits(rule, t, w, row) {
+        return BitsTest::No;
+    }
+    if table::kind(t, w, row) == Kind::NAMED_BIT_STRING {
+        return names_test(rule, t, w, row, x);
+    }
+    digits_test(rule, x)
+}
+
 // ---- writing the task
 // A count up to a limit.
 pub fn plan_tally(q: &mut [usize; 72], limit: usize)
@@ -357,6 +428,18 @@ pub fn plan_test(q: &mut [usize; 72], rule: Rule, x: &[u8], budget: usize)
     q[1] = budget;
     q[2] = test.comparison;
     q[3] = test.number;
+}
+
+// The test of two numbers within a budget: the steps stay.
+pub fn set_test(q: &mut [usize; 72], comparison: usize, number: usize, budget: usize)
+    requires { ⌜ length (now q) ≡ 72 ⌝ }
+    ensures task { λ _. ⌜ tasks.taskOf (now (q .exit)) ≡ tasks.testing (tests.testOf comparison number) budget ⌝ }
+    ensures steps { λ _. ⌜ plan.SameSteps (now (q .entry)) (now (q .exit)) ⌝ }
+{
+    q[0] = 2;
+    q[1] = budget;
+    q[2] = comparison;
+    q[3] = number;
 }
 
 // The listing of what a plan counts: the same steps stand for it.
@@ -413,6 +496,20 @@ fn accepts_digits(comparison: usize, x: &[u8], c: &[u8]) -> bool
     digits::same_bits(c, digits::operand(x), comparison == Comparison::HEXADECIMAL)
 }
 
+// Bits with names.
+fn accepts_named(comparison: usize, n: usize, x: &[u8], c: &[u8]) -> bool
+    ensures { λ r. ⌜ r ≡ tests.accepted (tests.namedTest comparison n) (now (x .entry)) (now (c .entry)) ⌝ }
+{
+    if comparison == Comparison::LISTED {
+        return digits::same_mask(c, n as u64);
+    }
+    digits::same_named_bits(
+        c,
+        digits::operand(x),
+        comparison == Comparison::NAMED_HEXADECIMAL,
+    )
+}
+
 // Times, strings.
 fn accepts_text(comparison: usize, x: &[u8], c: &[u8]) -> bool
     ensures { λ r. ⌜ r ≡ tests.accepted (tests.textTest comparison) (now (x .entry)) (now (c .entry)) ⌝ }
@@ -441,7 +538,10 @@ fn accepts(comparison: usize, n: usize, x: &[u8], c: &[u8]) -> bool
     if comparison < Comparison::FOLDED {
         return accepts_digits(comparison, x, c);
     }
-    accepts_text(comparison, x, c)
+    if comparison < Comparison::NAMED_HEXADECIMAL {
+        return accepts_text(comparison, x, c);
+    }
+    accepts_named(comparison, n, x, c)
 }
 
 // Whether the task lets contents pass: a test by its comparison with the operand.

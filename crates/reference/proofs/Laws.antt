@@ -186,7 +186,7 @@ cap-cases n = go (ltb n 18446744073709551616) refl
 pub under-capped : (i : Id) (g : allowed.Target) → under (capped i) g ≡ under i g
 unfolding under
 under-capped i ofCount = refl
-under-capped i (ofType (basic k)) = refl
+under-capped i (ofType (basic k names)) = refl
 under-capped (name x) (ofType (sequence ms)) = refl
 under-capped (index j) (ofType (sequence ms)) = refl
 under-capped (name x) (ofType (choice ms)) = refl

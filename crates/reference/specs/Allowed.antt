@@ -35,7 +35,7 @@ underList (index i) ty = some (indexed i ty)
 -- one component identifier at a target
 unfoldable pub under : Id → Target → Option Target
 under i ofCount = none
-under i (ofType (basic k)) = none
+under i (ofType (basic k names)) = none
 under i (ofType (sequence ms)) = underMembers i ms
 under i (ofType (choice ms)) = underMembers i ms
 under i (ofType (listOf k ty)) = underList i ty

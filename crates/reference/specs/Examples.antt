@@ -52,7 +52,7 @@ allows s = leadsTo (read s)
 
 -- the count is an INTEGER of its own; nothing is below a count or a basic type; no position on a SEQUENCE, no name on a list, no unknown name
 allowances : map allows ("event" ∷ "parts.0" ∷ "parts.*.copies" ∷ "parts.-7.name" ∷ [])
-    ≡ some (ofType (basic 8)) ∷ some ofCount ∷ some (ofType (basic 2)) ∷ some (ofType (basic 9)) ∷ []
+    ≡ some (ofType (basic 8 [])) ∷ some ofCount ∷ some (ofType (basic 2 [])) ∷ some (ofType (basic 9 [])) ∷ []
 unfolding referenceComputes read allows
 allowances = refl
 

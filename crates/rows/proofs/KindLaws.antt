@@ -1,16 +1,17 @@
 -- Kinds of rows, for the layers above.
-use mathlib.Core.Path.{_≡_, refl, ap₂}
+use mathlib.Core.Path.{_≡_, refl, sym, _∙_}
 use mathlib.Core.List.{List}
 use mathlib.Core.Bool.{Bool, true, false, false≢true}
 use mathlib.Core.Logic.{_⊎_, ⊎-elim, inl, inr}
-use Prim.Native.Nat.{ℕ, _≤_}
+use Prim.Native.Nat.{ℕ, _≤_, _<_}
 use native.Mathlib.Omega.{arith}
-use borrow.Author.Tests.{leb-true, le-leb, ne-eqb, eqb-true, eqb-false}
+use borrow.Author.Tests.{leb-true, le-leb, ne-eqb, eqb-true}
 use lib.Dec.{leb, eqb}
-use Rattle.octets.specs.Pick.{pick, either, both}
+use Rattle.octets.specs.Pick.{pick, either}
 use Rattle.octets.specs.Text.{within}
 use Rattle.octets.proofs.Laws.{both-true}
-use Rattle.rows.specs.Row.{kindAt, elementAt, typeRowAt, isTypeKind, isGroup, isList, rowNamed, namesRow, namedAt, rowSize}
+use Rattle.rows.specs.Row.{kindAt, countAt, elementAt, typeRowAt, isTypeKind, isGroup, isList, rowNamed, namesRow, namedAt, rowSize, membersAt}
+use Rattle.rows.specs.Row.{bitNamesAt, followerKind, followersAt, isFollower}
 
 pub list-kinds : (k : ℕ) → isList k ≡ either (eqb k 14) (eqb k 15)
 unfolding isList
@@ -19,7 +20,10 @@ list-kinds k = refl
 -- the kind of a type is no member's
 pub type-no-member : (k : ℕ) → isTypeKind k ≡ true → k ≡ 16 → ⊥
 unfolding isTypeKind
-type-no-member k e m = let l = leb-true k 15 (both-true (leb 1 k) (leb k 15) e .1) in omega arith
+type-no-member k e m = false≢true (sym none ∙ e)
+  where
+    none : isTypeKind k ≡ false
+    none = rw m
 
 pub member-no-type : (k : ℕ) → k ≡ 16 → isTypeKind k ≡ false
 unfolding isTypeKind
@@ -60,26 +64,50 @@ pub group-type : (k : ℕ) → isGroup k ≡ true → isTypeKind k ≡ true
 unfolding isTypeKind
 group-type k e = ⊎-elim (λ (h : k ≡ 12). rw h) (λ (h : k ≡ 13). rw h) (group-kind k e)
 
--- of a kind of rows: a type's or a member's
-kind-range : (k : ℕ) → (rowSize k ≡ 0 → ⊥) → (eqb k 16 ≡ true → ⊥) → (1 ≤ k) × (k ≤ 15)
-unfolding rowSize isGroup isList
-kind-range k some other = go (within 1 11 k) refl (eqb k 12) refl (eqb k 13) refl (eqb k 14) refl (eqb k 15) refl (eqb k 16) refl some
-  where
-    go : (a : Bool) → within 1 11 k ≡ a → (b : Bool) → eqb k 12 ≡ b → (c : Bool) → eqb k 13 ≡ c → (d : Bool) → eqb k 14 ≡ d → (e : Bool) → eqb k 15 ≡ e → (f : Bool) → eqb k 16 ≡ f
-        → (_≡_ {A = ℕ} (pick a 1 (pick (either b c) 2 (pick (either d e) 3 (pick f 39 0)))) 0 → ⊥) → (1 ≤ k) × (k ≤ 15)
-    go true a b _ c _ d _ e _ f _ z = let w = both-true (leb 1 k) (leb k 11) a in let l = leb-true 1 k (w .0) in let m = leb-true k 11 (w .1) in (omega arith, omega arith)
-    go false a true b c _ d _ e _ f _ z = let q = eqb-true k 12 b in (omega arith, omega arith)
-    go false a false b true c d _ e _ f _ z = let q = eqb-true k 13 c in (omega arith, omega arith)
-    go false a false b false c true d e _ f _ z = let q = eqb-true k 14 d in (omega arith, omega arith)
-    go false a false b false c false d true e f _ z = let q = eqb-true k 15 e in (omega arith, omega arith)
-    go false a false b false c false d false e true f z = absurd (other f)
-    go false a false b false c false d false e false f z = absurd (z refl)
-
-pub kind-of-row : (k : ℕ) → (rowSize k ≡ 0 → ⊥) → eqb k 16 ≡ false → isTypeKind k ≡ true
-unfolding isTypeKind
+-- ---- rows that follow another
+-- of a kind of rows: a type's, or one that follows another
+pub kind-of-row : (k : ℕ) → (rowSize k ≡ 0 → ⊥) → isFollower k ≡ false → isTypeKind k ≡ true
+unfolding rowSize isGroup isList isFollower isTypeKind
 kind-of-row k some other =
-    let w = kind-range k some (λ e. eqb-false k 16 other (eqb-true k 16 e)) in
-    ap₂ both (le-leb 1 k (w .0)) (le-leb k 15 (w .1))
+    go (within 1 11 k) refl (eqb k 12) refl (eqb k 13) refl (eqb k 14) refl (eqb k 15) refl (eqb k 17) (eqb k 16) (eqb k 18) other some
+  where
+    in-range : 1 ≤ k → k ≤ 15 → either (within 1 15 k) false ≡ true
+    in-range a b = rw (le-leb 1 k a, le-leb k 15 b)
+
+    either-true : (x : Bool) → either x true ≡ true
+    either-true true = refl
+    either-true false = refl
+
+    go : (a : Bool) → within 1 11 k ≡ a → (b : Bool) → eqb k 12 ≡ b → (c : Bool) → eqb k 13 ≡ c → (d : Bool) → eqb k 14 ≡ d → (e : Bool) → eqb k 15 ≡ e
+        → (n m f : Bool) → either m f ≡ false
+        → (_≡_ {A = ℕ} (pick a 1 (pick (either b c) 2 (pick (either d e) 3 (pick m 39 (pick n 2 (pick f 26 0)))))) 0 → ⊥) → either (within 1 15 k) n ≡ true
+    go a p b q c r d s e u true m f h z = either-true (within 1 15 k)
+    go true a b _ c _ d _ e _ false m f h z =
+        let w = both-true (leb 1 k) (leb k 11) a in let l = leb-true 1 k (w .0) in let m = leb-true k 11 (w .1) in in-range (omega arith) (omega arith)
+    go false a true b c _ d _ e _ false m f h z = let q = eqb-true k 12 b in in-range (omega arith) (omega arith)
+    go false a false b true c d _ e _ false m f h z = let q = eqb-true k 13 c in in-range (omega arith) (omega arith)
+    go false a false b false c true d e _ false m f h z = let q = eqb-true k 14 d in in-range (omega arith) (omega arith)
+    go false a false b false c false d true e false m f h z = let q = eqb-true k 15 e in in-range (omega arith) (omega arith)
+    go false a false b false c false d false e false true f h z = absurd (false≢true (sym h))
+    go false a false b false c false d false e false false true h z = absurd (false≢true (sym h))
+    go false a false b false c false d false e false false false h z = absurd (z refl)
+
+-- as many members follow a group as it counts; as many names a BIT STRING with names
+pub group-followers : (t : List ℕ) (p : ℕ) → isGroup (kindAt t p) ≡ true → followersAt t p ≡ membersAt t p
+unfolding followersAt followerKind membersAt
+group-followers t p h = rw h
+
+pub member-follower : (t : List ℕ) (p b : ℕ) → b < membersAt t p → b < followersAt t p
+unfolding membersAt followersAt followerKind
+member-follower t p b = go (isGroup (kindAt t p)) (eqb (kindAt t p) 17)
+  where
+    go : (x y : Bool) → b < pick x (countAt t p) 0 → b < pick (eqb (pick x 16 (pick y 18 0)) 0) 0 (countAt t p)
+    go true y h = h
+    go false y h = absurd (omega arith)
+
+pub named-followers : (t : List ℕ) (p : ℕ) → kindAt t p ≡ 17 → followersAt t p ≡ bitNamesAt t p
+unfolding followersAt followerKind bitNamesAt isGroup
+named-followers t p h = rw h
 
 -- ---- the row that a row names
 module _ (t : List ℕ) (p : ℕ) where

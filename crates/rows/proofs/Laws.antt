@@ -5,8 +5,8 @@ use mathlib.Core.List.{List}
 use Prim.Native.Nat.{ℕ, _≤_}
 use borrow.Author.Tests.{leb-true}
 use Rattle.octets.proofs.Laws.{both-true}
-use Rattle.rows.specs.Row.{kindAt, modeAt, numberAt, presenceAt, defaultLengthAt}
-use Rattle.rows.specs.Body.{nameFormed, taggingFormed, tagFormed, presenceFormed, defaultFilled, memberFormed, rowFormed}
+use Rattle.rows.specs.Row.{kindAt, modeAt, numberAt, presenceAt, defaultLengthAt, bitNumberAt}
+use Rattle.rows.specs.Body.{nameFormed, taggingFormed, tagFormed, presenceFormed, defaultFilled, memberFormed, bitFormed, rowFormed}
 
 -- the facts of a member row whose body is formed
 pub record MemberFacts (name : ℕ) (t : List ℕ) (p : ℕ) : Type 0 where
@@ -26,3 +26,8 @@ member-facts most name t p e k =
     let r = both-true _ _ (g .1) in
     let d = both-true _ _ (r .1) in
     record { named = w .0; mode = leb-true _ _ (h .0); number = leb-true _ _ (n .0); presence = leb-true _ _ (r .0); length = leb-true _ _ (d .0) }
+
+-- and of the row of a named bit
+pub bit-facts : (most name : ℕ) (t : List ℕ) (p : ℕ) → rowFormed most name t p ≡ true → kindAt t p ≡ 18 → (nameFormed name t p ≡ true) × (bitNumberAt t p ≤ 63)
+unfolding rowFormed bitFormed
+bit-facts most name t p e k = let w = both-true (nameFormed name t p) _ (rw k at e) in (w .0, leb-true _ _ (w .1))

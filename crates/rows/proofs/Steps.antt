@@ -14,8 +14,10 @@ use Rattle.octets.specs.Octets.{octet, two, part, every}
 use Rattle.octets.specs.Text.{within, isLower, isLetter, isAlnum, mayFollow}
 use Rattle.octets.proofs.Laws.{octet-past, rest-none, part-rest, both-true, all-at, all-is, all-more, all-bad}
 use Rattle.octets.proofs.TextLaws.{every-is, every-at}
-use Rattle.rows.specs.Row.{kindAt, nameOctetAt, defaultAt, isGroup, isList, namedAt, rowSize, membersAt}
+use Rattle.rows.specs.Row.{kindAt, nameOctetAt, defaultAt, isTypeKind, isGroup, isList, namedAt, rowSize, membersAt, bitNamesAt, followerKind}
+use Rattle.rows.specs.Row.{followersAt}
 use Rattle.rows.specs.Body.{countFormed, follows, followed, nameFormed, taggingFormed, tagFormed, presenceFormed, isZero, defaultFilled, memberFormed}
+use Rattle.rows.specs.Body.{bitFormed}
 use Rattle.rows.specs.inner.Sizes.{typeSize, WholeMember}
 use Rattle.rows.specs.Paper.{tableLimits}
 use Rattle.rows.proofs.KindLaws.{list-named, member-named}
@@ -73,9 +75,17 @@ module _ (k : ℕ) (a : Bool) (basic : a ≡ within 1 11 k) where
         unfolding rowSize
         size-member e = rw (sym basic ∙ h, sym group ∙ g, sym list ∙ l, eq-eqb k 16 e)
 
-        pub size-none : (k ≡ 16 → ⊥) → 0 ≡ rowSize k
+        pub size-named : k ≡ 17 → 2 ≡ rowSize k
         unfolding rowSize
-        size-none e = rw (sym basic ∙ h, sym group ∙ g, sym list ∙ l, ne-eqb k 16 e)
+        size-named e = rw (sym basic ∙ h, sym group ∙ g, sym list ∙ l, e)
+
+        pub size-bit : k ≡ 18 → 26 ≡ rowSize k
+        unfolding rowSize
+        size-bit e = rw (sym basic ∙ h, sym group ∙ g, sym list ∙ l, e)
+
+        pub size-none : (k ≡ 16 → ⊥) → (k ≡ 17 → ⊥) → (k ≡ 18 → ⊥) → 0 ≡ rowSize k
+        unfolding rowSize
+        size-none a b c = rw (sym basic ∙ h, sym group ∙ g, sym list ∙ l, ne-eqb k 16 a, ne-eqb k 17 b, ne-eqb k 18 c)
 
 module _ (t : List ℕ) (p o : ℕ) (g : Bool) (read : o ≡ octet t p) (told : g ≡ isGroup o) where
   pub members-group : (a r : ℕ) → g ≡ true → a ≡ octet t (p + 1) → r ≡ a → r ≡ membersAt t p
@@ -85,6 +95,47 @@ module _ (t : List ℕ) (p o : ℕ) (g : Bool) (read : o ≡ octet t p) (told : 
   pub members-none : g ≡ false → 0 ≡ membersAt t p
   unfolding membersAt
   members-none h = rw (← read, sym told ∙ h)
+
+module _ (k : ℕ) (a : Bool) (told : a ≡ within 1 15 k) where
+  pub type-plain : a ≡ true → true ≡ isTypeKind k
+  unfolding isTypeKind
+  type-plain h = rw (sym told ∙ h)
+
+  pub type-named : a ≡ false → eqb k 17 ≡ isTypeKind k
+  unfolding isTypeKind
+  type-named h = rw (sym told ∙ h)
+
+module _ (k : ℕ) (g : Bool) (told : g ≡ isGroup k) where
+  pub follower-group : g ≡ true → 16 ≡ followerKind k
+  unfolding followerKind
+  follower-group h = rw (sym told ∙ h)
+
+  module _ (h : g ≡ false) where
+    pub follower-bit : k ≡ 17 → 18 ≡ followerKind k
+    unfolding followerKind
+    follower-bit e = rw (sym told ∙ h, eq-eqb k 17 e)
+
+    pub follower-none : (k ≡ 17 → ⊥) → 0 ≡ followerKind k
+    unfolding followerKind
+    follower-none n = rw (sym told ∙ h, ne-eqb k 17 n)
+
+module _ (t : List ℕ) (p o f : ℕ) (read : o ≡ octet t p) (told : f ≡ followerKind o) where
+  pub followers-none : f ≡ 0 → 0 ≡ followersAt t p
+  unfolding followersAt
+  followers-none h = rw (← read, sym told ∙ h)
+
+  pub followers-count : (a r : ℕ) → (f ≡ 0 → ⊥) → a ≡ octet t (p + 1) → r ≡ a → r ≡ followersAt t p
+  unfolding followersAt
+  followers-count a r n e q = rw (← read, ← told, ne-eqb f 0 n) (q ∙ e)
+
+module _ (t : List ℕ) (p o : ℕ) (read : o ≡ octet t p) where
+  pub names-count : (a r : ℕ) → o ≡ 17 → a ≡ octet t (p + 1) → r ≡ a → r ≡ bitNamesAt t p
+  unfolding bitNamesAt
+  names-count a r h e q = rw (← read, h) (q ∙ e)
+
+  pub names-none : (o ≡ 17 → ⊥) → 0 ≡ bitNamesAt t p
+  unfolding bitNamesAt
+  names-none n = rw (← read, ne-eqb o 17 n)
 
 module _ (most : ℕ) (t : List ℕ) (p size : ℕ) (sized : size ≡ rowSize (octet t p)) where
   pub type-short : length t - p < size → 0 ≡ typeSize most t p
@@ -110,9 +161,13 @@ module _ (most : ℕ) (t : List ℕ) (p k : ℕ) (read : k ≡ octet t p) where
   unfolding countFormed
   count-choice a r n e f q = rw (← read, ne-eqb k 12 n, eq-eqb k 13 e, ← f) q
 
-  pub count-other : (k ≡ 12 → ⊥) → (k ≡ 13 → ⊥) → true ≡ countFormed most t p
+  pub count-named : (a : ℕ) (r : Bool) → (k ≡ 12 → ⊥) → (k ≡ 13 → ⊥) → k ≡ 17 → a ≡ octet t (p + 1) → r ≡ within 1 most a → r ≡ countFormed most t p
   unfolding countFormed
-  count-other n e = rw (← read, ne-eqb k 12 n, ne-eqb k 13 e)
+  count-named a r n m e f q = rw (← read, ne-eqb k 12 n, ne-eqb k 13 m, eq-eqb k 17 e, ← f) q
+
+  pub count-other : (k ≡ 12 → ⊥) → (k ≡ 13 → ⊥) → (k ≡ 17 → ⊥) → true ≡ countFormed most t p
+  unfolding countFormed
+  count-other n e m = rw (← read, ne-eqb k 12 n, ne-eqb k 13 e, ne-eqb k 17 m)
 
 module _ (a b : ℕ) (n : a ≡ 0 → ⊥) where
   pub follows-end : b ≡ 0 → not (eqb a 45) ≡ follows a b
@@ -287,3 +342,13 @@ module _ (t : List ℕ) (p : ℕ) (r : Bool) (named : r ≡ nameFormed (tableLim
       pub member-filled : (w : Bool) → c ≤ 2 → w ≡ defaultFilled t p → w ≡ memberFormed (tableLimits .name) t p
       unfolding memberFormed presenceFormed
       member-filled w l k = rw (sym named ∙ not-false r h, sym tag ∙ not-false u g, ← q, le-leb c 2 l) k
+
+-- ---- a named bit
+module _ (name : ℕ) (t : List ℕ) (p : ℕ) (r : Bool) (told : r ≡ nameFormed name t p) where
+  pub bit-name : not r ≡ true → false ≡ bitFormed name t p
+  unfolding bitFormed
+  bit-name e = rw (sym told ∙ not-true r e)
+
+  pub bit-number : not r ≡ false → leb (octet t (p + 25)) 63 ≡ bitFormed name t p
+  unfolding bitFormed
+  bit-number e = rw (sym told ∙ not-false r e)

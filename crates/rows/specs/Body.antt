@@ -7,14 +7,15 @@ use Rattle.octets.specs.Pick.{pick, both, either, no, all}
 use Rattle.octets.specs.Octets.{part, every}
 use Rattle.octets.specs.Text.{within, isLower, mayFollow, mayBeLast}
 use Rattle.der.specs.Kind as kind
-use Rattle.rows.specs.Row.{nameWidth, kindAt, countAt, nameOctetAt, modeAt, numberAt, presenceAt, defaultLengthAt}
+use Rattle.rows.specs.Row.{nameWidth, kindAt, countAt, nameOctetAt, modeAt, numberAt, presenceAt, defaultLengthAt, bitNumberAt}
 
--- members from 0, alternatives from 1, up to the limit
+-- members from 0, alternatives and names of bits from 1, up to the limit
 unfoldable pub countFormed : ℕ → List ℕ → ℕ → Bool
 countFormed most t p =
     pick (eqb (kindAt t p) kind.sequence) (leb (countAt t p) most)
     (pick (eqb (kindAt t p) kind.choice) (within 1 most (countAt t p))
-    true)
+    (pick (eqb (kindAt t p) kind.namedBitString) (within 1 most (countAt t p))
+    true))
 
 -- ---- "A name is a lowercase letter, then letters, digits and single hyphens, no hyphen last"; filled with zeros
 -- what may follow an octet of a name's field: after the fill only fill, the fill after the last octet of a name, or an octet of the name
@@ -27,7 +28,7 @@ follows a b =
 unfoldable pub followed : List ℕ → ℕ → ℕ → Bool
 followed t p j = follows (nameOctetAt t p j) (nameOctetAt t p (j + 1))
 
--- the name of the member row at p, in a field of n octets
+-- the name of the row at p, a member's or a bit's, in a field of n octets
 unfoldable pub nameFormed : ℕ → List ℕ → ℕ → Bool
 nameFormed n t p = both (isLower (nameOctetAt t p 0)) (both (mayBeLast (nameOctetAt t p (n - 1))) (all (followed t p) (n - 1)))
 
@@ -53,6 +54,13 @@ defaultFilled t p = both (leb (defaultLengthAt t p) 8) (every isZero (part t (p 
 unfoldable pub memberFormed : ℕ → List ℕ → ℕ → Bool
 memberFormed name t p = both (nameFormed name t p) (both (tagFormed t p) (both (presenceFormed t p) (defaultFilled t p)))
 
--- at most so many members, names' fields of so many octets
+-- a named bit's body (document 02, Q-2): "name as in a member, then bit number 0..63"
+unfoldable pub bitFormed : ℕ → List ℕ → ℕ → Bool
+bitFormed name t p = both (nameFormed name t p) (leb (bitNumberAt t p) 63)
+
+-- at most so many members or names, names' fields of so many octets
 unfoldable pub rowFormed : ℕ → ℕ → List ℕ → ℕ → Bool
-rowFormed most name t p = pick (eqb (kindAt t p) kind.member) (memberFormed name t p) (countFormed most t p)
+rowFormed most name t p =
+    pick (eqb (kindAt t p) kind.member) (memberFormed name t p)
+    (pick (eqb (kindAt t p) kind.namedBit) (bitFormed name t p)
+    (countFormed most t p))

@@ -2,9 +2,12 @@
 use Prim.Native.Nat.{ℕ}
 use Rattle.der.specs.Computing.{derComputes}
 use Rattle.rows.specs.Limits.{tableFits}
-use Rattle.rows.specs.Row.{isTypeKind, isGroup, isList, rowNamed, namesRow, namedAt, rowSize, rowsFrom, rows, followerKind, membersAt}
-use Rattle.rows.specs.Body.{countFormed, follows, followed, nameFormed, taggingFormed, tagFormed, presenceFormed, defaultFilled, memberFormed, rowFormed}
+use Rattle.rows.specs.Row.{isTypeKind, isGroup, isList, rowNamed, namesRow, namedAt, rowSize, rowsFrom, rows, membersAt, bitNamesAt, followerKind}
+use Rattle.rows.specs.Row.{followersAt, isFollower}
+use Rattle.rows.specs.Body.{countFormed, follows, followed, nameFormed, taggingFormed, tagFormed, presenceFormed, defaultFilled, memberFormed}
+use Rattle.rows.specs.Body.{bitFormed, rowFormed}
 
 unfoldable pub rowsCompute : ℕ
-unfolding derComputes tableFits isTypeKind isGroup isList rowNamed namesRow namedAt rowSize rowsFrom rows followerKind membersAt countFormed follows followed nameFormed taggingFormed tagFormed presenceFormed defaultFilled memberFormed rowFormed
+unfolding derComputes tableFits isTypeKind isGroup isList rowNamed namesRow namedAt rowSize rowsFrom rows membersAt bitNamesAt followerKind
+    followersAt isFollower countFormed follows followed nameFormed taggingFormed tagFormed presenceFormed defaultFilled memberFormed bitFormed rowFormed
 rowsCompute = 0

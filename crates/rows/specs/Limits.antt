@@ -1,4 +1,5 @@
--- The limits of a table: its octets, its rows, the type rows of a chain, the members of a SEQUENCE or CHOICE, the octets of a name.
+-- The limits of a table: its octets, its rows, the type rows of a chain, the members of a SEQUENCE or CHOICE or named bits of a BIT STRING, the octets of a
+-- name.
 use Prim.Native.Nat.{ℕ}
 use mathlib.Core.Bool.{Bool}
 use mathlib.Core.List.{List}

@@ -1,4 +1,5 @@
--- Type table: rows. "Rows stand one after another and are numbered from 0. A row is one byte of kind, then a body whose length the kind fixes."
+-- Type table: rows, with those of document 02. "Rows stand one after another and are numbered from 0. A row is one byte of kind, then a body whose length
+-- the kind fixes."
 -- A row is known by the place of its first octet; the rows of a table are the list of these places.
 use Prim.Native.Nat.{ℕ, zero, suc, _+_, _-_}
 use mathlib.Core.Bool.{Bool}
@@ -15,7 +16,7 @@ use Rattle.der.specs.Kind as kind
 abbrev pub kindAt : List ℕ → ℕ → ℕ
 kindAt t p = octet t p
 
--- of a SEQUENCE or CHOICE: members, alternatives
+-- of a SEQUENCE or CHOICE: members, alternatives; of a BIT STRING with names: "names, 1..16"
 abbrev pub countAt : List ℕ → ℕ → ℕ
 countAt t p = octet t (p + 1)
 
@@ -55,10 +56,18 @@ defaultAt t p = part t (p + (nameWidth + 7)) (defaultLengthAt t p)
 abbrev pub memberSize : ℕ
 memberSize = nameWidth + 15
 
+-- of a named bit (document 02, Q-2): "name as in a member, then bit number 0..63"
+abbrev pub bitNumberAt : List ℕ → ℕ → ℕ
+bitNumberAt t p = octet t (p + (nameWidth + 1))
+
+-- the octets of a row of a named bit
+abbrev pub bitSize : ℕ
+bitSize = nameWidth + 2
+
 -- ---- the rows
--- kinds of types: BOOLEAN to SET OF
+-- kinds of types: BOOLEAN to SET OF, and BIT STRING with names
 unfoldable pub isTypeKind : ℕ → Bool
-isTypeKind k = within kind.boolean kind.setOf k
+isTypeKind k = either (within kind.boolean kind.setOf k) (eqb k kind.namedBitString)
 
 -- kinds with members, and kinds with an element
 unfoldable pub isGroup : ℕ → Bool
@@ -92,7 +101,9 @@ rowSize k =
     (pick (isGroup k) 2
     (pick (isList k) 3
     (pick (eqb k kind.member) memberSize
-    0)))
+    (pick (eqb k kind.namedBitString) 2
+    (pick (eqb k kind.namedBit) bitSize
+    0)))))
 
 -- the rows from a place on: whole ones, at most n of them
 unfoldable pub rowsFrom : ℕ → List ℕ → ℕ → Option (List ℕ)
@@ -117,9 +128,23 @@ rows most t = orNone (rowsFrom most t 0)
 abbrev pub rowAt : List ℕ → ℕ → ℕ
 rowAt s i = getD s i 0
 
--- rows that follow a row of a kind: their kind (0 where none follow), and how many follow the row at p
-unfoldable pub followerKind : ℕ → ℕ
-followerKind k = pick (isGroup k) kind.member 0
-
+-- members after a SEQUENCE or CHOICE, names after a BIT STRING with names: how many follow the row at p
 unfoldable pub membersAt : List ℕ → ℕ → ℕ
 membersAt t p = pick (isGroup (kindAt t p)) (countAt t p) 0
+
+unfoldable pub bitNamesAt : List ℕ → ℕ → ℕ
+bitNamesAt t p = pick (eqb (kindAt t p) kind.namedBitString) (countAt t p) 0
+
+-- rows that follow a row of a kind: their kind (0 where none follow), and how many follow the row at p
+unfoldable pub followerKind : ℕ → ℕ
+followerKind k =
+    pick (isGroup k) kind.member
+    (pick (eqb k kind.namedBitString) kind.namedBit
+    0)
+
+unfoldable pub followersAt : List ℕ → ℕ → ℕ
+followersAt t p = pick (eqb (followerKind (kindAt t p)) 0) 0 (countAt t p)
+
+-- the kinds of rows that only follow another
+unfoldable pub isFollower : ℕ → Bool
+isFollower k = either (eqb k kind.member) (eqb k kind.namedBit)

@@ -32,8 +32,13 @@ impl Table {
     // A name's octets, and the width of its field.
     pub const MAX_NAME: usize = 24;
 
-    // The octets of a member row.
+    // The octets of a member row, and of the row of a named bit.
     pub const MEMBER_BYTES: usize = 39;
+
+    pub const BIT_BYTES: usize = 26;
+
+    // The highest number of a bit with a name.
+    pub const MAX_BIT: u8 = 63;
 
     pub fn of(rows: usize) -> Self
         ensures { λ r. ⌜ r .rows ≡ rows ⌝ }
@@ -107,6 +112,13 @@ pub fn name_at(t: &[u8], p: usize) -> &[u8]
     fields(t, p, 1, Table::MAX_NAME)
 }
 
+// The number of a named bit.
+pub fn bit_number_at(t: &[u8], p: usize) -> u8
+    ensures { λ r. ⌜ r ≡ row.bitNumberAt (now (t .entry)) p ⌝ }
+{
+    field(t, p, 25)
+}
+
 pub fn mode_at(t: &[u8], p: usize) -> u8
     ensures { λ r. ⌜ r ≡ row.modeAt (now (t .entry)) p ⌝ }
 {
@@ -175,7 +187,10 @@ pub fn member_default(t: &[u8], p: usize) -> &[u8]
 pub fn is_type_kind(kind: u8) -> bool
     ensures { λ r. ⌜ r ≡ row.isTypeKind kind ⌝ }
 {
-    octets::within(Kind::BOOLEAN, Kind::SET_OF, kind)
+    if octets::within(Kind::BOOLEAN, Kind::SET_OF, kind) {
+        return true;
+    }
+    kind == Kind::NAMED_BIT_STRING
 }
 
 pub fn is_group(kind: u8) -> bool
@@ -211,6 +226,55 @@ fn row_size(kind: u8) -> usize
     if kind == Kind::MEMBER {
         return Table::MEMBER_BYTES;
     }
+    if kind == Kind::NAMED_BIT_STRING {
+        return 2;
+    }
+    if kind == Kind::NAMED_BIT {
+        return Table::BIT_BYTES;
+    }
+    0
+}
+
+// Whether rows of a kind only follow another.
+pub fn is_follower(kind: u8) -> bool
+    ensures { λ r. ⌜ r ≡ row.isFollower kind ⌝ }
+{
+    if kind == Kind::MEMBER {
+        return true;
+    }
+    kind == Kind::NAMED_BIT
+}
+
+// The kind of the rows that follow a row of a kind; 0 where none follow.
+pub fn follower_kind(kind: u8) -> u8
+    ensures { λ r. ⌜ r ≡ row.followerKind kind ⌝ }
+{
+    if is_group(kind) {
+        return Kind::MEMBER;
+    }
+    if kind == Kind::NAMED_BIT_STRING {
+        return Kind::NAMED_BIT;
+    }
+    0
+}
+
+// How many rows follow a row.
+pub fn followers_at(t: &[u8], p: usize) -> usize
+    ensures { λ r. ⌜ r ≡ row.followersAt (now (t .entry)) p ⌝ }
+{
+    if follower_kind(kind_at(t, p)) == 0 {
+        return 0;
+    }
+    octets::wide(field(t, p, 1))
+}
+
+// How many names of bits stand after a row.
+pub fn bit_names_at(t: &[u8], p: usize) -> usize
+    ensures { λ r. ⌜ r ≡ row.bitNamesAt (now (t .entry)) p ⌝ }
+{
+    if kind_at(t, p) == Kind::NAMED_BIT_STRING {
+        return octets::wide(field(t, p, 1));
+    }
     0
 }
 
@@ -233,6 +297,9 @@ fn count_formed(t: &[u8], p: usize) -> bool
         return field(t, p, 1) <= Table::MAX_MEMBERS;
     }
     if kind == Kind::CHOICE {
+        return octets::within(1, Table::MAX_MEMBERS, field(t, p, 1));
+    }
+    if kind == Kind::NAMED_BIT_STRING {
         return octets::within(1, Table::MAX_MEMBERS, field(t, p, 1));
     }
     true
@@ -334,10 +401,10 @@ fn filled_24(t: &[u8], p: usize, n: usize) -> bool
     filled_16(t, p + 8, 0)
 }
 
-// ---- the body of a member row that is whole
+// ---- the body of a row that follows another and is whole
 // Whether each octet of a name may follow the one before it; a lowercase letter may follow any. Where the fill starts, all that is left has to be fill.
 fn name_spelt(t: &[u8], p: usize) -> bool
-    requires whole { ⌜ p + row.memberSize ≤ length (now t) ⌝ }
+    requires whole { ⌜ p + row.bitSize ≤ length (now t) ⌝ }
     requires begins { ⌜ 0 < octet (now t) (p + 1) ⌝ }
     ensures { λ r. ⌜ r ≡ all (body.followed (now (t .entry)) p) (tableLimits .name - 1) ⌝ }
 {
@@ -363,7 +430,7 @@ fn name_spelt(t: &[u8], p: usize) -> bool
 }
 
 fn name_formed(t: &[u8], p: usize) -> bool
-    requires { ⌜ p + row.memberSize ≤ length (now t) ⌝ }
+    requires { ⌜ p + row.bitSize ≤ length (now t) ⌝ }
     ensures { λ r. ⌜ r ≡ body.nameFormed (tableLimits .name) (now (t .entry)) p ⌝ }
 {
     if !octets::is_lower(t[p + 1]) {
@@ -400,6 +467,16 @@ pub fn member_formed(t: &[u8], p: usize) -> bool
         return false;
     }
     default_filled(t, p)
+}
+
+pub fn bit_formed(t: &[u8], p: usize) -> bool
+    requires { ⌜ p + row.bitSize ≤ length (now t) ⌝ }
+    ensures { λ r. ⌜ r ≡ body.bitFormed (tableLimits .name) (now (t .entry)) p ⌝ }
+{
+    if !name_formed(t, p) {
+        return false;
+    }
+    t[p + 25] <= Table::MAX_BIT
 }
 
 // ---- the size of a type row that is whole and whose body is as the type table has it; 0 where it isn't

@@ -26,9 +26,9 @@ use Rattle.rules.specs.Rule.{Syntax, booleans, integers, objectIdentifie
 use Rattle.rules.specs.Suits.{suitsKind, isUntagged, isStringType, allStrings, suitsTarget, suits}
 use Rattle.times.specs.Asserted.{assertedTime}
 use Rattle.der.specs.declared.Time.{Time}
-use Rattle.rules.specs.Asserted.{Asserted, time, assertedIn, assertedOf}
+use Rattle.rules.specs.Asserted.{Asserted, time, namesAt, assertedBitsBy, assertedIn, assertedOf}
 use Rattle.rules.specs.RuleFor.{comparison, ifFor, ruleFor}
-use Rattle.rules.specs.inner.Answers.{conformsTo, conforms, timeOr, saidIn, said, stringRow}
+use Rattle.rules.specs.inner.Answers.{ofBits, readByTarget, conformsTo, conforms, timeOr, saidIn, said, stringRow}
 
 -- ---- tests in a row, from the first and from the last
 front : (ℕ → Bool) → ℕ → ℕ → Bool
@@ -157,25 +157,42 @@ module _ (t w : List ℕ) (ok : Worded t w) where
         ∙ ap (λ (y : Ty). suitsTarget x (ofType y)) (sym (ok .ready .sound .step i here))
 
 -- ---- what a text asserts: nothing where it doesn't conform, whatever the reference leads to
-asserted-in : (x : Syntax) (g : Target) (t : List ℕ) → assertedIn x g t ≡ pick (conformsTo x t) (some (saidIn x t)) none
+asserted-in : (x : Syntax) (g : Target) (t : List ℕ) → ofBits x ≡ false → assertedIn x g t ≡ pick (conformsTo x t) (some (saidIn x t)) none
 unfolding assertedIn conformsTo saidIn
-asserted-in booleans g t = refl
-asserted-in integers g t = refl
-asserted-in objectIdentifiers g t = refl
-asserted-in octetStrings g t = refl
-asserted-in bitStrings g t = refl
-asserted-in (strings fold) g t = refl
-asserted-in times g t = go (assertedTime t)
+asserted-in booleans g t n = refl
+asserted-in integers g t n = refl
+asserted-in objectIdentifiers g t n = refl
+asserted-in octetStrings g t n = refl
+asserted-in bitStrings g t n = absurd (false≢true (sym n))
+asserted-in (strings fold) g t n = refl
+asserted-in times g t n = go (assertedTime t)
   where
     go : (o : Option Time) → bind o (λ u. some (time u)) ≡ pick (isSome o) (some (timeOr o)) none
     go none = refl
     go (some u) = refl
 
-pub asserted-is : (r : Rule) (g : Target) (t : List ℕ) → assertedOf r g t ≡ pick (conforms r t) (some (said r t)) none
-unfolding assertedOf conforms said
-asserted-is present g t = refl
-asserted-is (equal x) g t = asserted-in x g t
-asserted-is (less x) g t = asserted-in x g t
+pub asserted-is : (r : Rule) (g : Target) (t : List ℕ) → readByTarget r ≡ false → assertedOf r g t ≡ pick (conforms r t) (some (said r t)) none
+unfolding assertedOf conforms said readByTarget
+asserted-is present g t n = refl
+asserted-is (equal x) g t n = asserted-in x g t n
+asserted-is (less x) g t n = asserted-in x g t n
+
+-- of a rule of bits, by the names there
+asserted-bits : (x : Syntax) (g : Target) (t : List ℕ) → ofBits x ≡ true → assertedIn x g t ≡ assertedBitsBy (namesAt g) t
+unfolding assertedIn
+asserted-bits booleans g t b = absurd (false≢true b)
+asserted-bits integers g t b = absurd (false≢true b)
+asserted-bits objectIdentifiers g t b = absurd (false≢true b)
+asserted-bits octetStrings g t b = absurd (false≢true b)
+asserted-bits bitStrings g t b = refl
+asserted-bits (strings fold) g t b = absurd (false≢true b)
+asserted-bits times g t b = absurd (false≢true b)
+
+pub asserted-by-names : (r : Rule) (g : Target) (t : List ℕ) → readByTarget r ≡ true → assertedOf r g t ≡ assertedBitsBy (namesAt g) t
+unfolding assertedOf readByTarget
+asserted-by-names present g t b = absurd (false≢true b)
+asserted-by-names (equal x) g t b = asserted-bits x g t b
+asserted-by-names (less x) g t b = asserted-bits x g t b
 
 -- ---- the rule of an assertion is for the target, and the value text conforms
 module _ (ks : List Known) (g : Target) (rule value : List ℕ) where
@@ -183,14 +200,19 @@ module _ (ks : List Known) (g : Target) (rule value : List ℕ) where
   unfolding ruleFor
   rule-for-none e = rw e
 
-  if-for : (r : Rule) → ifFor g value r ≡ pick (both (suits r g) (conforms r value)) (some (comparison r (said r value))) none
-  if-for r = ap (λ (o : Option Asserted). pick (suits r g) (bind o (λ a. some (comparison r a))) none) (asserted-is r g value) ∙ go (suits r g) (conforms r value)
+  if-for : (r : Rule) → readByTarget r ≡ false → ifFor g value r ≡ pick (both (suits r g) (conforms r value)) (some (comparison r (said r value))) none
+  if-for r n = ap (λ (o : Option Asserted). pick (suits r g) (bind o (λ a. some (comparison r a))) none) (asserted-is r g value n)
+      ∙ go (suits r g) (conforms r value)
     where
       go : (a b : Bool) → pick a (bind (pick b (some (said r value)) none) (λ y. some (comparison r y))) none ≡ pick (both a b) (some (comparison r (said r value))) none
       go true true = refl
       go true false = refl
       go false b = refl
 
-  pub rule-for-is : (r : Rule) → ruleOf ks rule ≡ some r → ruleFor ks g rule value ≡ pick (both (suits r g) (conforms r value)) (some (comparison r (said r value))) none
+  pub rule-for-known : (r : Rule) → ruleOf ks rule ≡ some r → ruleFor ks g rule value ≡ ifFor g value r
   unfolding ruleFor
-  rule-for-is r e = rw e (if-for r)
+  rule-for-known r e = rw e
+
+  pub rule-for-is : (r : Rule) → readByTarget r ≡ false → ruleOf ks rule ≡ some r
+      → ruleFor ks g rule value ≡ pick (both (suits r g) (conforms r value)) (some (comparison r (said r value))) none
+  rule-for-is r n e = rule-for-known r e ∙ if-for r n

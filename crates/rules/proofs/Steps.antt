@@ -19,9 +19,10 @@ use Rattle.rows.specs.Row.{kindAt, modeAt, membersAt}
 use Rattle.table.specs.inner.Rows.{tableRows, placeAt, typeAt, memberKindAt}
 use Rattle.table.specs.inner.Words.{Worded}
 use Rattle.reference.specs.Allowed.{ofType, ofCount}
+use Rattle.rules.specs.Rule.{bitStrings}
 use Rattle.rules.specs.Suits.{suitsKind, suitsTarget, suits}
 use Rattle.rules.specs.Asserted.{isTruth}
-use Rattle.rules.specs.inner.Answers.{syntaxOf, meant, conformsTo, conforms, stringRow}
+use Rattle.rules.specs.inner.Answers.{syntaxOf, meant, ofBits, readByTarget, conformsTo, conforms, stringRow}
 use Rattle.rules.specs.declared.Syntax as syntax
 use Rattle.rules.specs.declared.Rule as rule
 use Rattle.rules.proofs.Laws.{suits-syntax}
@@ -78,6 +79,19 @@ module _ (x : rule.Rule) (t : List ℕ) (r : Bool) where
   unfolding conforms
   conform-less s e h = rw e h
 
+module _ (x : rule.Rule) where
+  pub target-present : x ≡ rule.Rule.Present → false ≡ readByTarget (meant x)
+  unfolding readByTarget
+  target-present e = rw e
+
+  pub target-equal : (r : Bool) (s : syntax.Syntax) → x ≡ rule.Rule.Equal s → r ≡ ofBits (syntaxOf s) → r ≡ readByTarget (meant x)
+  unfolding readByTarget
+  target-equal r s e h = rw e h
+
+  pub target-less : (r : Bool) (s : syntax.Syntax) → x ≡ rule.Rule.Less s → r ≡ ofBits (syntaxOf s) → r ≡ readByTarget (meant x)
+  unfolding readByTarget
+  target-less r s e h = rw e h
+
 -- ---- which rule is for which type
 pub string-is : (k : ℕ) (r : Bool) → r ≡ both (leb 8 k) (leb k 10) → r ≡ isString k
 string-is k r e = e ∙ sym (string-kinds k)
@@ -95,8 +109,8 @@ module _ (x : syntax.Syntax) (k : ℕ) where
   pub kind-octets : x ≡ syntax.Syntax.OctetStrings → eqb k 6 ≡ suitsKind (syntaxOf x) k
   kind-octets e = rw e
 
-  pub kind-bits : x ≡ syntax.Syntax.BitStrings → eqb k 7 ≡ suitsKind (syntaxOf x) k
-  kind-bits e = rw e
+  pub kind-bits : (r : Bool) → x ≡ syntax.Syntax.BitStrings → r ≡ suitsKind bitStrings k → r ≡ suitsKind (syntaxOf x) k
+  kind-bits r e h = rw e h
 
   pub kind-strings : (r fold : Bool) → x ≡ syntax.Syntax.Strings fold → r ≡ isString k → r ≡ suitsKind (syntaxOf x) k
   kind-strings r fold e h = rw e h

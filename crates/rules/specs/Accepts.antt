@@ -7,14 +7,15 @@ use Rattle.octets.specs.Pick.{pick, no}
 use Rattle.octets.specs.Octets.{same, below}
 use Rattle.der.specs.Time.{timeOf, sameTime, earlier}
 use Rattle.der.specs.Meaning.{Whole, plus, sameWhole, lessWhole, integerOf, booleanOf, arcsOf, bitsOf}
+use Rattle.digits.specs.Named.{trimmed}
 use Rattle.strings.specs.Prepared.{prepared}
 use Rattle.value.specs.Value.{spotOf}
 use Rattle.reference.specs.Named.{Held, value, defaultValue, countValue}
 use Rattle.reference.specs.Numbers.{Component, stored, byDefault, byCount, contentsOf}
 use Rattle.rules.specs.Rule.{Rule, present, equal, less}
-use Rattle.rules.specs.Asserted.{Asserted, anyValue, truth, integer, arcs, octets, bits, text, time}
+use Rattle.rules.specs.Asserted.{Asserted, anyValue, truth, integer, arcs, octets, bits, namedBits, text, time}
 
--- an equal one; bits "equal in number and bit by bit"
+-- an equal one; bits "equal in number and bit by bit", with names without their trailing zeros (document 02, Q-2)
 unfoldable pub isEqual : Asserted → List ℕ → Bool
 isEqual anyValue c = true
 isEqual (truth b) c = pick (booleanOf c) b (no b)
@@ -22,6 +23,7 @@ isEqual (integer n) c = sameWhole (integerOf c) n
 isEqual (arcs l) c = same (arcsOf c) l
 isEqual (octets l) c = same c l
 isEqual (bits l) c = same (bitsOf c) l
+isEqual (namedBits l) c = same (trimmed (bitsOf c)) (trimmed l)
 isEqual (text fold l) c = same (prepared fold c) (prepared fold l)
 isEqual (time u) c = sameTime (timeOf c) u
 
@@ -33,6 +35,7 @@ isLess (integer n) c = lessWhole (integerOf c) n
 isLess (arcs l) c = false
 isLess (octets l) c = below c l
 isLess (bits l) c = false
+isLess (namedBits l) c = false
 isLess (text fold l) c = false
 isLess (time u) c = earlier (timeOf c) u
 
@@ -49,6 +52,7 @@ ofInteger test (integer n) = test n
 ofInteger test (arcs l) = false
 ofInteger test (octets l) = false
 ofInteger test (bits l) = false
+ofInteger test (namedBits l) = false
 ofInteger test (text fold l) = false
 ofInteger test (time u) = false
 

@@ -1,11 +1,13 @@
 -- Rules: what a value text asserts, by its rule and what its reference leads to; nothing where it doesn't conform. The syntaxes of integers, octets and
--- bits, strings and times are in the crates integers, digits, strings and times; dotted OIDs in der/specs/Dotted.
+-- bits, strings and times are in the crates integers, digits, strings and times, lists of names in bitnames; dotted OIDs in der/specs/Dotted.
 use Prim.Native.Nat.{ℕ}
 use mathlib.Core.Bool.{Bool}
 use mathlib.Core.Option.{Option, none, some}
 use mathlib.Core.List.{List}
+use lib.Dec.{eqb}
 use Rattle.octets.specs.Pick.{pick, either, bind}
 use Rattle.octets.specs.Octets.{same, bytes}
+use Rattle.der.specs.Kind as kind
 use Rattle.der.specs.Meaning.{Whole}
 use Rattle.der.specs.Dotted.{isDotted, dottedArcs}
 use Rattle.der.specs.declared.Time.{Time}
@@ -13,10 +15,13 @@ use Rattle.integers.specs.Asserted.{isInteger, assertedInteger}
 use Rattle.digits.specs.Asserted.{isOctets, assertedOctets, isBits, assertedBits}
 use Rattle.strings.specs.Asserted.{isText, assertedText}
 use Rattle.times.specs.Asserted.{assertedTime}
-use Rattle.reference.specs.Allowed.{Target}
+use Rattle.types.specs.Types.{NamedBit, basic, sequence, choice, listOf}
+use Rattle.reference.specs.Allowed.{Target, ofType, ofCount}
+use Rattle.bitnames.specs.Names.{listedBits}
 use Rattle.rules.specs.Rule.{Syntax, booleans, integers, objectIdentifiers, octetStrings, bitStrings, strings, times, Rule, present, equal, less}
 
--- any value; a truth; an integer; the arcs of an OID; octets; bits; the characters of a string, to be compared with letters folded (true) or as they are; a time
+-- any value; a truth; an integer; the arcs of an OID; octets; bits; bits whose trailing zeros don't count; the characters of a string, to be compared with
+-- letters folded (true) or as they are; a time
 pub data Asserted : Type 0 where
   anyValue : Asserted
   truth : Bool → Asserted
@@ -24,6 +29,7 @@ pub data Asserted : Type 0 where
   arcs : List ℕ → Asserted
   octets : List ℕ → Asserted
   bits : List ℕ → Asserted
+  namedBits : List ℕ → Asserted
   text : Bool → List ℕ → Asserted
   time : Time → Asserted
 
@@ -35,13 +41,26 @@ isTruth t = either (same t (bytes "TRUE")) (same t (bytes "FALSE"))
 abbrev pub asserts : Bool → Asserted → Option Asserted
 asserts conforms a = pick conforms (some a) none
 
+-- the names of bits, where the reference leads to a BIT STRING with names
+abbrev pub namesAt : Target → Option (List NamedBit)
+namesAt (ofType (basic k names)) = pick (eqb k kind.namedBitString) (some names) none
+namesAt (ofType (sequence ms)) = none
+namesAt (ofType (choice ms)) = none
+namesAt (ofType (listOf k ty)) = none
+namesAt ofCount = none
+
+-- bits; with names trailing zeros don't count, and "the assertion may also be a GSER list of the names in braces" (document 02, Q-2)
+unfoldable pub assertedBitsBy : Option (List NamedBit) → List ℕ → Option Asserted
+assertedBitsBy none t = asserts (isBits t) (bits (assertedBits t))
+assertedBitsBy (some names) t = pick (isBits t) (some (namedBits (assertedBits t))) (bind (listedBits names t) (λ l. some (namedBits l)))
+
 -- OIDs: "a name there doesn't conform"
 unfoldable pub assertedIn : Syntax → Target → List ℕ → Option Asserted
 assertedIn booleans g t = asserts (isTruth t) (truth (same t (bytes "TRUE")))
 assertedIn integers g t = asserts (isInteger t) (integer (assertedInteger t))
 assertedIn objectIdentifiers g t = asserts (isDotted t) (arcs (dottedArcs t))
 assertedIn octetStrings g t = asserts (isOctets t) (octets (assertedOctets t))
-assertedIn bitStrings g t = asserts (isBits t) (bits (assertedBits t))
+assertedIn bitStrings g t = assertedBitsBy (namesAt g) t
 assertedIn (strings fold) g t = asserts (isText t) (text fold (assertedText t))
 assertedIn times g t = bind (assertedTime t) (λ u. some (time u))
 

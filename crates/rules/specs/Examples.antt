@@ -7,7 +7,7 @@ use Prim.Native.Nat.{ℕ}
 use Prim.Native.String.{String}
 use Rattle.octets.specs.Pick.{bind}
 use Rattle.octets.specs.Octets.{bytes, hex}
-use Rattle.types.specs.Types.{Tagging, untagged, explicit, mandatory, Ty, basic, sequence, choice, noMore, more}
+use Rattle.types.specs.Types.{Tagging, untagged, explicit, mandatory, NamedBit, Ty, basic, sequence, choice, noMore, more}
 use Rattle.value.specs.Value.{leaf, fields, endFields}
 use Rattle.reference.specs.Allowed.{Target, ofType, ofCount}
 use Rattle.reference.specs.Named.{Held, value, countValue}
@@ -43,7 +43,7 @@ contents k c = value (leaf k (record { place = 0; size = 0; contents = c }))
 
 -- a rule put to a basic kind with contents, for each value text
 tests : ℕ → String → List ℕ → List String → List (Option Bool)
-tests k rule c values = map (test (ofType (basic k)) rule (contents k c)) values
+tests k rule c values = map (test (ofType (basic k [])) rule (contents k c)) values
 
 -- value `NULL` alone
 present : tests 4 "presentMatch" [] ("NULL" ∷ "null" ∷ "\"\"" ∷ []) ≡ some true ∷ none ∷ none ∷ []
@@ -95,6 +95,40 @@ no-bits : tests 7 "bitStringMatch" (hex "00") ("''B" ∷ "''H" ∷ "'0'B" ∷ []
 unfolding rulesCompute testOctets test tests
 no-bits = refl
 
+-- ---- document 02, Q-2: with the names print (0), perform (1), record (5)
+rights : List NamedBit
+rights = record { name = bytes "print"; number = 0 } ∷ record { name = bytes "perform"; number = 1 } ∷ record { name = bytes "record"; number = 5 } ∷ []
+
+rightsTests : String → List String → List (Option Bool)
+rightsTests c values = map (test (ofType (basic 17 rights)) "bitStringMatch" (contents 17 (hex c))) values
+
+-- '11'B stored: trailing zeros don't count; names in any order, repeated, with spaces; fewer and more bits
+named-bits : rightsTests "06C0" ("'11'B" ∷ "'110'B" ∷ "'C00'H" ∷ "{print,perform}" ∷ "{  perform,   print  }" ∷ "{ print, print, perform, print }"
+    ∷ "{print}" ∷ "{print,perform,record}" ∷ "'1'B" ∷ "'111'B" ∷ "{}" ∷ [])
+    ≡ some true ∷ some true ∷ some true ∷ some true ∷ some true ∷ some true ∷ some false ∷ some false ∷ some false ∷ some false ∷ some false ∷ []
+unfolding rulesCompute testOctets test rights rightsTests
+named-bits = refl
+
+-- no bits stored; a bit by its number; bits beyond the names
+named-bits-others : rightsTests "00" ("{}" ∷ "{ }" ∷ "''B" ∷ "'000'B" ∷ "{print}" ∷ []) ++ rightsTests "0204" ("{record}" ∷ "'000001'B" ∷ "{perform}" ∷ [])
+    ++ rightsTests "00C001" ("'C001'H" ∷ "{print,perform}" ∷ [])
+    ≡ some true ∷ some true ∷ some true ∷ some true ∷ some false ∷ some true ∷ some true ∷ some false ∷ some true ∷ some false ∷ []
+unfolding rulesCompute testOctets test rights rightsTests
+named-bits-others = refl
+
+-- an unknown name, another case, a space before a comma, commas too many, digits that don't conform
+named-bits-undefined : rightsTests "06C0" ("{stage}" ∷ "{print,PERFORM}" ∷ "{print ,perform}" ∷ "{print,}" ∷ "{,}" ∷ "print" ∷ "'12'B" ∷ "'c0'H" ∷ [])
+    ≡ none ∷ none ∷ none ∷ none ∷ none ∷ none ∷ none ∷ none ∷ []
+unfolding rulesCompute testOctets test rights rightsTests
+named-bits-undefined = refl
+
+-- without names trailing zeros count, and a list doesn't conform; presentMatch; another rule
+named-bits-targets : tests 7 "bitStringMatch" (hex "06C0") ("'11'B" ∷ "'110'B" ∷ "{print}" ∷ "{}" ∷ [])
+    ++ map (λ r. test (ofType (basic 17 rights)) r (contents 17 (hex "06C0")) "NULL") ("presentMatch" ∷ "octetStringMatch" ∷ [])
+    ≡ some true ∷ some false ∷ none ∷ none ∷ some true ∷ none ∷ []
+unfolding rulesCompute testOctets test tests rights rightsTests
+named-bits-targets = refl
+
 strings : tests 8 "caseIgnoreMatch" (bytes " Foo  BAR ") ("\"foo bar\"" ∷ "\"  FOO   bar \"" ∷ "\"foobar\"" ∷ "\"\"" ∷ "foo" ∷ [])
     ≡ some true ∷ some true ∷ some false ∷ none ∷ none ∷ []
 unfolding rulesCompute testOctets test tests
@@ -113,7 +147,7 @@ spaces = refl
 
 -- Élan stored: élan, Élan, elan; straße stored: STRASSE, straße; U+017F stored: s, S
 accented : List ℕ → String → List (List ℕ) → List (Option Bool)
-accented c rule ts = map (testOctets (ofType (basic 8)) rule (contents 8 c)) ts
+accented c rule ts = map (testOctets (ofType (basic 8 [])) rule (contents 8 c)) ts
 
 accents : accented (hex "C3896C616E") "caseIgnoreMatch" (hex "22C3A96C616E22" ∷ hex "22C3896C616E22" ∷ bytes "\"elan\"" ∷ [])
     ++ accented (hex "C3896C616E") "caseExactMatch" (hex "22C3A96C616E22" ∷ hex "22C3896C616E22" ∷ bytes "\"elan\"" ∷ [])
@@ -127,7 +161,7 @@ unfolding rulesCompute testOctets accented
 accents = refl
 
 -- a soft hyphen alone conforms, and equals what is prepared to nothing: an empty string, spaces, controls
-nothing : map (λ c. testOctets (ofType (basic 8)) "caseIgnoreMatch" (contents 8 c) (hex "22C2AD22")) ([] ∷ hex "2020" ∷ hex "0009" ∷ bytes "a" ∷ [])
+nothing : map (λ c. testOctets (ofType (basic 8 [])) "caseIgnoreMatch" (contents 8 c) (hex "22C2AD22")) ([] ∷ hex "2020" ∷ hex "0009" ∷ bytes "a" ∷ [])
     ≡ some true ∷ some true ∷ some true ∷ some false ∷ []
 unfolding rulesCompute testOctets
 nothing = refl
@@ -148,7 +182,7 @@ time-order = refl
 -- INTEGER rules on a count; not on ENUMERATED; string rules on kinds 8, 9, 10
 targets : test ofCount "integerMatch" (countValue 6 2) "2" ∷ test ofCount "integerOrderingMatch" (countValue 6 2) "3"
     ∷ test ofCount "presentMatch" (countValue 6 2) "NULL" ∷ test ofCount "booleanMatch" (countValue 6 2) "TRUE"
-    ∷ test (ofType (basic 3)) "integerMatch" (contents 3 (hex "02")) "2" ∷ test (ofType (basic 6)) "caseIgnoreMatch" (contents 6 []) "\"a\""
+    ∷ test (ofType (basic 3 [])) "integerMatch" (contents 3 (hex "02")) "2" ∷ test (ofType (basic 6 [])) "caseIgnoreMatch" (contents 6 []) "\"a\""
     ∷ test (ofType (sequence noMore)) "presentMatch" (value (fields (record { place = 0; size = 2; contents = [] }) endFields)) "NULL" ∷ []
     ≡ some true ∷ some true ∷ some true ∷ none ∷ none ∷ none ∷ some true ∷ []
 unfolding rulesCompute testOctets test
@@ -156,18 +190,18 @@ targets = refl
 
 abbrev alternatives : Tagging → Ty → Target
 alternatives g ty =
-    ofType (choice (more (record { row = 1; name = bytes "a"; tagging = untagged; presence = mandatory }) (basic 8)
+    ofType (choice (more (record { row = 1; name = bytes "a"; tagging = untagged; presence = mandatory }) (basic 8 [])
     (more (record { row = 2; name = bytes "b"; tagging = g; presence = mandatory }) ty noMore)))
 
 -- a CHOICE of untagged string rows; with a tagged one; with one that is no string
-choices : map (λ g. test g "caseIgnoreMatch" (contents 9 (bytes "A")) "\"a\"") (alternatives untagged (basic 9) ∷ alternatives (explicit 0) (basic 9)
-    ∷ alternatives untagged (basic 2) ∷ [])
+choices : map (λ g. test g "caseIgnoreMatch" (contents 9 (bytes "A")) "\"a\"") (alternatives untagged (basic 9 []) ∷ alternatives (explicit 0) (basic 9 [])
+    ∷ alternatives untagged (basic 2 []) ∷ [])
     ≡ some true ∷ none ∷ none ∷ []
 unfolding rulesCompute testOctets test
 choices = refl
 
 -- names without regard to case, OIDs, unknown ones
-names : map (λ r. test (ofType (basic 2)) r (contents 2 (hex "01")) "1") ("INTEGERmatch" ∷ "2.5.13.14" ∷ "2.5.13.15" ∷ "integerMatches" ∷ "2.5.13.140"
+names : map (λ r. test (ofType (basic 2 [])) r (contents 2 (hex "01")) "1") ("INTEGERmatch" ∷ "2.5.13.14" ∷ "2.5.13.15" ∷ "integerMatches" ∷ "2.5.13.140"
     ∷ "caseIgnoreMatch" ∷ [])
     ≡ some true ∷ some true ∷ some false ∷ none ∷ none ∷ none ∷ []
 unfolding rulesCompute testOctets test

@@ -2,7 +2,7 @@
 use Prim.Native.Nat.{ℕ}
 use mathlib.Core.Bool.{Bool, true, false}
 use lib.Dec.{eqb}
-use Rattle.octets.specs.Pick.{both}
+use Rattle.octets.specs.Pick.{both, either}
 use Rattle.der.specs.Kind as kind
 use Rattle.der.specs.Kind.{isString}
 use Rattle.types.specs.Types.{Tagging, untagged, explicit, implicit, Ty, basic, sequence, choice, listOf, Members, noMore, more}
@@ -14,7 +14,7 @@ suitsKind booleans k = eqb k kind.boolean
 suitsKind integers k = eqb k kind.integer
 suitsKind objectIdentifiers k = eqb k kind.objectIdentifier
 suitsKind octetStrings k = eqb k kind.octetString
-suitsKind bitStrings k = eqb k kind.bitString
+suitsKind bitStrings k = either (eqb k kind.bitString) (eqb k kind.namedBitString)
 suitsKind (strings fold) k = isString k
 suitsKind times k = eqb k kind.generalizedTime
 
@@ -25,7 +25,7 @@ isUntagged (explicit n) = false
 isUntagged (implicit n) = false
 
 abbrev pub isStringType : Ty → Bool
-isStringType (basic k) = isString k
+isStringType (basic k names) = isString k
 isStringType (sequence ms) = false
 isStringType (choice ms) = false
 isStringType (listOf k ty) = false
@@ -36,7 +36,7 @@ allStrings (more m ty ms) = let r = allStrings ms in both (both (isUntagged (m .
 
 -- a CHOICE of strings takes the rules that UTF8String takes
 unfoldable pub suitsTarget : Syntax → Target → Bool
-suitsTarget s (ofType (basic k)) = suitsKind s k
+suitsTarget s (ofType (basic k names)) = suitsKind s k
 suitsTarget s (ofType (sequence ms)) = false
 suitsTarget s (ofType (choice ms)) = both (suitsKind s kind.utf8String) (allStrings ms)
 suitsTarget s (ofType (listOf k ty)) = false

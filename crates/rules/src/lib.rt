@@ -11,7 +11,7 @@ ghost use Rattle.rows.specs.Row.{membersAt};
 ghost use Rattle.table.specs.inner.Rows.{tableRows, placeAt, typeAt};
 ghost use Rattle.table.specs.inner.Words.{Worded};
 ghost use Rattle.reference.specs.Allowed.{ofType, ofCount};
-ghost use Rattle.rules.specs.Rule.{sameName, knownRules, ruleOf};
+ghost use Rattle.rules.specs.Rule.{bitStrings, sameName, knownRules, ruleOf};
 ghost use Rattle.rules.specs.Suits as suiting;
 ghost use Rattle.rules.specs.Asserted.{isTruth};
 ghost use Rattle.rules.specs.inner.Answers as answers;
@@ -141,6 +141,31 @@ pub fn rule_of(t: &[u8]) -> Named
 }
 
 // ---- conforming
+fn is_of_bits(x: Syntax) -> bool
+    ensures { λ r. ⌜ r ≡ answers.ofBits (answers.syntaxOf x) ⌝ }
+{
+    match x {
+        Syntax::Booleans => false,
+        Syntax::Integers => false,
+        Syntax::ObjectIdentifiers => false,
+        Syntax::OctetStrings => false,
+        Syntax::BitStrings => true,
+        Syntax::Strings(_) => false,
+        Syntax::Times => false,
+    }
+}
+
+// Whether a rule's value texts are read by what the reference leads to: those of bits, which may have names there.
+pub fn reads_by_target(rule: Rule) -> bool
+    ensures { λ r. ⌜ r ≡ answers.readByTarget (answers.meant rule) ⌝ }
+{
+    match rule {
+        Rule::Present => false,
+        Rule::Equal(x) => is_of_bits(x),
+        Rule::Less(x) => is_of_bits(x),
+    }
+}
+
 fn is_truth(t: &[u8]) -> bool
     ensures { λ r. ⌜ r ≡ isTruth (now (t .entry)) ⌝ }
 {
@@ -164,7 +189,7 @@ fn conforms_to(x: Syntax, t: &[u8]) -> bool
     }
 }
 
-// Whether a value text conforms to what a rule asserts.
+// Whether a value text conforms to what a rule asserts, whatever the reference leads to; bits as without names.
 pub fn conforms(rule: Rule, t: &[u8]) -> bool
     ensures { λ r. ⌜ r ≡ answers.conforms (answers.meant rule) (now (t .entry)) ⌝ }
 {
@@ -182,6 +207,15 @@ fn is_string(k: u8) -> bool
     octets::within(Kind::UTF8_STRING, Kind::IA5_STRING, k)
 }
 
+fn is_bit_kind(k: u8) -> bool
+    ensures { λ r. ⌜ r ≡ suiting.suitsKind bitStrings k ⌝ }
+{
+    if k == Kind::BIT_STRING {
+        return true;
+    }
+    k == Kind::NAMED_BIT_STRING
+}
+
 fn suits_kind(x: Syntax, k: u8) -> bool
     ensures { λ r. ⌜ r ≡ suiting.suitsKind (answers.syntaxOf x) k ⌝ }
 {
@@ -190,7 +224,7 @@ fn suits_kind(x: Syntax, k: u8) -> bool
         Syntax::Integers => k == Kind::INTEGER,
         Syntax::ObjectIdentifiers => k == Kind::OBJECT_IDENTIFIER,
         Syntax::OctetStrings => k == Kind::OCTET_STRING,
-        Syntax::BitStrings => k == Kind::BIT_STRING,
+        Syntax::BitStrings => is_bit_kind(k),
         Syntax::Strings(_) => is_string(k),
         Syntax::Times => k == Kind::GENERALIZED_TIME,
     }

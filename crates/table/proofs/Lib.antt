@@ -1,3 +1,4 @@
+pub mod KindLaws
 pub mod Steps
 pub mod Places
 pub mod Reading

@@ -15,7 +15,8 @@ use Rattle.rows.specs.Paper.{tableLimits}
 use Rattle.rows.specs.Row.{rowAt, kindAt, namesRow, namedAt, membersAt, isGroup, isList, modeAt, numberAt, presenceAt, defaultLengthAt, defaultAt}
 use Rattle.rows.proofs.Laws.{MemberFacts, member-facts}
 use Rattle.rows.proofs.KindLaws.{member-names}
-use Rattle.clauses.specs.Clauses.{everyRow, wholeRows, bodyFormed, firstIsType, laterType, pointsLater, membersStand, namesDiffer, mandatoryAt, alternativesMandatory, typeKind, noImplicitChoice, defaultAllowed, defaultLegal, chainFits}
+use Rattle.clauses.specs.Clauses.{everyRow, wholeRows, bodyFormed, firstIsType, laterType, pointsLater, followersStand, namesDiffer, numbersDiffer}
+use Rattle.clauses.specs.Clauses.{mandatoryAt, alternativesMandatory, typeKind, noImplicitChoice, defaultAllowed, defaultLegal, chainFits}
 use Rattle.clauses.specs.inner.Work.{firstPass, tallest}
 use Rattle.clauses.proofs.LaterSteps.{member-follows, type-row, later-row}
 use Rattle.clauses.proofs.ChainSteps.{chain-list, chain-members}
@@ -34,7 +35,9 @@ use Rattle.table.proofs.Places.{row-place}
 
 -- ---- by the first pass
 module _ (t : List ℕ) (ok : firstPass tableLimits t (tableRows t) ≡ true) where
-  after-whole : both (everyRow (bodyFormed 16 24 t (tableRows t)) (tableRows t)) (both (firstIsType t (tableRows t)) (both (membersStand t (tableRows t)) (everyRow (namesDiffer t (tableRows t)) (tableRows t)))) ≡ true
+  after-whole : both (everyRow (bodyFormed 16 24 t (tableRows t)) (tableRows t)) (both (firstIsType t (tableRows t))
+      (both (followersStand t (tableRows t)) (both (everyRow (namesDiffer t (tableRows t)) (tableRows t))
+      (everyRow (numbersDiffer t (tableRows t)) (tableRows t))))) ≡ true
   unfolding firstPass
   after-whole = both-true (wholeRows 128 (tableRows t)) _ ok .1
 
@@ -46,8 +49,9 @@ module _ (t : List ℕ) (ok : firstPass tableLimits t (tableRows t) ≡ true) wh
   unfolding firstPass wholeRows
   some-rows = leb-true 1 (length (tableRows t)) (both-true (leb 1 (length (tableRows t))) (leb (length (tableRows t)) 128) (both-true (wholeRows 128 (tableRows t)) _ ok .0) .0)
 
-  pub members-stand : membersStand t (tableRows t) ≡ true
-  members-stand = both-true (membersStand t (tableRows t)) _ (both-true (firstIsType t (tableRows t)) _ (both-true (everyRow (bodyFormed 16 24 t (tableRows t)) (tableRows t)) _ after-whole .1) .1) .0
+  pub members-stand : followersStand t (tableRows t) ≡ true
+  members-stand = both-true (followersStand t (tableRows t)) _ (both-true (firstIsType t (tableRows t)) _
+      (both-true (everyRow (bodyFormed 16 24 t (tableRows t)) (tableRows t)) _ after-whole .1) .1) .0
 
   module _ (i : ℕ) (here : i < length (tableRows t)) where
     pub member-formed : MemberRow t i → MemberFacts 24 t (placeAt t i)

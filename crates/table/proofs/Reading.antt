@@ -15,7 +15,7 @@ use Rattle.clauses.proofs.LaterSteps.{type-row, later-row, points-named}
 use Rattle.types.specs.Types.{untagged}
 use Rattle.types.specs.Admitted.{admitted}
 use Rattle.types.specs.inner.Work.{Masked}
-use Rattle.types.proofs.Laws.{row-count, row-0-is-type, member-formed, points-later}
+use Rattle.types.proofs.Laws.{bit-stands, row-count, row-0-is-type, member-formed, points-later}
 use Rattle.types.proofs.SoundLaws.{sound}
 use Rattle.table.proofs.Places.{row-place}
 use Rattle.table.specs.inner.Rows.{tableRows, placeAt, taggingAt, memberKindAt}
@@ -42,6 +42,7 @@ ready l t m ok few masked = record {
   size = λ i h k. member-formed l t ok i h k .length;
   target = λ i h k. later-type t _ i _ (points-named t _ i k (points-later l t ok i h)) .0;
   typed = λ i h k. later-type t _ i _ (points-named t _ i k (points-later l t ok i h)) .1;
+  bits = λ i h j q. bit-stands l t ok i h j q;
 }
 
 -- ---- reading

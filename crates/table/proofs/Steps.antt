@@ -6,7 +6,7 @@ use Prim.Native.Nat.{ℕ, _≤_, _<_, _+_, _-_, _*_}
 use native.Mathlib.Omega.{arith}
 use borrow.Author.Tests.{eq-eqb, ne-eqb}
 use lib.ListN.{length}
-use lib.Dec.{leb, eqb}
+use lib.Dec.{eqb}
 use Rattle.octets.specs.Pick.{pick}
 use Rattle.der.specs.Tag.{universal, ownOctet, implicitOctet, wrapperOctet}
 use Rattle.der.specs.Kind.{isConstructed}
@@ -14,7 +14,7 @@ use Rattle.rows.specs.Row.{kindAt, namedAt, membersAt, modeAt, numberAt, presen
 use Rattle.types.specs.Types.{Tagging, untagged, explicit, implicit, taggingOf}
 use Rattle.types.proofs.TagLaws.{universal-fits}
 use Rattle.table.specs.inner.Fields.{Packed}
-use Rattle.table.specs.inner.Words.{firstOctet, how, MemberWord}
+use Rattle.table.specs.inner.Words.{firstOctet, isBasic, how, MemberWord}
 use Rattle.rows.specs.Paper.{tableLimits}
 
 -- ---- the first tag octet
@@ -64,6 +64,20 @@ first-small mode n k f e l = rw e (go (eqb mode 0) (eqb mode 1))
 pub type-first : (k f : ℕ) → f ≡ firstOctet (taggingOf 0 0) k → f < 256
 type-first k f e = first-small 0 0 k f e (omega arith)
 
+-- ---- how a member is tagged
+pub how-wrapped : (k mode : ℕ) → mode ≡ 1 → 1 ≡ how k mode
+unfolding how
+how-wrapped k mode h = rw (eq-eqb mode 1 h)
+
+module _ (k mode : ℕ) (bare : mode ≡ 1 → ⊥) (b : Bool) (tested : b ≡ isBasic k) where
+  pub how-plain : b ≡ true → 0 ≡ how k mode
+  unfolding how
+  how-plain h = rw (ne-eqb mode 1 bare, ← tested, h)
+
+  pub how-other : b ≡ false → 2 ≡ how k mode
+  unfolding how
+  how-other h = rw (ne-eqb mode 1 bare, ← tested, h)
+
 -- ---- the words of a row
 pub type-packed : (t : List ℕ) (p k f n e d x : ℕ) → k ≡ kindAt t p → f ≡ firstOctet (taggingOf 0 0) k → n ≡ membersAt t p → e ≡ namedAt t p → Packed x k f n e d 0 0 0 p
     → Packed x (kindAt t p) (firstOctet untagged (kindAt t p)) (membersAt t p) (namedAt t p) d 0 0 0 p
@@ -79,7 +93,7 @@ size-fits t d p e l = let q : length d ≡ length (defaultAt t p) = ap length e 
 
 pub how-fits : (k mode h : ℕ) → h ≡ how k mode → h < 4
 unfolding how
-how-fits k mode h e = rw e (go (eqb mode 1) (leb k 11))
+how-fits k mode h e = rw e (go (eqb mode 1) (isBasic k))
   where
     go : (x y : Bool) → pick x 1 (pick y 0 2) < 4
     go true y = omega arith

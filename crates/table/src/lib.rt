@@ -164,13 +164,23 @@ fn first_octet(mode: u8, number: u8, kind: u8) -> usize
     der::own_octet(kind)
 }
 
+// Whether a kind is basic: no row of it has members or an element.
+pub fn is_basic(kind: u8) -> bool
+    ensures { λ r. ⌜ r ≡ word.isBasic kind ⌝ }
+{
+    if kind <= Kind::GENERALIZED_TIME {
+        return true;
+    }
+    kind == Kind::NAMED_BIT_STRING
+}
+
 fn how(kind: u8, mode: u8) -> u8
     ensures { λ r. ⌜ r ≡ word.how kind mode ⌝ }
 {
     if mode == 1 {
         return 1;
     }
-    if kind <= Kind::GENERALIZED_TIME {
+    if is_basic(kind) {
         return 0;
     }
     2

@@ -7,18 +7,19 @@ use lib.ListN.{length}
 use Rattle.octets.specs.Pick.{both}
 use Rattle.octets.proofs.Laws.{both-true}
 use Rattle.rows.specs.Limits.{Limits}
-use Rattle.clauses.specs.Clauses.{everyRow, wholeRows, bodyFormed, firstIsType, pointsLater, membersStand, namesDiffer, alternativesMandatory, noImplicitChoice, defaultLegal, chainFits}
+use Rattle.clauses.specs.Clauses.{everyRow, wholeRows, bodyFormed, firstIsType, pointsLater, followersStand, namesDiffer, numbersDiffer}
+use Rattle.clauses.specs.Clauses.{alternativesMandatory, noImplicitChoice, defaultLegal, chainFits}
 use Rattle.clauses.specs.inner.Work.{firstPass}
+use Rattle.clauses.proofs.PassLaws.{all-both}
 use Rattle.types.specs.Admitted.{tagsDiffer, rowsFormed, rowsNamed, membersAgree, typesFit, admittedRows}
 use Rattle.types.specs.inner.Work.{rowFits, secondPass}
-use Rattle.types.proofs.BitSets.{all-both}
 
 module _ (t s : List ℕ) where
   pub named-points : rowsNamed t s ≡ true → everyRow (pointsLater t s) s ≡ true
   unfolding rowsNamed
   named-points e = both-true (everyRow (pointsLater t s) s) _ e .0
 
-  pub named-stand : rowsNamed t s ≡ true → membersStand t s ≡ true
+  pub named-stand : rowsNamed t s ≡ true → followersStand t s ≡ true
   unfolding rowsNamed
   named-stand e = both-true (everyRow (pointsLater t s) s) _ e .1
 
@@ -40,10 +41,20 @@ module _ (t s : List ℕ) where
   pub in-passes : (l : Limits) → admittedRows l t s ≡ both (firstPass l t s) (secondPass (l .chain) t s)
   unfolding admittedRows rowsFormed rowsNamed membersAgree typesFit firstPass
   in-passes l =
-      ordered (wholeRows (l .rows) s) (everyRow (bodyFormed (l .members) (l .name) t s) s) (firstIsType t s) (everyRow (pointsLater t s) s) (membersStand t s) (everyRow (namesDiffer t s) s)
+      ap (λ (x : Bool). both (both (wholeRows (l .rows) s) (both (everyRow (bodyFormed (l .members) (l .name) t s) s) (firstIsType t s)))
+      (both (both (everyRow (pointsLater t s) s) (followersStand t s)) (both x (both (everyRow (chainFits (l .chain) t s) s)
+      (everyRow (tagsDiffer (l .chain) t s) s)))))
+      (paired (everyRow (namesDiffer t s) s) (everyRow (numbersDiffer t s) s) _)
+      ∙ ordered (wholeRows (l .rows) s) (everyRow (bodyFormed (l .members) (l .name) t s) s) (firstIsType t s) (everyRow (pointsLater t s) s)
+      (followersStand t s)
+      (both (everyRow (namesDiffer t s) s) (everyRow (numbersDiffer t s) s))
       (both (everyRow (alternativesMandatory t s) s) (both (everyRow (noImplicitChoice t s) s) (everyRow (defaultLegal t s) s))) (both (everyRow (chainFits (l .chain) t s) s) (everyRow (tagsDiffer (l .chain) t s) s))
       ∙ ap (both (firstPass l t s)) (ap (both (everyRow (pointsLater t s) s)) (grouped (everyRow (alternativesMandatory t s) s) (everyRow (noImplicitChoice t s) s) (everyRow (defaultLegal t s) s) _) ∙ sym (each (l .chain)))
     where
+      paired : (x y z : Bool) → both x (both y z) ≡ both (both x y) z
+      paired true y z = refl
+      paired false y z = refl
+
       grouped : (x y z w : Bool) → both (both x (both y z)) w ≡ both x (both y (both z w))
       grouped true true z w = refl
       grouped true false z w = refl

@@ -83,17 +83,6 @@ no-bits (suc k) n h f =
     digit : (n : ℕ) → n / 2 ≡ 0 → (n % 2 ≡ 1 → ⊥) → n ≡ 0
     digit n q z = omega arith
 
-pub all-both : (f g : ℕ → Bool) (n : ℕ) → all (λ (i : ℕ). both (f i) (g i)) n ≡ both (all f n) (all g n)
-unfolding all
-all-both f g zero = refl
-all-both f g (suc n) = ap (both (both (f n) (g n))) (all-both f g n) ∙ crossed (f n) (g n) (all f n) (all g n)
-  where
-    crossed : (a b c d : Bool) → both (both a b) (both c d) ≡ both (both a c) (both b d)
-    crossed true true c d = refl
-    crossed true false true d = refl
-    crossed true false false d = refl
-    crossed false b c d = refl
-
 -- two sets have no element in common
 no-true : (b : Bool) → no b ≡ true → b ≡ false
 no-true true e = sym e

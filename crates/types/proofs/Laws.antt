@@ -7,11 +7,12 @@ use borrow.Author.Tests.{leb-true}
 use lib.ListN.{length}
 use Rattle.octets.proofs.Laws.{both-true, all-at}
 use Rattle.rows.specs.Limits.{Limits}
-use Rattle.rows.specs.Row.{rows, rowAt, kindAt, namedAt, membersAt}
-use Rattle.rows.proofs.Laws.{MemberFacts, member-facts}
-use Rattle.clauses.specs.Clauses.{everyRow, wholeRows, bodyFormed, pointsLater, membersStand, memberPlace, namesDiffer, alternativesMandatory, noImplicitChoice, defaultLegal, chainFits, isType, firstIsType}
+use Rattle.rows.specs.Row.{rows, rowAt, kindAt, bitNumberAt, namedAt, membersAt, bitNamesAt}
+use Rattle.rows.proofs.Laws.{MemberFacts, member-facts, bit-facts}
+use Rattle.clauses.specs.Clauses.{everyRow, wholeRows, bodyFormed, pointsLater, followersStand, memberPlace, namesDiffer, numbersDiffer}
+use Rattle.clauses.specs.Clauses.{alternativesMandatory, noImplicitChoice, defaultLegal, chainFits, isType, firstIsType}
 use Rattle.clauses.specs.inner.Work.{Later}
-use Rattle.clauses.proofs.LaterSteps.{is-later, member-follows}
+use Rattle.clauses.proofs.LaterSteps.{is-later, member-follows, bit-follows}
 use Rattle.types.specs.Types.{membersFrom, typed, typeAt}
 use Rattle.types.specs.Admitted.{rowsFormed, rowsNamed, membersAgree, typesFit, admittedRows, admitted}
 use Rattle.types.proofs.TypeLaws.{step}
@@ -54,7 +55,7 @@ module _ (l : Limits) (t : List ℕ) (ok : admitted l t ≡ true) where
   points : everyRow (pointsLater t s) s ≡ true
   points = named-points t s named
 
-  stands : membersStand t s ≡ true
+  stands : followersStand t s ≡ true
   stands = named-stand t s named
 
   chains : everyRow (chainFits (l .chain) t s) s ≡ true
@@ -88,10 +89,18 @@ module _ (l : Limits) (t : List ℕ) (ok : admitted l t ≡ true) where
     pub default-legal : defaultLegal t s i ≡ true
     unfolding membersAgree
     default-legal =
-        let rest = both-true (everyRow (alternativesMandatory t s) s) _ (both-true (everyRow (namesDiffer t s) s) _ agree .1) .1 in
+        let after-names = both-true (everyRow (numbersDiffer t s) s) _ (both-true (everyRow (namesDiffer t s) s) _ agree .1) .1 in
+        let rest = both-true (everyRow (alternativesMandatory t s) s) _ after-names .1 in
         all-at (defaultLegal t s) (length s) i (both-true (everyRow (noImplicitChoice t s) s) _ rest .1) here
 
     -- ---- the type of a row: by the types of the rows that it names, with no depth to speak of
     pub type-step : typeAt l t i ≡ typed t s i (typeAt l t (namedAt t (rowAt s i))) (membersFrom (typeAt l t) t s (i + 1) (membersAt t (rowAt s i)))
     unfolding typeAt
     type-step = step t s (l .chain) names-later chains i here
+
+  -- the names of bits of a row follow it directly, with low numbers
+  pub bit-stands : (i : ℕ) → i < length s → (j : ℕ) → j < bitNamesAt t (rowAt s i) → (i + 1 + j < length s) × (bitNumberAt t (memberPlace s i j) ≤ 63)
+  unfolding bodyFormed
+  bit-stands i here j h =
+      let f = bit-follows t s stands i here j h in
+      (f .0, bit-facts (l .members) (l .name) t (memberPlace s i j) (body-formed (i + 1 + j) (f .0)) (f .1) .1)

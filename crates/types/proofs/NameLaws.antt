@@ -15,7 +15,8 @@ use Rattle.octets.specs.Text.{isLower}
 use Rattle.octets.proofs.Laws.{both-true, all-at, rest-length}
 use Rattle.octets.proofs.TextLaws.{same-nil, same-shorter, same-longer, same-cons}
 use Rattle.rows.specs.Limits.{Limits}
-use Rattle.rows.specs.Row.{kindAt, nameAt, nameOctetAt, isGroup, isList, rowSize, rowsFrom, orNone, rows, rowAt, membersAt}
+use Rattle.rows.specs.Row.{kindAt, nameAt, nameOctetAt, isGroup, isList, rowSize, rowsFrom, orNone, rows, rowAt, membersAt, followersAt}
+use Rattle.rows.proofs.KindLaws.{member-follower}
 use Rattle.rows.specs.Body.{follows, followed, nameFormed}
 use Rattle.clauses.specs.Clauses.{memberPlace, sameName, differsFrom, newName, namesDiffer}
 use Rattle.types.specs.Types.{unfilled}
@@ -154,7 +155,8 @@ module _ (l : Limits) (t : List ℕ) (ok : admitted l t ≡ true) (long : l .nam
       stand-b = member-stands l t ok i here b high
 
       apart : no (same (nameAt t (memberPlace s i a)) (nameAt t (memberPlace s i b))) ≡ true
-      apart = all-at (differsFrom t s i b) b a (all-at (newName t s i) (membersAt t (rowAt s i)) b (names-differ l t ok i here) high) low
+      apart = all-at (differsFrom t s i b) b a (all-at (newName t s i) (followersAt t (rowAt s i)) b (names-differ l t ok i here)
+          (member-follower t (rowAt s i) b high)) low
 
       alike : same (unfilled (nameAt t (memberPlace s i b))) (unfilled (nameAt t (memberPlace s i a))) ≡ true → same (nameAt t (memberPlace s i a)) (nameAt t (memberPlace s i b)) ≡ true
       alike e = same-turned (nameAt t (memberPlace s i b)) (nameAt t (memberPlace s i a))

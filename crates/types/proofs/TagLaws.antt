@@ -17,7 +17,8 @@ use Rattle.types.specs.Types.{untagged, explicit, implicit, mandatory, o
 use Rattle.types.specs.Begins.{asTagged, begins, someBegins, memberBegins, isMandatory, apartAt, apart, apartFromAll, alternativesDiffer, apartInRun, runsDiffer, tagsApart}
 use Rattle.types.specs.inner.Work.{bitOf, contextBit, memberSet, apartFrom, unionFrom, never}
 use Rattle.types.proofs.TypeCases.{typed-cases, typed-sequence, typed-choice}
-use Rattle.types.proofs.BitSets.{bit-none, bit-or, bit-one, sets-apart, all-both}
+use Rattle.clauses.proofs.PassLaws.{all-both}
+use Rattle.types.proofs.BitSets.{bit-none, bit-or, bit-one, sets-apart}
 
 pick-bit : (x : Bool) (g a b : ℕ) (c d : Bool) → (x ≡ true → bitOf a g ≡ c) → (x ≡ false → bitOf b g ≡ d) → bitOf (pick x a b) g ≡ pick x c d
 pick-bit true g a b c d p q = p refl

@@ -9,7 +9,8 @@ use lib.Dec.{eqb}
 use Rattle.octets.specs.Pick.{pick, either}
 use Rattle.rows.specs.Row.{kindAt, modeAt, numberAt, isTypeKind, isGroup, isList, namesRow, namedAt, rowAt}
 use Rattle.rows.proofs.KindLaws.{list-kinds, list-type, list-no-group, list-names}
-use Rattle.types.specs.Types.{untagged, explicit, implicit, Ty, basic, sequence, choice, listOf, Members, noMore, more, taggingOf, memberOf, membersFrom, typed}
+use Rattle.types.specs.Types.{untagged, explicit, implicit, Ty, basic, sequence, choice, listOf, Members, noMore, more, taggingOf, memberOf}
+use Rattle.types.specs.Types.{membersFrom, bitsAfter, typed}
 
 pub tagging-cases : (mode n : ℕ) → taggingOf mode n ≡ pick (eqb mode 0) untagged (pick (eqb mode 1) (explicit n) (implicit n))
 unfolding taggingOf
@@ -32,12 +33,13 @@ module _ (f : ℕ → Ty) (t s : List ℕ) (i : ℕ) where
 module _ (t s : List ℕ) (i : ℕ) (e : Ty) (ms : Members) where
   pub typed-cases : (P : Ty → Type 0) → (kindAt t (rowAt s i) ≡ 12 → P (sequence ms)) → (kindAt t (rowAt s i) ≡ 13 → P (choice ms))
       → (isList (kindAt t (rowAt s i)) ≡ true → P (listOf (kindAt t (rowAt s i)) e))
-      → ((kindAt t (rowAt s i) ≡ 12 → ⊥) → (kindAt t (rowAt s i) ≡ 13 → ⊥) → isList (kindAt t (rowAt s i)) ≡ false → P (basic (kindAt t (rowAt s i)))) → P (typed t s i e ms)
+      → ((kindAt t (rowAt s i) ≡ 12 → ⊥) → (kindAt t (rowAt s i) ≡ 13 → ⊥) → isList (kindAt t (rowAt s i)) ≡ false
+      → P (basic (kindAt t (rowAt s i)) (bitsAfter t s i))) → P (typed t s i e ms)
   unfolding typed
   typed-cases P a b c d = go (eqb (kindAt t (rowAt s i)) 12) refl (eqb (kindAt t (rowAt s i)) 13) refl (isList (kindAt t (rowAt s i))) refl
     where
       go : (x : Bool) → eqb (kindAt t (rowAt s i)) 12 ≡ x → (y : Bool) → eqb (kindAt t (rowAt s i)) 13 ≡ y → (z : Bool) → isList (kindAt t (rowAt s i)) ≡ z
-          → P (pick x (sequence ms) (pick y (choice ms) (pick z (listOf (kindAt t (rowAt s i)) e) (basic (kindAt t (rowAt s i))))))
+          → P (pick x (sequence ms) (pick y (choice ms) (pick z (listOf (kindAt t (rowAt s i)) e) (basic (kindAt t (rowAt s i)) (bitsAfter t s i)))))
       go true q y r z l = a (eqb-true (kindAt t (rowAt s i)) 12 q)
       go false q true r z l = b (eqb-true (kindAt t (rowAt s i)) 13 r)
       go false q false r true l = c l
@@ -51,11 +53,12 @@ module _ (t s : List ℕ) (i : ℕ) (e : Ty) (ms : Members) where
   unfolding typed
   typed-choice h = rw h
 
-  pub typed-basic : (kindAt t (rowAt s i) ≡ 12 → ⊥) → (kindAt t (rowAt s i) ≡ 13 → ⊥) → isList (kindAt t (rowAt s i)) ≡ false → typed t s i e ms ≡ basic (kindAt t (rowAt s i))
+  pub typed-basic : (kindAt t (rowAt s i) ≡ 12 → ⊥) → (kindAt t (rowAt s i) ≡ 13 → ⊥) → isList (kindAt t (rowAt s i)) ≡ false
+      → typed t s i e ms ≡ basic (kindAt t (rowAt s i)) (bitsAfter t s i)
   unfolding typed
   typed-basic a b c = rw (ne-eqb (kindAt t (rowAt s i)) 12 a, ne-eqb (kindAt t (rowAt s i)) 13 b, c)
 
-  pub typed-small : kindAt t (rowAt s i) ≤ 11 → typed t s i e ms ≡ basic (kindAt t (rowAt s i))
+  pub typed-small : kindAt t (rowAt s i) ≤ 11 → typed t s i e ms ≡ basic (kindAt t (rowAt s i)) (bitsAfter t s i)
   typed-small l = typed-basic (λ z. omega arith) (λ z. omega arith) no-list
     where
       no-list : isList (kindAt t (rowAt s i)) ≡ false
@@ -66,7 +69,8 @@ module _ (t s : List ℕ) (i : ℕ) (e : Ty) (ms : Members) where
   typed-list h = go (eqb (kindAt t (rowAt s i)) 12) (eqb (kindAt t (rowAt s i)) 13) (list-no-group (kindAt t (rowAt s i)) h)
     where
       go : (x y : Bool) → either x y ≡ false
-          → pick x (sequence ms) (pick y (choice ms) (pick (isList (kindAt t (rowAt s i))) (listOf (kindAt t (rowAt s i)) e) (basic (kindAt t (rowAt s i))))) ≡ listOf (kindAt t (rowAt s i)) e
+          → pick x (sequence ms) (pick y (choice ms) (pick (isList (kindAt t (rowAt s i))) (listOf (kindAt t (rowAt s i)) e)
+          (basic (kindAt t (rowAt s i)) (bitsAfter t s i)))) ≡ listOf (kindAt t (rowAt s i)) e
       go true y g = absurd (false≢true (sym g))
       go false true g = absurd (false≢true (sym g))
       go false false g = rw h
@@ -77,8 +81,8 @@ module _ (t s : List ℕ) (i : ℕ) (e : Ty) (ms : Members) where
   typed-named f same = go (eqb (kindAt t (rowAt s i)) 12) (eqb (kindAt t (rowAt s i)) 13) (isList (kindAt t (rowAt s i))) refl
     where
       go : (x y z : Bool) → isList (kindAt t (rowAt s i)) ≡ z
-          → pick x (sequence ms) (pick y (choice ms) (pick z (listOf (kindAt t (rowAt s i)) e) (basic (kindAt t (rowAt s i)))))
-          ≡ pick x (sequence ms) (pick y (choice ms) (pick z (listOf (kindAt t (rowAt s i)) f) (basic (kindAt t (rowAt s i)))))
+          → pick x (sequence ms) (pick y (choice ms) (pick z (listOf (kindAt t (rowAt s i)) e) (basic (kindAt t (rowAt s i)) (bitsAfter t s i))))
+          ≡ pick x (sequence ms) (pick y (choice ms) (pick z (listOf (kindAt t (rowAt s i)) f) (basic (kindAt t (rowAt s i)) (bitsAfter t s i))))
       go true y z l = refl
       go false true z l = refl
       go false false true l = ap (listOf (kindAt t (rowAt s i))) (same (list-type (kindAt t (rowAt s i)) l) (list-names t (rowAt s i) l))

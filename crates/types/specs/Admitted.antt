@@ -7,7 +7,8 @@ use Rattle.rows.specs.Limits.{Limits}
 use Rattle.rows.specs.Row.{rows}
 use Rattle.types.specs.Types.{typeFrom}
 use Rattle.types.specs.Begins.{tagsApart}
-use Rattle.clauses.specs.Clauses.{everyRow, wholeRows, bodyFormed, firstIsType, pointsLater, membersStand, namesDiffer, alternativesMandatory, noImplicitChoice, defaultLegal, chainFits}
+use Rattle.clauses.specs.Clauses.{everyRow, wholeRows, bodyFormed, firstIsType, pointsLater, followersStand, namesDiffer, numbersDiffer}
+use Rattle.clauses.specs.Clauses.{alternativesMandatory, noImplicitChoice, defaultLegal, chainFits}
 
 -- "Alternatives' tags differ; so do those of a run of optional or default members and the mandatory one after it."
 unfoldable pub tagsDiffer : ℕ → List ℕ → List ℕ → ℕ → Bool
@@ -20,15 +21,16 @@ rowsFormed most members name t s = both (wholeRows most s) (both (everyRow (body
 
 -- the rows that rows name, and where members stand
 unfoldable pub rowsNamed : List ℕ → List ℕ → Bool
-rowsNamed t s = both (everyRow (pointsLater t s) s) (membersStand t s)
+rowsNamed t s = both (everyRow (pointsLater t s) s) (followersStand t s)
 
--- members of one type, and their defaults
+-- rows that follow one, and members' defaults
 unfoldable pub membersAgree : List ℕ → List ℕ → Bool
 membersAgree t s =
     both (everyRow (namesDiffer t s) s)
+    (both (everyRow (numbersDiffer t s) s)
     (both (everyRow (alternativesMandatory t s) s)
     (both (everyRow (noImplicitChoice t s) s)
-    (everyRow (defaultLegal t s) s)))
+    (everyRow (defaultLegal t s) s))))
 
 -- chains and tags
 unfoldable pub typesFit : ℕ → List ℕ → List ℕ → Bool

@@ -15,7 +15,7 @@ asTagged (implicit n) own g = eqb g (context n)
 
 unfoldable mutual
   pub begins : Ty → ℕ → Bool
-  begins (basic k) g = eqb g (universal k)
+  begins (basic k names) g = eqb g (universal k)
   begins (sequence ms) g = eqb g (universal kind.sequence)
   begins (choice ms) g = someBegins ms g
   begins (listOf k ty) g = eqb g (universal k)
@@ -60,7 +60,7 @@ runsDiffer (more m ty ms) = let r = runsDiffer ms in both (either (isMandatory (
 
 -- of one type
 unfoldable pub tagsApart : Ty → Bool
-tagsApart (basic k) = true
+tagsApart (basic k names) = true
 tagsApart (sequence ms) = runsDiffer ms
 tagsApart (choice ms) = alternativesDiffer ms
 tagsApart (listOf k ty) = true

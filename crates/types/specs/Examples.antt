@@ -4,13 +4,14 @@ use mathlib.Core.Bool.{Bool, true, false}
 use mathlib.Core.List.{List, [], _∷_, _++_, map}
 use Prim.Native.Nat.{ℕ, zero, suc}
 use Prim.Native.String.{String}
-use lib.ListN.{length, set, replicate}
+use lib.ListN.{length, set, take, replicate}
 use Rattle.rows.specs.Paper.{tableLimits}
-use Rattle.types.specs.Paper.{memberRow, licence}
+use Rattle.types.specs.Paper.{memberRow, bitRow, rights, licence}
 use Rattle.rows.specs.Row.{rows}
 use Rattle.types.specs.Types.{typeAt}
 use Rattle.types.specs.Begins.{begins}
-use Rattle.clauses.specs.Clauses.{everyRow, wholeRows, bodyFormed, firstIsType, pointsLater, membersStand, namesDiffer, alternativesMandatory, noImplicitChoice, defaultLegal, chainFits}
+use Rattle.clauses.specs.Clauses.{everyRow, wholeRows, bodyFormed, firstIsType, pointsLater, followersStand, namesDiffer, numbersDiffer}
+use Rattle.clauses.specs.Clauses.{alternativesMandatory, noImplicitChoice, defaultLegal, chainFits}
 use Rattle.types.specs.Admitted.{tagsDiffer}
 use Rattle.types.specs.Check.{TableReport, refused, admits, tableReport}
 use Rattle.types.specs.Computing.{tableComputes}
@@ -29,15 +30,17 @@ answer t = tableReport tableLimits t
 -- the clauses, each on its own
 clausesOf : List ℕ → List ℕ → List Bool
 clausesOf t s =
-    wholeRows 128 s ∷ everyRow (bodyFormed 16 24 t s) s ∷ firstIsType t s ∷ everyRow (pointsLater t s) s ∷ membersStand t s ∷ everyRow (namesDiffer t s) s
-    ∷ everyRow (alternativesMandatory t s) s ∷ everyRow (noImplicitChoice t s) s ∷ everyRow (defaultLegal t s) s ∷ everyRow (chainFits 16 t s) s ∷ everyRow (tagsDiffer 16 t s) s ∷ []
+    wholeRows 128 s ∷ everyRow (bodyFormed 16 24 t s) s ∷ firstIsType t s ∷ everyRow (pointsLater t s) s ∷ followersStand t s ∷ everyRow (namesDiffer t s) s
+    ∷ everyRow (alternativesMandatory t s) s ∷ everyRow (noImplicitChoice t s) s ∷ everyRow (defaultLegal t s) s ∷ everyRow (chainFits 16 t s) s ∷ everyRow
+    (tagsDiffer 16 t s) s
+    ∷ everyRow (numbersDiffer t s) s ∷ []
 
 clauses : List ℕ → List Bool
 clauses t = clausesOf t (rows 128 t)
 
 -- all hold but the n-th, from 0
 abbrev allBut : ℕ → List Bool
-allBut n = set (replicate 11 true) n false
+allBut n = set (replicate 12 true) n false
 
 -- a mandatory, untagged member
 abbrev plain : String → ℕ → List ℕ
@@ -95,7 +98,8 @@ unfolding tableComputes clauses clausesOf
 standing = refl
 
 -- ---- clause 5: one name twice; names that differ in case are two
-names : clauses (pair 12 (plain "a" 3) (plain "a" 4) (1 ∷ 2 ∷ [])) ∷ clauses (pair 12 (plain "ab" 3) (plain "aB" 4) (1 ∷ 2 ∷ [])) ∷ [] ≡ allBut 5 ∷ replicate 11 true ∷ []
+names : clauses (pair 12 (plain "a" 3) (plain "a" 4) (1 ∷ 2 ∷ [])) ∷ clauses (pair 12 (plain "ab" 3) (plain "aB" 4)
+    (1 ∷ 2 ∷ [])) ∷ [] ≡ allBut 5 ∷ replicate 12 true ∷ []
 unfolding tableComputes clauses clausesOf
 names = refl
 
@@ -106,7 +110,7 @@ alternatives = refl
 
 -- ---- clause 7: an implicit tag on a CHOICE; an explicit one is good
 implicits : clauses (12 ∷ 1 ∷ memberRow "a" 2 2 0 0 [] ++ 13 ∷ 1 ∷ plain "b" 4 ++ 2 ∷ []) ∷ clauses (12 ∷ 1 ∷ memberRow "a" 2 1 0 0 [] ++ 13 ∷ 1 ∷ plain "b" 4 ++ 2 ∷ []) ∷ []
-    ≡ allBut 7 ∷ replicate 11 true ∷ []
+    ≡ allBut 7 ∷ replicate 12 true ∷ []
 unfolding tableComputes clauses clausesOf
 implicits = refl
 
@@ -122,7 +126,7 @@ lists : ℕ → ℕ → List ℕ
 lists i zero = 2 ∷ []
 lists i (suc n) = 14 ∷ 0 ∷ suc i ∷ lists (suc i) n
 
-chains : clauses (lists 0 15) ∷ clauses (lists 0 16) ∷ [] ≡ replicate 11 true ∷ allBut 9 ∷ []
+chains : clauses (lists 0 15) ∷ clauses (lists 0 16) ∷ [] ≡ replicate 12 true ∷ allBut 9 ∷ []
 unfolding tableComputes clauses clausesOf lists
 chains = refl
 
@@ -136,7 +140,7 @@ alternative-tags = refl
 -- a run: an optional member and the mandatory one after it; two optional ones; an optional one after a mandatory one is none
 run-tags : map clauses (pair 12 (memberRow "a" 3 0 0 1 []) (plain "b" 4) (2 ∷ 2 ∷ []) ∷ pair 12 (memberRow "a" 3 0 0 1 []) (memberRow "b" 4 0 0 1 []) (2 ∷ 2 ∷ [])
     ∷ pair 12 (plain "a" 3) (memberRow "b" 4 0 0 1 []) (2 ∷ 2 ∷ []) ∷ pair 12 (plain "a" 3) (plain "b" 4) (2 ∷ 2 ∷ []) ∷ [])
-    ≡ allBut 10 ∷ allBut 10 ∷ replicate 11 true ∷ replicate 11 true ∷ []
+    ≡ allBut 10 ∷ allBut 10 ∷ replicate 12 true ∷ replicate 12 true ∷ []
 unfolding tableComputes clauses clausesOf
 run-tags = refl
 
@@ -144,7 +148,7 @@ run-tags = refl
 abbrev run : ℕ → List ℕ
 run presence = 12 ∷ 3 ∷ memberRow "a" 4 0 0 1 [] ++ memberRow "b" 5 0 0 presence [] ++ plain "c" 6 ++ 2 ∷ 1 ∷ 2 ∷ []
 
-run-ends : map clauses (run 1 ∷ run 0 ∷ []) ≡ allBut 10 ∷ replicate 11 true ∷ []
+run-ends : map clauses (run 1 ∷ run 0 ∷ []) ≡ allBut 10 ∷ replicate 12 true ∷ []
 unfolding tableComputes clauses clausesOf
 run-ends = refl
 
@@ -159,3 +163,49 @@ nested-begins = refl
 nested-tags : map (begins (typeAt tableLimits nested 0)) (1 ∷ 2 ∷ 3 ∷ 35 ∷ 34 ∷ []) ≡ true ∷ true ∷ false ∷ true ∷ false ∷ []
 unfolding tableComputes
 nested-tags = refl
+
+-- ---- document 02, Q-2: BIT STRING with names
+named-bits : answer rights ≡ admits 4
+unfolding tableComputes
+named-bits = refl
+
+-- one name, and 16; numbers in any order; names that differ in case; two lists with the same names
+abbrev seventeenBits : List ℕ
+seventeenBits = bitRow "a" 0 ++ bitRow "b" 1 ++ bitRow "c" 2 ++ bitRow "d" 3 ++ bitRow "e" 4 ++ bitRow "f" 5 ++ bitRow "g" 6 ++ bitRow "h" 7 ++ bitRow "i" 8
+    ++ bitRow "j" 9 ++ bitRow "k" 10 ++ bitRow "l" 11 ++ bitRow "m" 12 ++ bitRow "n" 13 ++ bitRow "o" 14 ++ bitRow "p" 63 ++ bitRow "q" 62
+
+bits-admitted : map answer ((17 ∷ 1 ∷ bitRow "a" 63) ∷ (17 ∷ 16 ∷ take 416 seventeenBits) ∷ (17 ∷ 2 ∷ bitRow "ab" 5 ++ bitRow "aB" 0)
+    ∷ (17 ∷ 1 ∷ bitRow "a" 0 ++ 17 ∷ 1 ∷ bitRow "a" 0) ∷ [])
+    ≡ admits 2 ∷ admits 17 ∷ admits 3 ∷ admits 4 ∷ []
+unfolding tableComputes
+bits-admitted = refl
+
+-- bodies: no name, 17 names, number 64, a name with a capital first
+bit-bodies : map clauses ((17 ∷ 0 ∷ []) ∷ (17 ∷ 17 ∷ seventeenBits) ∷ (17 ∷ 1 ∷ bitRow "a" 64) ∷ (17 ∷ 1 ∷ bitRow "A" 0) ∷ [])
+    ≡ allBut 1 ∷ allBut 1 ∷ allBut 1 ∷ allBut 1 ∷ []
+unfolding tableComputes clauses clausesOf
+bit-bodies = refl
+
+-- one name too few, one too many, one behind a SEQUENCE's members, a member where a name is due, one behind another row
+bits-stand : map clauses ((17 ∷ 2 ∷ bitRow "a" 1) ∷ (17 ∷ 1 ∷ bitRow "a" 0 ++ bitRow "b" 1) ∷ (12 ∷ 1 ∷ plain "a" 3 ++ bitRow "b" 0 ++ 2 ∷ [])
+    ∷ (17 ∷ 1 ∷ plain "a" 2 ++ 2 ∷ []) ∷ (17 ∷ 1 ∷ 2 ∷ bitRow "a" 0) ∷ [])
+    ≡ allBut 4 ∷ allBut 4 ∷ allBut 4 ∷ allBut 4 ∷ allBut 4 ∷ []
+unfolding tableComputes clauses clausesOf
+bits-stand = refl
+
+-- a name twice; a number twice; a row that names a bit's; a default; 7 and 17 untagged in one CHOICE
+bits-agree : map clauses ((17 ∷ 2 ∷ bitRow "a" 0 ++ bitRow "a" 1) ∷ (17 ∷ 3 ∷ bitRow "a" 7 ++ bitRow "b" 1 ++ bitRow "c" 7) ∷
+    (14 ∷ 0 ∷ 2 ∷ 17 ∷ 1 ∷ bitRow "a" 0)
+    ∷ (12 ∷ 1 ∷ memberRow "a" 2 0 0 2 (0 ∷ []) ++ 17 ∷ 1 ∷ bitRow "b" 0) ∷ pair 13 (plain "a" 3) (plain "b" 4) (7 ∷ 17 ∷ 1 ∷ bitRow "c" 0) ∷ [])
+    ≡ allBut 5 ∷ allBut 11 ∷ allBut 3 ∷ allBut 8 ∷ allBut 10 ∷ []
+unfolding tableComputes clauses clausesOf
+bits-agree = refl
+
+-- chains: 15 and 16 lists above it
+listsOfBits : ℕ → ℕ → List ℕ
+listsOfBits i zero = 17 ∷ 1 ∷ bitRow "a" 0
+listsOfBits i (suc n) = 14 ∷ 0 ∷ suc i ∷ listsOfBits (suc i) n
+
+bit-chains : clauses (listsOfBits 0 15) ∷ clauses (listsOfBits 0 16) ∷ [] ≡ replicate 12 true ∷ allBut 9 ∷ []
+unfolding tableComputes clauses clausesOf listsOfBits
+bit-chains = refl

@@ -1,4 +1,4 @@
--- Document 01's licence table, for computed examples.
+-- Document 01's licence table, and the rows of document 02's rights, for computed examples.
 use Prim.Native.Nat.{ℕ, _/_, _%_}
 use Prim.Native.String.{String}
 use mathlib.Core.List.{List, [], _∷_, _++_}
@@ -13,6 +13,14 @@ fill n l = take n (l ++ replicate n 0)
 abbrev pub memberRow : String → ℕ → ℕ → ℕ → ℕ → List ℕ → List ℕ
 memberRow name type mode number presence c =
     16 ∷ fill 24 (bytes name) ++ (type / 256) ∷ (type % 256) ∷ mode ∷ number ∷ presence ∷ length c ∷ fill 8 c
+
+-- the row of a named bit, with the bit's number
+abbrev pub bitRow : String → ℕ → List ℕ
+bitRow name number = 18 ∷ fill 24 (bytes name) ++ number ∷ []
+
+-- "A licence's rights are a BIT STRING with names: print, perform, record."
+abbrev pub rights : List ℕ
+rights = 17 ∷ 3 ∷ bitRow "print" 0 ++ bitRow "perform" 1 ++ bitRow "record" 2
 
 -- "One licence record"
 abbrev pub licence : List ℕ

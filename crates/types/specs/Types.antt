@@ -5,7 +5,7 @@ use lib.Dec.{eqb}
 use Rattle.octets.specs.Pick.{pick}
 use Rattle.der.specs.Kind as kind
 use Rattle.rows.specs.Limits.{Limits}
-use Rattle.rows.specs.Row.{nameAt, kindAt, namedAt, modeAt, numberAt, presenceAt, defaultAt, isList, rows, rowAt, membersAt}
+use Rattle.rows.specs.Row.{nameAt, kindAt, namedAt, modeAt, numberAt, presenceAt, defaultAt, bitNumberAt, isList, rows, rowAt, membersAt, bitNamesAt}
 
 -- tag mode: none, explicit, implicit, with the context tag number
 pub data Tagging : Type 0 where
@@ -25,10 +25,15 @@ pub record Member : Type 0 where
   pub tagging : Tagging
   pub presence : Presence
 
+-- a named bit: its name and its number (document 02, Q-2)
+pub record NamedBit : Type 0 where
+  pub name : List ℕ
+  pub number : ℕ
+
 mutual
   pub data Ty : Type 0 where
-    -- kinds 1..11
-    basic : ℕ → Ty
+    -- kinds 1..11 and 17, by kind, and the named bits, which only kind 17 has
+    basic : ℕ → List NamedBit → Ty
     sequence : Members → Ty
     choice : Members → Ty
     -- SEQUENCE OF or SET OF, by its kind
@@ -58,17 +63,26 @@ unfoldable pub membersFrom : (ℕ → Ty) → List ℕ → List ℕ → ℕ → 
 membersFrom f t s i zero = noMore
 membersFrom f t s i (suc n) = more (memberOf t i (rowAt s i)) (f (namedAt t (rowAt s i))) (membersFrom f t s (i + 1) n)
 
+-- the names of n bits from row i on
+unfoldable pub bitsFrom : List ℕ → List ℕ → ℕ → ℕ → List NamedBit
+bitsFrom t s i zero = []
+bitsFrom t s i (suc n) = record { name = unfilled (nameAt t (rowAt s i)); number = bitNumberAt t (rowAt s i) } ∷ bitsFrom t s (i + 1) n
+
+-- those that stand after row i
+abbrev pub bitsAfter : List ℕ → List ℕ → ℕ → List NamedBit
+bitsAfter t s i = bitsFrom t s (i + 1) (bitNamesAt t (rowAt s i))
+
 -- the type of row i of the rows s, with the type of the row that it names and its members
 unfoldable pub typed : List ℕ → List ℕ → ℕ → Ty → Members → Ty
 typed t s i e ms =
     pick (eqb (kindAt t (rowAt s i)) kind.sequence) (sequence ms)
     (pick (eqb (kindAt t (rowAt s i)) kind.choice) (choice ms)
     (pick (isList (kindAt t (rowAt s i))) (listOf (kindAt t (rowAt s i)) e)
-    (basic (kindAt t (rowAt s i)))))
+    (basic (kindAt t (rowAt s i)) (bitsAfter t s i))))
 
 -- the same, at most n rows deep; `basic 0`, which no value has, is not reached in an admitted table
 unfoldable pub typeFrom : ℕ → List ℕ → List ℕ → ℕ → Ty
-typeFrom zero t s i = basic 0
+typeFrom zero t s i = basic 0 []
 typeFrom (suc n) t s i =
     let e = typeFrom n t s (namedAt t (rowAt s i)) in
     let ms = membersFrom (typeFrom n t s) t s (i + 1) (membersAt t (rowAt s i)) in

@@ -3,7 +3,7 @@ use mathlib.Core.Path.{_≡_, refl, sym, ap, ap₂, _∙_}
 use mathlib.Core.Bool.{Bool, true, false}
 use mathlib.Core.Option.{Option, none, some}
 use mathlib.Core.List.{List}
-use Prim.Native.Nat.{ℕ, _≤_, _<_, _+_, _-_, _*_}
+use Prim.Native.Nat.{ℕ, _<_, _+_, _-_, _*_}
 use native.Mathlib.Omega.{arith}
 use borrow.Author.Tests.{eq-eqb, ne-eqb, eqb-true, eqb-false}
 use lib.ListN.{length}
@@ -16,12 +16,13 @@ use Rattle.der.specs.Header.{insideAt, opened}
 use Rattle.der.specs.Contents.{legal}
 use Rattle.der.specs.declared.Inside.{Inside}
 use Rattle.rows.specs.Row.{rowAt, kindAt, namedAt, membersAt, isList, modeAt, numberAt}
-use Rattle.types.specs.Types.{untagged, implicit, taggingOf, Ty, basic, sequence, choice, listOf, Members, membersFrom, typed, typeFrom}
+use Rattle.types.specs.Types.{untagged, implicit, taggingOf, Ty, basic, sequence, choice, listOf, Members, membersFrom, bitsAfter, typed, typeFrom}
 use Rattle.rows.proofs.KindLaws.{member-names}
 use Rattle.types.proofs.TypeCases.{typed-sequence, typed-choice, typed-list, typed-basic}
 use Rattle.clauses.specs.Clauses.{typeKind}
 use Rattle.types.specs.inner.Work.{Sound}
-use Rattle.table.specs.inner.Words.{firstOctet, how, Ready}
+use Rattle.table.specs.inner.Words.{firstOctet, isBasic, how, Ready}
+use Rattle.table.proofs.KindLaws.{basic-kind}
 use Rattle.value.specs.Value.{spotAt, Value, leaf, fields, Fields, Values}
 use Rattle.value.specs.Order.{rising}
 use Rattle.value.specs.Decode.{Decoded, decoded, afterOf, tagOctet, inside, inWrapper, leafOf, fieldsOf, elementsOf, many, unwrapped, fieldsFrom, alternativeFrom, decode}
@@ -72,7 +73,7 @@ module _ (chain : ℕ) (t s m : List ℕ) (row : ℕ) (ok : Sound chain t s m) (
   is-list : isList k ≡ true → typeFrom chain t s row ≡ listOf k element
   is-list h = rw read (ok .step row here ∙ typed-list t s row element parts (ap isList (sym read) ∙ h))
 
-  is-basic : (k ≡ 13 → ⊥) → (k ≡ 12 → ⊥) → isList k ≡ false → typeFrom chain t s row ≡ basic k
+  is-basic : (k ≡ 13 → ⊥) → (k ≡ 12 → ⊥) → isList k ≡ false → typeFrom chain t s row ≡ basic k (bitsAfter t s row)
   is-basic a b h = rw read (ok .step row here ∙ typed-basic t s row element parts (λ z. b (read ∙ z)) (λ z. a (read ∙ z)) (ap isList (sym read) ∙ h))
 
   pub list-row : (l : Bool) → l ≡ isList k → l ≡ true → isList (kindAt t (rowAt s row)) ≡ true
@@ -156,25 +157,18 @@ module _ (chain : ℕ) (t s m : List ℕ) (row : ℕ) (ok : Sound chain t s m) (
             record { says = λ mode u q. check-by-basic v at end mode u no-choice tag h (tags mode u q) opening start n found r l b a j e }
 
 -- ---- a value of a basic type
-small-list : (k : ℕ) → k ≤ 11 → false ≡ isList k
-unfolding isList
-small-list k l = rw (ne-eqb k 14 (λ z. omega arith), ne-eqb k 15 (λ z. omega arith))
-
 module _ (chain : ℕ) (t s m : List ℕ) (row : ℕ) (ok : Sound chain t s m) (here : row < length s) (k : ℕ) (read : k ≡ kindAt t (rowAt s row))
-    (small : kindAt t (rowAt s row) ≤ 11) (v : List ℕ) (at end tag : ℕ) (h : Inside) (opening : h ≡ insideAt tag v at end) where
-  no-choice : k ≡ 13 → ⊥
-  no-choice z = omega arith
-
-  no-sequence : k ≡ 12 → ⊥
-  no-sequence z = omega arith
+    (leaf-kind : isBasic (kindAt t (rowAt s row)) ≡ true) (v : List ℕ) (at end tag : ℕ) (h : Inside) (opening : h ≡ insideAt tag v at end) where
+  basic-is : (k ≡ 12 → ⊥) × (k ≡ 13 → ⊥) × (isList k ≡ false)
+  basic-is = basic-kind k (ap isBasic read ∙ leaf-kind)
 
   pub leaf-misfit : h ≡ Inside.Misfit → Answers (typeFrom chain t s row) (kindAt t (rowAt s row)) tag v at end Checked.Bad
-  leaf-misfit e = answer-misfit chain t s m row ok here k read v at end tag no-choice h opening e
+  leaf-misfit e = answer-misfit chain t s m row ok here k read v at end tag (basic-is .1) h opening e
 
   pub leaf-basic : (start n : ℕ) (r : Checked) → h ≡ Inside.Of start n → r ≡ upTo (start + n) (legal k (part v start (start + n - start)))
       → Answers (typeFrom chain t s row) (kindAt t (rowAt s row)) tag v at end r
   leaf-basic start n r found e =
-      answer-basic chain t s m row ok here k read v at end tag no-choice h opening start n found r false no-sequence (small-list k (omega arith)) refl e
+      answer-basic chain t s m row ok here k read v at end tag (basic-is .1) h opening start n found r false (basic-is .0) (sym (basic-is .2)) refl e
 
 -- ---- under a member's tag mode
 module _ (ty : Ty) (v : List ℕ) (at end mode number : ℕ) where

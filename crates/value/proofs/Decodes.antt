@@ -123,9 +123,9 @@ mutual
   unfolding unwrapped
 
   pub decodes : (ty : Ty) (g : Tagging) (v : List ℕ) (at end : ℕ) (d : Decoded) → unwrapped ty g v at end ≡ some d → Decodes v ty g at end (d .value) (d .after)
-  decodes (basic k) g v at end d e =
-      let w = leaf-view v at end d k g e in
-      subst (λ (y : Decoded). Decodes v (basic k) g at end (y .value) (y .after)) (w .4) (is-basic (behind (w .2)) (w .3))
+  decodes (basic k names) g v at end d e =
+      let w = leaf-view v at end d k names g e in
+      subst (λ (y : Decoded). Decodes v (basic k names) g at end (y .value) (y .after)) (w .4) (is-basic (behind (w .2)) (w .3))
   decodes (sequence ms) g v at end d e =
       let w = fields-view v at end d ms g e in
       let members = decodes-fields ms v (w .0 + w .1) (w .0) (w .2) (w .4) in

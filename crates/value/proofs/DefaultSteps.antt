@@ -6,9 +6,9 @@ use Prim.Native.Nat.{ℕ, suc, _≤_, _<_, _+_, _-_, _*_}
 use native.Mathlib.Omega.{arith}
 use mir.Val.{Fits}
 use mir.Syntax.{w8}
-use borrow.Author.Tests.{eq-eqb, ne-eqb, eqb-true, eqb-false, le-leb}
+use borrow.Author.Tests.{eq-eqb, ne-eqb, eqb-true, eqb-false}
 use lib.ListN.{length, length-take}
-use lib.Dec.{leb, eqb}
+use lib.Dec.{eqb}
 use Rattle.octets.specs.Pick.{pick, both}
 use Rattle.octets.specs.Octets.{octet, part, same, baseFrom}
 use Rattle.der.specs.Tag.{ownOctet, wrapperOctet}
@@ -18,7 +18,8 @@ use Rattle.rows.proofs.NumberSteps.{part-bytes}
 use Rattle.rows.specs.Row.{kindAt, modeAt, numberAt, presenceAt, defaultLengthAt, defaultAt}
 use Rattle.types.specs.Types.{Tagging, taggingOf}
 use Rattle.table.specs.inner.Rows.{tableRows, placeAt, taggingAt, memberKindAt}
-use Rattle.table.specs.inner.Words.{firstOctet, how, Worded}
+use Rattle.table.specs.inner.Words.{firstOctet, isBasic, how, Worded}
+use Rattle.table.proofs.KindLaws.{small-basic}
 use Rattle.value.specs.inner.Work.{contentsAt, holds, storedDefault, isDefaultAt}
 use Rattle.value.proofs.LeafSteps.{contents-misfit, contents-inside}
 use Rattle.value.proofs.TagSteps.{default-small}
@@ -120,9 +121,9 @@ module _ (t w : List ℕ) (row : ℕ) (ok : Worded t w) (here : row < length (ta
     unfolding how
     explicit-is h = go (eqb (modeAt t p) 1) refl h
       where
-        go : (x : Bool) → eqb (modeAt t p) 1 ≡ x → (_≡_ {A = ℕ} (pick x 1 (pick (leb k 11) 0 2)) 0 → ⊥) → modeAt t p ≡ 1
+        go : (x : Bool) → eqb (modeAt t p) 1 ≡ x → (_≡_ {A = ℕ} (pick x 1 (pick (isBasic k) 0 2)) 0 → ⊥) → modeAt t p ≡ 1
         go true q z = eqb-true (modeAt t p) 1 q
-        go false q z = absurd (z (let l = default-small t w row ok here member presence-is in rw (le-leb k 11 (omega arith))))
+        go false q z = absurd (z (let l = default-small t w row ok here member presence-is in rw (small-basic k (omega arith))))
 
     pub stored-told : (v : List ℕ) (at end : ℕ) (r : Bool) → r ≡ holds v (defaultAt t p) (contentsAt g k v at end)
         → r ≡ storedDefault t (tableRows t) p v at end

@@ -5,9 +5,9 @@ use mathlib.Core.Option.{Option, none, some}
 use mathlib.Core.List.{List, []}
 use Prim.Native.Nat.{ℕ, zero, suc, _≤_, _<_, _+_, _-_, _*_}
 use native.Mathlib.Omega.{arith}
-use borrow.Author.Tests.{not-true, not-false, leb-true}
+use borrow.Author.Tests.{not-true, not-false}
 use lib.ListN.{length}
-use lib.Dec.{leb, eqb}
+use lib.Dec.{eqb}
 use Rattle.octets.specs.Pick.{both, either, bind}
 use Rattle.octets.specs.Octets.{part}
 use Rattle.der.specs.Kind as kind
@@ -16,7 +16,7 @@ use Rattle.rows.proofs.KindLaws.{list-names}
 use Rattle.rows.specs.Row.{rowAt, kindAt, namedAt, isList}
 use Rattle.types.specs.Types.{untagged, taggingOf, Ty, typeFrom}
 use Rattle.types.specs.inner.Work.{Sound}
-use Rattle.table.specs.inner.Words.{firstOctet, Ready}
+use Rattle.table.specs.inner.Words.{firstOctet, isBasic, Ready}
 use Rattle.value.specs.Value.{Value, Values, endValues, next, encoding}
 use Rattle.value.specs.Order.{rising}
 use Rattle.value.specs.Decode.{Decoded, nextThen, many, unwrapped}
@@ -184,12 +184,13 @@ pub element-typed : (chain : ℕ) (t s m : List ℕ) (row e : ℕ) → Ready cha
     → e ≡ namedAt t (rowAt s row) → kindAt t (rowAt s e) ≡ 16 → ⊥
 element-typed chain t s m row e ok here list read = rw read (ok .typed row here (list-names t (rowAt s row) list))
 
-pub leaves-are : (t s : List ℕ) (row e k : ℕ) → e ≡ namedAt t (rowAt s row) → k ≡ kindAt t (rowAt s e)
-    → leb k 11 ≡ leb (kindAt t (rowAt s (namedAt t (rowAt s row)))) 11
-leaves-are t s row e k read kinded = ap (λ (x : ℕ). leb x 11) (kinded ∙ ap (λ (x : ℕ). kindAt t (rowAt s x)) read)
+pub leaves-are : (t s : List ℕ) (row e k : ℕ) (r : Bool) → e ≡ namedAt t (rowAt s row) → k ≡ kindAt t (rowAt s e) → r ≡ isBasic k
+    → r ≡ isBasic (kindAt t (rowAt s (namedAt t (rowAt s row))))
+leaves-are t s row e k r read kinded told = told ∙ ap isBasic (kinded ∙ ap (λ (x : ℕ). kindAt t (rowAt s x)) read)
 
-pub leaves-small : (k : ℕ) (r : Bool) → r ≡ leb k 11 → r ≡ true → k ≤ 11
-leaves-small k r e h = leb-true k 11 (sym e ∙ h)
+pub leaves-basic : (k : ℕ) (r : Bool) → r ≡ isBasic k → r ≡ true → isBasic k ≡ true
+leaves-basic k r e h = sym e ∙ h
 
-pub element-small : (t s : List ℕ) (row e : ℕ) → e ≡ namedAt t (rowAt s row) → kindAt t (rowAt s (namedAt t (rowAt s row))) ≤ 11 → kindAt t (rowAt s e) ≤ 11
-element-small t s row e read l = rw read l
+pub element-basic : (t s : List ℕ) (row e : ℕ) → e ≡ namedAt t (rowAt s row) → isBasic (kindAt t (rowAt s (namedAt t (rowAt s row)))) ≡ true
+    → isBasic (kindAt t (rowAt s e)) ≡ true
+element-basic t s row e read h = rw read h

@@ -3,7 +3,6 @@ use mathlib.Core.Path.{_≡_, refl, sym, ap, _∙_}
 use mathlib.Core.Bool.{Bool, true, false, not}
 use mathlib.Core.List.{List}
 use Prim.Native.Nat.{ℕ, _≤_, _<_}
-use native.Mathlib.Omega.{arith}
 use borrow.Author.Tests.{eq-eqb}
 use lib.ListN.{length}
 use Rattle.octets.specs.Octets.{octet}
@@ -18,7 +17,7 @@ use Rattle.table.specs.inner.Words.{firstOctet, how, Worded}
 use Rattle.value.specs.Decode.{startsHere}
 use Rattle.value.specs.inner.Work.{sameTag, plainOf, plainChecked, absentChecked, memberChecked}
 use Rattle.value.specs.declared.Checked.{Checked}
-use Rattle.value.proofs.ModeSteps.{plain-small, plain-tag}
+use Rattle.value.proofs.ModeSteps.{plain-choice, plain-tag}
 use Rattle.value.proofs.TagSteps.{begins-same, first-usable, starts-past, starts-is}
 use Rattle.value.proofs.MemberSteps.{member-absent, by-plain}
 
@@ -38,9 +37,6 @@ module _ (t w : List ℕ) (row : ℕ) (ok : Worded t w) (here : row < length (ta
       member-absent (tableLimits .chain) t (tableRows t) (ok .m) row (ok .ready) here member v i stop false
       (starts-past t w row ok here member v stop i h) r refl e
 
-  no-choice : k ≡ 13 → ⊥
-  no-choice z = let l = plain-small k (modeAt t p) plain in omega arith
-
   pub seen-usable : octet v i ≡ firstOctet g k → number (octet v i) < 31
   seen-usable e = first-usable t w row ok here member (octet v i) e
 
@@ -49,7 +45,10 @@ module _ (t w : List ℕ) (row : ℕ) (ok : Worded t w) (here : row < length (ta
     seen-is h = sym read ∙ h ∙ first
 
     starts : sameTag f u ≡ startsHere (memberAt t row) (memberTypeAt t row) v stop i
-    starts = ap (sameTag f) read ∙ starts-is t w row ok here member v stop i (sameTag f (octet v i)) l (begins-same t w row ok here member f (octet v i) first no-choice)
+    starts =
+        ap (sameTag f) read
+        ∙ starts-is t w row ok here member v stop i (sameTag f (octet v i)) l
+        (begins-same t w row ok here member f (octet v i) first (plain-choice k (modeAt t p) plain))
 
     pub plain-absent : (x : Bool) (r : Checked) → x ≡ sameTag f u → x ≡ false → r ≡ absentChecked t p i
         → r ≡ memberChecked (memberAt t row) (memberTypeAt t row) v stop i

@@ -114,7 +114,7 @@ many f (suc k) stop i =
 unfoldable mutual
   -- inside an explicit wrapper, where there is one
   pub unwrapped : Ty → Tagging → List ℕ → ℕ → ℕ → Option Decoded
-  unwrapped (basic k) g v at end = opened (insideAt (tagOctet g k) v at end) (leafOf k v at)
+  unwrapped (basic k names) g v at end = opened (insideAt (tagOctet g k) v at end) (leafOf k v at)
   unwrapped (sequence ms) g v at end = opened (insideAt (tagOctet g kind.sequence) v at end) (fieldsOf v at (λ stop i. fieldsFrom ms v stop i))
   unwrapped (choice ms) g v at end = alternativeFrom ms v at end
   unwrapped (listOf k ty) g v at end = opened (insideAt (tagOctet g k) v at end) (elementsOf k v at (many (λ i stop. unwrapped ty untagged v i stop)))

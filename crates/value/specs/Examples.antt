@@ -43,46 +43,58 @@ plain x g p = record { row = 1; name = bytes x; tagging = g; presence = p }
 abbrev only : Tagging → Presence → Ty → Ty
 only g p ty = sequence (more (plain "a" g p) ty noMore)
 
+-- a BIT STRING with names: no bits; '11'B; a trailing zero bit, with unused bits and without; constructed; a bit beyond the names
+namedBits : map (holds (basic 17 (record { name = bytes "print"; number = 0 } ∷ [])))
+    ("030100" ∷ "030206C0" ∷ "030205C0" ∷ "030200FE" ∷ "230206C0" ∷ "03030700FF80" ∷ "0303070180" ∷ [])
+    ≡ true ∷ true ∷ false ∷ false ∷ false ∷ false ∷ true ∷ []
+unfolding valueComputes holds
+namedBits = refl
+
 -- `[0]` explicit: the wrapper exactly filled; not filled; passed; left out; another number; the constructed bit missing
-wrappers : map (holds (only (explicit 0) mandatory (basic 2))) ("3005A003020105" ∷ "3006A00402010500" ∷ "3005A002020105" ∷ "3003020105" ∷ "3005A103020105" ∷ "30058003020105" ∷ [])
+wrappers : map (holds (only (explicit 0) mandatory (basic 2 []))) ("3005A003020105" ∷ "3006A00402010500" ∷ "3005A002020105" ∷ "3003020105" ∷ "3005A103020105" ∷ "30058003020105" ∷ [])
     ≡ true ∷ false ∷ false ∷ false ∷ false ∷ false ∷ []
 unfolding valueComputes holds
 wrappers = refl
 
 -- what the next member could be does not stand in the wrapper of the one before it
-wrapped-together : map (holds (sequence (more (plain "a" (explicit 0) mandatory) (basic 2) (more (plain "b" untagged optional) (basic 1) noMore)))) ("3008A0030201050101FF" ∷ "3008A0060201050101FF" ∷ []) ≡ true ∷ false ∷ []
+wrapped-together : map (holds (sequence (more (plain "a" (explicit 0) mandatory) (basic 2 []) (more (plain "b" untagged optional) (basic 1 []) noMore))))
+    ("3008A0030201050101FF" ∷ "3008A0060201050101FF" ∷ []) ≡ true ∷ false ∷ []
 unfolding valueComputes holds
 wrapped-together = refl
 
 -- `[0]` implicit: an INTEGER is not constructed, a SEQUENCE is
-implicits : map (holds (only (implicit 0) mandatory (basic 2))) ("3003800105" ∷ "3003A00105" ∷ "3003020105" ∷ []) ++ map (holds (only (implicit 0) mandatory (sequence noMore))) ("3002A000" ∷ "30028000" ∷ [])
+implicits : map (holds (only (implicit 0) mandatory (basic 2 []))) ("3003800105" ∷ "3003A00105" ∷ "3003020105" ∷ []) ++ map
+    (holds (only (implicit 0) mandatory (sequence noMore))) ("3002A000" ∷ "30028000" ∷ [])
     ≡ true ∷ false ∷ false ∷ true ∷ false ∷ []
 unfolding valueComputes holds
 implicits = refl
 
 -- an optional member, there and absent; of a tag that no member has; a mandatory one absent; twice
-optionals : map (holds (only untagged optional (basic 2))) ("3003020105" ∷ "3000" ∷ "3003010100" ∷ "3006020105020105" ∷ []) ++ map (holds (only untagged mandatory (basic 2))) ("3000" ∷ [])
+optionals : map (holds (only untagged optional (basic 2 []))) ("3003020105" ∷ "3000" ∷ "3003010100" ∷ "3006020105020105" ∷ []) ++ map
+    (holds (only untagged mandatory (basic 2 []))) ("3000" ∷ [])
     ≡ true ∷ true ∷ false ∷ false ∷ false ∷ []
 unfolding valueComputes holds
 optionals = refl
 
 -- a default stored explicitly, under each tag mode; another value there
-defaults : holds (only untagged (default (1 ∷ [])) (basic 2)) "3003020101" ∷ holds (only (implicit 0) (default (1 ∷ [])) (basic 2)) "3003800101"
-    ∷ holds (only (explicit 0) (default (1 ∷ [])) (basic 2)) "3005A003020101" ∷ holds (only untagged (default (1 ∷ [])) (basic 2)) "3003020102" ∷ holds (only untagged (default (1 ∷ [])) (basic 2)) "3000" ∷ []
+defaults : holds (only untagged (default (1 ∷ [])) (basic 2 [])) "3003020101" ∷ holds (only (implicit 0) (default (1 ∷ [])) (basic 2 [])) "3003800101"
+    ∷ holds (only (explicit 0) (default (1 ∷ [])) (basic 2 [])) "3005A003020101" ∷ holds (only untagged (default (1 ∷ [])) (basic 2 [])) "3003020102" ∷ holds
+    (only untagged (default (1 ∷ [])) (basic 2 [])) "3000" ∷ []
     ≡ false ∷ false ∷ false ∷ true ∷ true ∷ []
 unfolding valueComputes holds
 defaults = refl
 
 -- SET OF INTEGER: rising, equal, falling; a longer encoding after a shorter one, and before it; SEQUENCE OF in any order
-orders : map (holds (listOf 15 (basic 2))) ("3106020101020102" ∷ "3106020101020101" ∷ "3106020102020101" ∷ "31070201010202007F" ∷ "310702010102020080" ∷ "310702020080020101" ∷ "3100" ∷ [])
-    ++ map (holds (listOf 14 (basic 2))) ("3006020102020101" ∷ "3106020102020101" ∷ [])
+orders : map (holds (listOf 15 (basic 2 []))) ("3106020101020102" ∷ "3106020101020101" ∷ "3106020102020101" ∷ "31070201010202007F" ∷ "310702010102020080" ∷ "310702020080020101" ∷ "3100" ∷ [])
+    ++ map (holds (listOf 14 (basic 2 []))) ("3006020102020101" ∷ "3106020102020101" ∷ [])
     ≡ true ∷ true ∷ false ∷ false ∷ true ∷ false ∷ true ∷ true ∷ false ∷ []
 unfolding valueComputes holds
 orders = refl
 
 -- an untagged CHOICE in a CHOICE, with a tagged alternative; a tag of no alternative
 abbrev nested : Ty
-nested = choice (more (plain "a" untagged mandatory) (choice (more (plain "b" untagged mandatory) (basic 2) (more (plain "c" (explicit 3) mandatory) (basic 1) noMore))) noMore)
+nested = choice (more (plain "a" untagged mandatory) (choice (more (plain "b" untagged mandatory) (basic 2 [])
+    (more (plain "c" (explicit 3) mandatory) (basic 1 []) noMore))) noMore)
 
 choices : map (holds nested) ("020105" ∷ "A3030101FF" ∷ "0101FF" ∷ "A3040101FF00" ∷ []) ≡ true ∷ true ∷ false ∷ false ∷ []
 unfolding valueComputes holds
@@ -96,7 +108,8 @@ unfolding valueComputes
 places = refl
 
 -- a member inside its explicit wrapper, then an absent one
-member-places : storedValue (sequence (more (plain "a" (explicit 0) mandatory) (basic 2) (more (plain "b" untagged optional) (basic 1) noMore))) (hex "3005A003020105")
+member-places : storedValue (sequence (more (plain "a" (explicit 0) mandatory) (basic 2 []) (more (plain "b" untagged optional) (basic 1 []) noMore)))
+    (hex "3005A003020105")
     ≡ some (fields (record { place = 0; size = 7; contents = hex "A003020105" }) (present (plain "a" (explicit 0) mandatory) (leaf 2 (record { place = 4; size = 3; contents = hex "05" }))
     (absent (plain "b" untagged optional) endFields)))
 unfolding valueComputes

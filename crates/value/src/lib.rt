@@ -6,16 +6,14 @@ ghost use mathlib.Core.Path.{_≡_};
 ghost use mathlib.Core.Bool.{true, false};
 ghost use Prim.Native.Nat.{_≤_, _<_, _+_, _-_};
 ghost use lib.ListN.{length};
-ghost use lib.Dec.{leb};
 ghost use Rattle.octets.specs.Pick.{isSome};
 ghost use Rattle.octets.specs.Octets.{octet, part, same};
-ghost use Rattle.der.specs.Kind.{generalizedTime};
 ghost use Rattle.der.specs.Tag.{number, tagOf};
 ghost use Rattle.der.specs.Contents.{legal};
 ghost use Rattle.rows.specs.Row.{kindAt, namedAt, membersAt, isList, modeAt, presenceAt, defaultAt};
 ghost use Rattle.types.specs.Begins.{memberBegins};
 ghost use Rattle.table.specs.inner.Rows.{tableRows, MemberRow, TypeRow, placeAt, typeAt, membersAfter, memberAt, taggingAt, memberTypeAt, memberKindAt};
-ghost use Rattle.table.specs.inner.Words.{firstOctet, how, Worded};
+ghost use Rattle.table.specs.inner.Words.{firstOctet, isBasic, how, Worded};
 ghost use Rattle.value.specs.Decode.{startsHere, alternativeFrom, decode, storedValue};
 ghost use Rattle.value.specs.Paper.{valueLimits};
 ghost use Rattle.value.specs.Check.{report, valueFits, storage, valueReport};
@@ -173,7 +171,7 @@ fn check_leaf(
 ) -> Checked
     requires worded { ⌜ Worded (now t) (now w) ⌝ }
     requires here { ⌜ row < length (tableRows (now t)) ⌝ }
-    requires basic { ⌜ kindAt (now t) (placeAt (now t) row) ≤ generalizedTime ⌝ }
+    requires basic { ⌜ isBasic (kindAt (now t) (placeAt (now t) row)) ≡ true ⌝ }
     requires inside { ⌜ end ≤ length (now v) ⌝ }
     requires usable { ⌜ number tag < 31 ⌝ }
     ensures { λ r. ⌜ work.Answers (typeAt (now (t .entry)) row) (kindAt (now (t .entry)) (placeAt (now (t .entry)) row)) tag (now (v .entry)) at end r ⌝ }
@@ -391,9 +389,9 @@ fn has_leaves(t: &[u8], w: &[u64; 256], row: usize) -> bool
     requires here { ⌜ row < length (tableRows (now t)) ⌝ }
     requires list { ⌜ isList (kindAt (now t) (placeAt (now t) row)) ≡ true ⌝ }
     ensures { λ r. ⌜ r
-        ≡ leb (kindAt (now (t .entry)) (placeAt (now (t .entry)) (namedAt (now (t .entry)) (placeAt (now (t .entry)) row)))) generalizedTime ⌝ }
+        ≡ isBasic (kindAt (now (t .entry)) (placeAt (now (t .entry)) (namedAt (now (t .entry)) (placeAt (now (t .entry)) row)))) ⌝ }
 {
-    table::kind(t, w, table::named(t, w, row)) <= Kind::GENERALIZED_TIME
+    table::is_basic(table::kind(t, w, table::named(t, w, row)))
 }
 
 // The elements of the list of a row, whose type is basic, from start up to stop: without a call of the recursion for each.
@@ -408,7 +406,7 @@ fn check_leaves(
     requires worded { ⌜ Worded (now t) (now w) ⌝ }
     requires here { ⌜ row < length (tableRows (now t)) ⌝ }
     requires list { ⌜ isList (kindAt (now t) (placeAt (now t) row)) ≡ true ⌝ }
-    requires basic { ⌜ kindAt (now t) (placeAt (now t) (namedAt (now t) (placeAt (now t) row))) ≤ generalizedTime ⌝ }
+    requires basic { ⌜ isBasic (kindAt (now t) (placeAt (now t) (namedAt (now t) (placeAt (now t) row)))) ≡ true ⌝ }
     requires ordered { ⌜ start ≤ stop ⌝ }
     requires inside { ⌜ stop ≤ length (now v) ⌝ }
     ensures { λ r. ⌜ r

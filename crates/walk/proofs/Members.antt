@@ -6,14 +6,13 @@ use Prim.Native.Nat.{ℕ, suc, _≤_, _<_, _+_, _-_}
 use native.Mathlib.Omega.{arith}
 use borrow.Author.Tests.{eqb-true, not-true, not-false}
 use lib.ListN.{length}
-use lib.Dec.{leb, eqb}
+use lib.Dec.{eqb}
 use Rattle.octets.specs.Pick.{pick}
-use Rattle.der.specs.Kind as kind
 use Rattle.rows.specs.Row.{modeAt, numberAt, membersAt}
 use Rattle.rows.specs.Paper.{tableLimits}
 use Rattle.types.specs.Types.{untagged, explicit, implicit, taggingOf, memberOf, Member, Ty, Members, more, membersFrom, typeFrom}
 use Rattle.table.specs.inner.Rows.{tableRows, MemberRow, placeAt, memberAt, memberTypeAt, memberKindAt, taggingAt}
-use Rattle.table.specs.inner.Words.{how, Worded}
+use Rattle.table.specs.inner.Words.{isBasic, how, Worded}
 use Rattle.value.specs.Value.{Value, Fields, present, absent}
 use Rattle.value.specs.Decode.{startsHere}
 use Rattle.value.specs.inner.Decodes.{Fielded, there, lacks}
@@ -36,9 +35,10 @@ module _ (t v : List ℕ) (row i : ℕ) (read : ℕ) (told : read ≡ how (membe
       wrapped : (mode : ℕ) → eqb mode 1 ≡ true → within (taggingOf mode (numberAt t (placeAt t row))) v i ≡ startOf v i
       wrapped mode q = rw (eqb-true mode 1 q)
 
-      go : (b : Bool) → eqb (modeAt t (placeAt t row)) 1 ≡ b → _≡_ {A = ℕ} (pick b 1 (pick (leb (memberKindAt t row) kind.generalizedTime) 0 2)) 1 → r ≡ within (taggingAt t row) v i
+      go : (b : Bool) → eqb (modeAt t (placeAt t row)) 1 ≡ b
+          → _≡_ {A = ℕ} (pick b 1 (pick (isBasic (memberKindAt t row)) 0 2)) 1 → r ≡ within (taggingAt t row) v i
       go true q f = e ∙ sym (wrapped (modeAt t (placeAt t row)) q)
-      go false q f = absurd (other (leb (memberKindAt t row) kind.generalizedTime) f)
+      go false q f = absurd (other (isBasic (memberKindAt t row)) f)
         where
           other : (a : Bool) → _≡_ {A = ℕ} (pick a 0 2) 1 → ⊥
           other true z = absurd (omega arith)
@@ -50,7 +50,7 @@ module _ (t v : List ℕ) (row i : ℕ) (read : ℕ) (told : read ≡ how (membe
     where
       go : (b : Bool) → eqb (modeAt t (placeAt t row)) 1 ≡ b → (a : Bool)
           → i ≡ within (pick a untagged (pick b (explicit (numberAt t (placeAt t row))) (implicit (numberAt t (placeAt t row))))) v i
-      go true q a = absurd (other (told ∙ ap (λ (y : Bool). pick y 1 (pick (leb (memberKindAt t row) kind.generalizedTime) 0 2)) q))
+      go true q a = absurd (other (told ∙ ap (λ (y : Bool). pick y 1 (pick (isBasic (memberKindAt t row)) 0 2)) q))
       go false q true = refl
       go false q false = refl
 

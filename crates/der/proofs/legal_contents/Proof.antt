@@ -1,4 +1,4 @@
-use Rattle.der.proofs.ContentsSteps.{kind-bits, kind-boolean, kind-enumerated, kind-integer, kind-null, kind-octets, kind-oid, kind-text}
+use Rattle.der.proofs.ContentsSteps.{kind-bits, kind-boolean, kind-enumerated, kind-integer, kind-named, kind-null, kind-octets, kind-oid, kind-text}
 use borrow.Author.Needs.{needs}
 use Rattle.der.proofs.legal_contents.Statement.{statement}
 use Rattle.der.proofs.legal_contents.Tie as tie
@@ -20,5 +20,7 @@ legal-contents-spec =
     (λ c. search kind-octets)  -- returns-6
     (λ c κs. search needs)  -- legal-bits-requires
     (λ c. search kind-bits)  -- returns-7
+    (λ c κs. search needs)  -- legal-named-bits-requires
+    (λ c. search kind-named)  -- returns-8
     (λ c κs. search needs)  -- legal-text-requires
-    (λ c. search kind-text))  -- returns-8
+    (λ c. search kind-text))  -- returns-9

@@ -17,5 +17,6 @@ universal-spec =
     (λ c. search tests)  -- returns-5
     (λ c. search tests)  -- returns-6
     (λ c. search tests)  -- returns-7
+    (λ c. search tests)  -- returns-8
     (λ c κs. search needs)  -- universal-text-requires
-    (λ c. search universal-text))  -- returns-8
+    (λ c. search universal-text))  -- returns-9

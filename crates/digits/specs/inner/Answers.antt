@@ -12,6 +12,7 @@ use Rattle.digits.specs.declared.Pair.{Pair}
 use Rattle.digits.specs.declared.Quarter.{Quarter}
 use Rattle.digits.specs.declared.Bits.{Bits}
 use Rattle.digits.specs.declared.BitStep.{BitStep}
+use Rattle.digits.specs.declared.Drawn.{Drawn}
 
 -- ---- octets: two lists in order, from the first octet on; a proper prefix is less
 unfoldable pub ordered : List ℕ → List ℕ → Order
@@ -50,6 +51,9 @@ restBits hexed h c = pick hexed (hexFrom (c .quarter) (drop (c .at) h)) (textBit
 abbrev pub reportBit : Bool → List ℕ → BitStep → List ℕ
 reportBit hexed h BitStep.End = []
 reportBit hexed h (BitStep.Bit b c) = b ∷ restBits hexed h c
+
+abbrev pub reportDrawn : Bool → List ℕ → Drawn → List ℕ
+reportDrawn hexed h r = r .bit ∷ restBits hexed h (r .after)
 
 abbrev pub isEnd : BitStep → Bool
 isEnd BitStep.End = true

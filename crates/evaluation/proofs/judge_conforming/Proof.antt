@@ -9,11 +9,11 @@ judge-conforming-spec =
     (tie.spec
     (λ c κs. search needs)  -- operand-part-requires
     (λ c κs. search needs)  -- is-operand-requires
-    (λ c κs. (search needs, (search needs, (search value-conforms, (search part-stands, search needs)))))  -- judge-operand-requires
+    (λ c κs. (search needs, (search needs, (search needs, (search value-conforms, (search part-stands, search needs))))))  -- judge-operand-requires
     (λ c. search needs)  -- returns
     (λ c κs. search needs)  -- folds-requires
     (λ c κs. (search needs, search part-brief))  -- prepare-requires
     (λ c. search needs)  -- slice-aggregate-part
     (λ c κs. search needs)  -- part-requires
-    (λ c κs. (search needs, (search needs, (search value-conforms, (search prepared-stands, search needs)))))  -- judge-operand-requires-2
+    (λ c κs. (search needs, (search needs, (search needs, (search value-conforms, (search prepared-stands, search needs))))))  -- judge-operand-requires-2
     (λ c. search needs))  -- returns-2

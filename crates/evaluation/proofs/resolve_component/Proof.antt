@@ -12,5 +12,5 @@ resolve-component-spec =
     (λ c. search needs)  -- enum-known-component
     (λ c κs. search needs)  -- within-quotes-requires
     (λ c κs. search needs)  -- resolve-requires-2
-    (λ c. (search missing-leads, (search needs, (search missing-planned, search needs))))  -- returns
-    (λ c. (search quoted-leads, (search needs, (search quoted-planned, search needs)))))  -- returns-2
+    (λ c. (search missing-leads, (search needs, (search missing-planned, (search needs, search needs)))))  -- returns
+    (λ c. (search quoted-leads, (search needs, (search quoted-planned, (search needs, search needs))))))  -- returns-2

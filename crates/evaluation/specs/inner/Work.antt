@@ -20,6 +20,7 @@ use Rattle.reference.specs.inner.Work.{reportTarget}
 use Rattle.reference.specs.declared.Target as target
 use Rattle.rules.specs.Rule.{Rule, knownRules}
 use Rattle.rules.specs.Suits.{suits}
+use Rattle.plan.specs.inner.Test.{Test, bitsTest}
 use Rattle.plan.specs.inner.Plan.{Planned}
 use Rattle.plan.specs.inner.Resolve.{Lands}
 use Rattle.walk.specs.declared.State.{State}
@@ -78,6 +79,11 @@ leadsBy component ty = bind (identifiers component) (λ is. allowed is ty)
 abbrev pub suitsAny : Rule → Option Target → Bool
 suitsAny r none = false
 suitsAny r (some g) = suits r g
+
+-- the test of a rule of bits there
+abbrev pub bitsAny : Rule → Option Target → List ℕ → Option Test
+bitsAny r none x = none
+bitsAny r (some g) x = bitsTest r g x
 
 -- the identifiers of a reference that leads to g are planned, for a test with the operand x
 unfoldable pub PlannedFor : List ℕ → List ℕ → List ℕ → Bool → Option (List ℕ) → target.Target → Type 0

@@ -1,4 +1,4 @@
-use Rattle.plan.proofs.PassSteps.{accepts-digits, accepts-less, accepts-plain, accepts-same, accepts-text}
+use Rattle.plan.proofs.PassSteps.{accepts-digits, accepts-less, accepts-plain, accepts-same, accepts-text, accepts-named}
 use borrow.Author.Needs.{needs}
 use Rattle.plan.proofs.accepts.Statement.{statement}
 use Rattle.plan.proofs.accepts.Tie as tie
@@ -18,4 +18,6 @@ accepts-spec =
     (λ c κs. search needs)  -- accepts-digits-requires
     (λ c. search accepts-digits)  -- returns-4
     (λ c κs. search needs)  -- accepts-text-requires
-    (λ c. search accepts-text))  -- returns-5
+    (λ c. search accepts-text)  -- returns-5
+    (λ c κs. search needs)  -- accepts-named-requires
+    (λ c. search accepts-named))  -- returns-6

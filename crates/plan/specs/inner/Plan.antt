@@ -82,6 +82,10 @@ pub data Planned (t q x : List ℕ) (defaults : Bool) : ℕ → Ty → List Id �
   to-all : {k kd : ℕ} {ty : Ty} {is : List Id} → sortAt q k ≡ sort.all → Within k
       → Planned t q x defaults (k + 1) ty is → Planned t q x defaults k (listOf kd ty) (index all ∷ is)
 
+-- the numbers of the steps of a plan q are those of a plan p
+pub record SameSteps (q p : List ℕ) : Type 0 where
+  pub kept : (i : ℕ) → 3 < i → getD p i 0 ≡ getD q i 0
+
 -- what a plan q for a count stands for, the plan p stands for too, for a listing
 unfoldable pub Relisted : List ℕ → List ℕ → Type 0
 Relisted q p =

@@ -2,10 +2,11 @@
 -- integer is the integer plus 2^63; an asserted integer that can't be stored is a bound below or above all.
 use Prim.Native.Nat.{ℕ, _-_}
 use mathlib.Core.Bool.{Bool, true, false}
+use mathlib.Core.Option.{Option, none, some}
 use mathlib.Core.List.{List}
 use lib.ListN.{length}
 use lib.Dec.{ltb, leb, eqb}
-use Rattle.octets.specs.Pick.{pick, both, no}
+use Rattle.octets.specs.Pick.{pick, both, no, bind}
 use Rattle.octets.specs.Octets.{same, below, bytes, paired}
 use Rattle.der.specs.Time as times
 use Rattle.der.specs.Meaning.{plus, sameWhole, lessWhole, integerOf, booleanOf, arcsOf, bitsOf}
@@ -14,16 +15,24 @@ use Rattle.dotted.specs.inner.Stored.{fitting}
 use Rattle.integers.specs.Asserted.{assertedInteger}
 use Rattle.integers.specs.inner.Bounds.{fits, lifted, boundOf, sameBound, lessBound, isShort}
 use Rattle.integers.specs.declared.Bound.{Bound}
-use Rattle.digits.specs.Asserted.{digits, isBitText}
+use Rattle.digits.specs.Asserted.{digits, isBitText, isBits}
+use Rattle.digits.specs.Named.{trimmed}
 use Rattle.digits.specs.inner.Answers.{bitsIn}
+use Rattle.digits.specs.inner.Masks.{maskBits}
 use Rattle.strings.specs.Prepared.{prepared}
 use Rattle.strings.specs.inner.Comparing.{folded}
+use Rattle.types.specs.Types.{NamedBit}
+use Rattle.reference.specs.Allowed.{Target}
+use Rattle.bitnames.specs.Names as names
 use Rattle.rules.specs.Rule as rule
 use Rattle.rules.specs.Rule.{Syntax, Rule}
+use Rattle.rules.specs.Suits.{suits}
+use Rattle.rules.specs.Asserted.{namesAt}
 use Rattle.plan.specs.declared.TestNumbers.{TestNumbers}
+use Rattle.plan.specs.declared.BitsTest.{BitsTest}
 
 -- any value, none; a truth; an integer equal to a bound, or less; arcs; octets equal, or less; bits of hexadecimal digits (true) or binary ones; a string,
--- folded (true) or exact; a time equal, or earlier
+-- folded (true) or exact; a time equal, or earlier; bits with names, of digits as above, or listed
 pub data Test : Type 0 where
   anyValue : Test
   noValue : Test
@@ -37,6 +46,8 @@ pub data Test : Type 0 where
   string : Bool → Test
   time : Test
   earlierTime : Test
+  namedBits : Bool → Test
+  listed : List ℕ → Test
 
 -- ---- what a test says of contents
 -- of an INTEGER of one to eight octets, which is within the bounds; of numbers that are no octets the operand decides
@@ -56,6 +67,8 @@ accepted (bits hexed) x c = both (leb (length c) 65536) (same (bitsOf c) (bitsIn
 accepted (string fold) x c = same (prepared fold c) (folded fold x)
 accepted time x c = times.sameTime (times.timeOf c) (times.timeOf x)
 accepted earlierTime x c = times.earlier (times.timeOf c) (times.timeOf x)
+accepted (namedBits hexed) x c = both (leb (length c) 65536) (same (trimmed (bitsOf c)) (trimmed (bitsIn hexed (digits x))))
+accepted (listed l) x c = both (leb (length c) 65536) (same (trimmed (bitsOf c)) (trimmed l))
 
 -- of a count, below 2^63
 unfoldable pub acceptedCount : Test → ℕ → Bool
@@ -71,6 +84,8 @@ acceptedCount (bits hexed) n = false
 acceptedCount (string fold) n = false
 acceptedCount time n = false
 acceptedCount earlierTime n = false
+acceptedCount (namedBits hexed) n = false
+acceptedCount (listed l) n = false
 
 -- ---- the test of a rule with an operand
 unfoldable pub equalTest : Syntax → List ℕ → Test
@@ -96,6 +111,23 @@ testFor rule.present x = anyValue
 testFor (rule.equal s) x = equalTest s x
 testFor (rule.less s) x = lessTest s x
 
+-- ---- the test of a rule of bits with a value text, by the names of bits there; none where the text doesn't conform
+-- with names: of a text that is no list by its digits; an ordering rule accepts no bits
+abbrev pub ofRule : Rule → Test → Test
+ofRule rule.present u = anyValue
+ofRule (rule.equal s) u = u
+ofRule (rule.less s) u = noValue
+
+unfoldable pub bitsTestBy : Rule → Option (List NamedBit) → List ℕ → Option Test
+bitsTestBy r none x = pick (isBits x) (some (testFor r x)) none
+bitsTestBy r (some ns) x =
+    pick (isBits x) (some (ofRule r (namedBits (no (isBitText x)))))
+    (bind (names.listedBits ns x) (λ l. some (ofRule r (listed l))))
+
+-- none where the rule isn't for what the reference leads to, too
+unfoldable pub bitsTest : Rule → Target → List ℕ → Option Test
+bitsTest r g x = pick (suits r g) (bitsTestBy r (namesAt g) x) none
+
 -- ---- a test as two numbers: the comparison, and the number that it is with
 abbrev pub boundNumbered : ℕ → ℕ → Bound
 boundNumbered k n = pick (eqb k 0) (Bound.At n) (pick (eqb k 1) Bound.Under Bound.Over)
@@ -109,13 +141,21 @@ digitTest a = pick (eqb a 10) arcs (pick (eqb a 11) octets (pick (eqb a 12) less
 abbrev pub textTest : ℕ → Test
 textTest a = pick (eqb a 17) time (pick (eqb a 18) earlierTime (string (eqb a 15)))
 
+abbrev pub namedTest : ℕ → ℕ → Test
+namedTest a n = pick (eqb a 21) (listed (maskBits n)) (namedBits (eqb a 19))
+
 unfoldable pub testOf : ℕ → ℕ → Test
 testOf a n =
     pick (ltb a 4) (plainTest a)
     (pick (ltb a 7) (sameInteger (boundNumbered (a - 4) n))
     (pick (ltb a 10) (lessInteger (boundNumbered (a - 7) n))
     (pick (ltb a 15) (digitTest a)
-    (textTest a))))
+    (pick (ltb a 19) (textTest a)
+    (namedTest a n)))))
 
 abbrev pub reportTest : TestNumbers → Test
 reportTest r = testOf (r .comparison) (r .number)
+
+abbrev pub reportBits : BitsTest → Option Test
+reportBits BitsTest.No = none
+reportBits (BitsTest.Of k n) = some (testOf k n)

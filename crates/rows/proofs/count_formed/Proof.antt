@@ -1,4 +1,4 @@
-use Rattle.rows.proofs.Steps.{count-choice, count-other, count-sequence}
+use Rattle.rows.proofs.Steps.{count-choice, count-named, count-other, count-sequence}
 use borrow.Author.Needs.{needs}
 use Rattle.rows.proofs.count_formed.Statement.{statement}
 use Rattle.rows.proofs.count_formed.Tie as tie
@@ -13,4 +13,7 @@ count-formed-spec =
     (λ c κs. search needs)  -- field-requires-2
     (λ c κs. search needs)  -- within-requires
     (λ c. search count-choice)  -- returns-2
-    (λ c. search count-other))  -- returns-3
+    (λ c κs. search needs)  -- field-requires-3
+    (λ c κs. search needs)  -- within-requires-2
+    (λ c. search count-named)  -- returns-3
+    (λ c. search count-other))  -- returns-4

@@ -12,6 +12,7 @@ suits-kind-spec =
     (λ c. search needs)  -- enum-told-3
     (λ c. search needs)  -- enum-told-4
     (λ c. search needs)  -- enum-told-5
+    (λ c κs. search needs)  -- is-bit-kind-requires
     (λ c. search needs)  -- enum-told-6
     (λ c κs. search needs)  -- is-string-requires
     (λ c. search needs)  -- enum-told-7

@@ -1,6 +1,6 @@
 -- What the code's rules and answers say.
 use Prim.Native.Nat.{ℕ, _+_}
-use mathlib.Core.Bool.{Bool}
+use mathlib.Core.Bool.{Bool, true, false}
 use mathlib.Core.Option.{Option, none, some}
 use mathlib.Core.List.{List}
 use lib.Dec.{eqb}
@@ -45,7 +45,23 @@ reportRule (named.Named.Known r) = some (meant r)
 unfoldable pub called : List ℕ → List ℕ → List ℕ → Bool
 called t name oid = either (sameName t name) (same t oid)
 
--- ---- value texts, whatever the reference leads to: whether one conforms, and what it asserts where it does
+-- ---- value texts
+-- those of a rule of bits are read by what the reference leads to
+abbrev pub ofBits : Syntax → Bool
+ofBits booleans = false
+ofBits integers = false
+ofBits objectIdentifiers = false
+ofBits octetStrings = false
+ofBits bitStrings = true
+ofBits (strings fold) = false
+ofBits times = false
+
+unfoldable pub readByTarget : Rule → Bool
+readByTarget present = false
+readByTarget (equal s) = ofBits s
+readByTarget (less s) = ofBits s
+
+-- those of the other rules, whatever it leads to: whether one conforms, and what it asserts where it does; bits as without names
 unfoldable pub conformsTo : Syntax → List ℕ → Bool
 conformsTo booleans t = isTruth t
 conformsTo integers t = isInteger t

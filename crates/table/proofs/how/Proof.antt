@@ -1,11 +1,11 @@
-use Rattle.table.specs.inner.Words.{how}
-use Rattle.octets.proofs.Tests.{tests}
+use Rattle.table.proofs.Steps.{how-wrapped, how-plain, how-other}
+use borrow.Author.Needs.{needs}
 use Rattle.table.proofs.how.Statement.{statement}
 use Rattle.table.proofs.how.Tie as tie
 
 pub how-spec : {M : Type 1} → statement M
-unfolding how
 how-spec = tie.close (tie.spec
-    (λ c. search tests)  -- returns
-    (λ c. search tests)  -- returns-2
-    (λ c. search tests))  -- returns-3
+    (λ c. search how-wrapped)  -- returns
+    (λ c κs. search needs)  -- is-basic-requires
+    (λ c. search how-plain)  -- returns-2
+    (λ c. search how-other))  -- returns-3

@@ -1,17 +1,17 @@
 -- Row words: two numbers for each row of a table. The first has fields; the second is a set of tags, or a default's contents as a number.
 use Prim.Native.Nat.{ℕ, _+_, _*_, _<_, _≤_}
 use mathlib.Core.Path.{_≡_}
-use mathlib.Core.Bool.{true}
+use mathlib.Core.Bool.{Bool, true}
 use mathlib.Core.List.{List}
 use lib.ListN.{length, getD}
 use lib.Dec.{leb, eqb}
-use Rattle.octets.specs.Pick.{pick}
+use Rattle.octets.specs.Pick.{pick, either}
 use Rattle.octets.specs.Octets.{baseFrom}
 use Rattle.der.specs.Kind as kind
 use Rattle.der.specs.Tag.{ownOctet, implicitOctet, wrapperOctet}
 use Rattle.rows.specs.Paper.{tableLimits}
-use Rattle.rows.specs.Row.{rowAt, kindAt, namesRow, namedAt, membersAt, modeAt, numberAt, presenceAt, defaultLengthAt, defaultAt}
-use Rattle.clauses.specs.Clauses.{typeKind}
+use Rattle.rows.specs.Row.{rowAt, kindAt, namesRow, namedAt, membersAt, modeAt, numberAt, presenceAt, defaultLengthAt, defaultAt, bitNumberAt, bitNamesAt}
+use Rattle.clauses.specs.Clauses.{memberPlace, typeKind}
 use Rattle.types.specs.Types.{Tagging, untagged, explicit, implicit, taggingOf}
 use Rattle.types.specs.inner.Work.{Sound}
 use Rattle.table.specs.inner.Rows.{tableRows}
@@ -23,9 +23,13 @@ firstOctet untagged k = pick (eqb k kind.choice) 0 (ownOctet k)
 firstOctet (explicit n) k = wrapperOctet n
 firstOctet (implicit n) k = implicitOctet n k
 
+-- a basic kind: BOOLEAN to GeneralizedTime, or BIT STRING with names
+unfoldable pub isBasic : ℕ → Bool
+isBasic k = either (leb k kind.generalizedTime) (eqb k kind.namedBitString)
+
 -- how a member of a kind is tagged: 1 in a wrapper; 0 plain: of a basic kind, in no wrapper; 2 any other
 unfoldable pub how : ℕ → ℕ → ℕ
-how k mode = pick (eqb mode 1) 1 (pick (leb k kind.generalizedTime) 0 2)
+how k mode = pick (eqb mode 1) 1 (pick (isBasic k) 0 2)
 
 -- x is the first word of the type row at p, with any chain; of the member row at p, whose type is of kind k
 abbrev pub TypeWord : List ℕ → ℕ → ℕ → Type 0
@@ -64,6 +68,7 @@ pub record Ready (chain : ℕ) (t s m : List ℕ) : Type 0 where
   pub size : (i : ℕ) → i < length s → kindAt t (rowAt s i) ≡ kind.member → defaultLengthAt t (rowAt s i) ≤ 8
   pub target : (i : ℕ) → i < length s → namesRow t (rowAt s i) ≡ true → namedAt t (rowAt s i) < length s
   pub typed : (i : ℕ) → i < length s → namesRow t (rowAt s i) ≡ true → typeKind t s i ≡ kind.member → ⊥
+  pub bits : (i : ℕ) → i < length s → (j : ℕ) → j < bitNamesAt t (rowAt s i) → (i + 1 + j < length s) × (bitNumberAt t (memberPlace s i j) ≤ 63)
 
 -- w has the words of an admitted table's rows
 pub record Worded (t w : List ℕ) : Type 0 where

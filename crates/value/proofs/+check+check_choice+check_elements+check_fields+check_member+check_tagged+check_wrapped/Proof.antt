@@ -9,8 +9,8 @@ use Rattle.value.proofs.CheckSteps.{falls-body, falls-tagged, falls-wra
 use Rattle.value.proofs.CheckSteps.{answer-fields, answer-elements, answer-basic, wraps-misfit, wraps-inner, wraps-surplus, wraps-filled, target-here}
 use Rattle.value.proofs.CheckSteps.{target-typed, tagged-explicit, tagged-other}
 use Rattle.value.proofs.NestedSteps.{missing-is, row-here, row-member, row-falls, row-is}
-use Rattle.value.proofs.ElementSteps.{Listed, leaves-small, element-here, element-typed, element-falls, elements-bad, element-after, element-ends, element-less}
-use Rattle.value.proofs.ElementSteps.{elements-disorder}
+use Rattle.value.proofs.ElementSteps.{Listed, leaves-basic, element-here, element-typed, element-falls, elements-bad, element-after, element-ends}
+use Rattle.value.proofs.ElementSteps.{element-less, elements-disorder}
 use Rattle.value.proofs.ElementSteps.{elements-again, elements-done, elements-start, listed-low}
 use borrow.Author.Needs.{needs}
 use lib.ListN.{length}
@@ -239,7 +239,7 @@ pub +check+check-choice+check-elements+check-fields+check-member+check-tagged+ch
     (λ c. search row-is))  -- returns-2
     (λ t. check-elements-lts.spec (check-elements-claims t) (check-elements-at t) check-elements.Post check-elements-Inv-loop check-elements-μ-loop
     (λ c κs. search needs)  -- has-leaves-requires
-    (λ c κs. (search needs, (search needs, (search needs, (search leaves-small, (search needs, search needs))))))  -- check-leaves-requires
+    (λ c κs. (search needs, (search needs, (search needs, (search leaves-basic, (search needs, search needs))))))  -- check-leaves-requires
     (λ c. search needs)  -- returns
     (λ c κs. search needs)  -- kind-requires
     (λ c κs. search needs)  -- named-requires

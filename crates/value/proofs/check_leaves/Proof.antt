@@ -1,7 +1,7 @@
 use Prim.Native.Nat.{_-_}
 use Rattle.rows.specs.Paper.{tableLimits}
 use Rattle.table.specs.inner.Rows.{tableRows}
-use Rattle.value.proofs.ElementSteps.{Listed, element-here, element-typed, element-small, elements-bad, element-after, element-ends, element-less}
+use Rattle.value.proofs.ElementSteps.{Listed, element-here, element-typed, element-basic, elements-bad, element-after, element-ends, element-less}
 use Rattle.value.proofs.ElementSteps.{elements-disorder, elements-again, elements-done, elements-start, listed-low}
 use Rattle.value.proofs.TagSteps.{own-usable}
 use borrow.Author.Needs.{needs}
@@ -24,7 +24,7 @@ check-leaves-spec =
     (λ c κs. search needs)  -- named-requires
     (λ c κs. (search needs, (search element-here, search element-typed)))  -- own-first-requires
     (λ c. search elements-start)  -- loop-holds
-    (λ c κs. (search needs, (search element-here, (search element-small, (search needs, search own-usable)))))  -- check-leaf-requires
+    (λ c κs. (search needs, (search element-here, (search element-basic, (search needs, search own-usable)))))  -- check-leaf-requires
     (λ c. search needs)  -- enum-known-next
     (λ c. search needs)  -- enum-told
     (λ c. search elements-bad)  -- returns

@@ -7,4 +7,5 @@ pub has-leaves-spec : {M : Type 1} → statement M
 has-leaves-spec = tie.close (tie.spec
     (λ c κs. search needs)  -- named-requires
     (λ c κs. (search needs, search element-here))  -- kind-requires
+    (λ c κs. search needs)  -- is-basic-requires
     (λ c. search leaves-are))  -- returns

@@ -1,0 +1,2 @@
+pub mod NameSteps
+pub mod SetSteps

@@ -1,0 +1,38 @@
+use Prim.Native.Nat.{_-_, _≤_}
+use mathlib.Core.Path.{_≡_}
+use mathlib.Core.Bool.{true}
+use native.Mathlib.Omega.{arith}
+use Rattle.octets.specs.Pick.{all}
+use Rattle.clauses.specs.inner.Work.{numberDiffersAt}
+use Rattle.octets.proofs.Laws.{all-none}
+use Rattle.clauses.proofs.NameSteps.{number-repeated, number-other, number-new}
+use borrow.Author.Needs.{needs}
+use Rattle.clauses.proofs.new_number.Statement.{statement}
+use Rattle.clauses.proofs.new_number.Tie as tie
+
+abbrev Inv-loop : tie.InvT-loop
+Inv-loop t first b number a₀ a = (a ≤ b) × (all (numberDiffersAt t first b) a ≡ true)
+
+abbrev μ-loop : tie.MeasureT-loop
+μ-loop t first b number a₀ a = b - a
+
+pub new-number-spec : {M : Type 1} → statement M
+new-number-spec =
+    tie.close
+    (tie.spec
+    Inv-loop
+    μ-loop
+    (λ c. search needs)  -- mul-number
+    (λ c. search needs)  -- add-number
+    (λ c. search needs)  -- add-number-2
+    (λ c. search needs)  -- shared-slice-read-number
+    (λ c. (search needs, all-none (numberDiffersAt _ _ _)))  -- loop-holds
+    (λ c. search needs)  -- mul-if1
+    (λ c. search needs)  -- add-if1
+    (λ c. search needs)  -- add-if1-2
+    (λ c. search needs)  -- shared-slice-read-if1
+    (λ c. search number-repeated)  -- returns
+    (λ c. search needs)  -- add-a
+    (λ c. search needs)  -- loop-less
+    (λ c. (omega arith, search number-other))  -- loop-again
+    (λ c. search number-new))  -- returns-2
