@@ -12,6 +12,7 @@ import random
 import sys
 from collections import Counter
 
+import corpus_bits
 import draw
 import engine
 import questions
@@ -69,7 +70,7 @@ def hostile():
 def tables():
     """All tables, each once."""
     found = dict.fromkeys(hostile().values())
-    found.update(dict.fromkeys(case.inputs[0] for case in written.cases(LONGEST) if case.entry == "table"))
+    found.update(dict.fromkeys(case.inputs[0] for case in written.cases(LONGEST, written.BASE) if case.entry == "table"))
     for count, drawer, way in ((EDGES, draw.CaseDrawer(41), "edge"), (SMALL, draw.CaseDrawer(42), "of"),
                                (LARGE, draw.CaseDrawer(43, draw.LARGE), "of")):
         most = len(found) + count
@@ -81,6 +82,7 @@ def tables():
     for _ in range(LOOSE):
         found.setdefault(bytes(dice.choice([dice.randrange(17), dice.randrange(256)])
                                for _ in range(dice.randint(1, 60))))
+    found.update(dict.fromkeys(corpus_bits.tables()))
     return list(found)
 
 
@@ -123,7 +125,7 @@ def hostile_values():
 def value_cases():
     """Tables and values, each pair once."""
     found = dict.fromkeys(hostile_values().values())
-    found.update(dict.fromkeys(case.inputs for case in written.cases(LONGEST_VALUE) if case.entry == "value"))
+    found.update(dict.fromkeys(case.inputs for case in written.cases(LONGEST_VALUE, written.BASE) if case.entry == "value"))
     edges, drawer = draw.CaseDrawer(51), draw.CaseDrawer(52)
     large = draw.CaseDrawer(53, draw.LARGE)
 
@@ -138,6 +140,7 @@ def value_cases():
             inputs = one()
             if inputs and len(inputs[0]) <= LONGEST and len(inputs[1]) <= LONGEST_VALUE:
                 found.setdefault(inputs)
+    found.update(dict.fromkeys(corpus_bits.values()))
     return list(found)
 
 
@@ -149,7 +152,7 @@ def parts():
     found = dict.fromkeys((record, place, length) for place in ends for length in ends)
     found.update(dict.fromkeys((octets, place, length) for octets in (b"", b"\5", b"\5\0", b"\0" * 4096, b"\0" * 4097)
                                for place in (0, 1, 2, 4095, 4096) for length in (0, 1, 2, 4096)))
-    found.update(dict.fromkeys(case.inputs for case in written.cases(LONGEST_VALUE) if case.entry == "part"))
+    found.update(dict.fromkeys(case.inputs for case in written.cases(LONGEST_VALUE, written.BASE) if case.entry == "part"))
     small, large = draw.CaseDrawer(61), draw.CaseDrawer(62, draw.LARGE)
     for count, drawer in ((PARTS, small), (LARGE_PARTS, large)):
         enough = len(found) + count

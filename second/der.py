@@ -1,23 +1,27 @@
-"""DER headers and contents, from the section "Stored value" of document 01."""
+"""DER headers and contents, from the section "Stored value" of document 01 and from Q-2 of document 02."""
 
 import calendar
 import re
 
-# Kinds of type rows, as numbered in the section "Type table".
+# Kinds of rows, as numbered in the section "Type table" and in Q-2.
 BOOLEAN, INTEGER, ENUMERATED, NULL, OBJECT_IDENTIFIER, OCTET_STRING = 1, 2, 3, 4, 5, 6
 BIT_STRING, UTF8_STRING, PRINTABLE_STRING, IA5_STRING, GENERALIZED_TIME = 7, 8, 9, 10, 11
 SEQUENCE, CHOICE, SEQUENCE_OF, SET_OF, MEMBER = 12, 13, 14, 15, 16
+NAMED_BIT_STRING, BIT_NAME = 17, 18
 
 STRING_KINDS = (UTF8_STRING, PRINTABLE_STRING, IA5_STRING)
 LIST_KINDS = (SEQUENCE_OF, SET_OF)
+BIT_KINDS = (BIT_STRING, NAMED_BIT_STRING)
+# Rows that only follow another, by the kinds that they follow. All other rows are of types.
+FOLLOWERS = {SEQUENCE: MEMBER, CHOICE: MEMBER, NAMED_BIT_STRING: BIT_NAME}
 
 UNIVERSAL, CONTEXT = 0, 2
 
-# X.680: the universal tag number of each kind but CHOICE, which has none.
+# X.680: the universal tag number of each kind of type but CHOICE, which has none.
 UNIVERSAL_NUMBER = {
     BOOLEAN: 1, INTEGER: 2, ENUMERATED: 10, NULL: 5, OBJECT_IDENTIFIER: 6, OCTET_STRING: 4,
     BIT_STRING: 3, UTF8_STRING: 12, PRINTABLE_STRING: 19, IA5_STRING: 22,
-    GENERALIZED_TIME: 24, SEQUENCE: 16, SEQUENCE_OF: 16, SET_OF: 17,
+    GENERALIZED_TIME: 24, SEQUENCE: 16, SEQUENCE_OF: 16, SET_OF: 17, NAMED_BIT_STRING: 3,
 }
 CONSTRUCTED_KINDS = (SEQUENCE, SEQUENCE_OF, SET_OF)
 
@@ -116,6 +120,14 @@ def read_bits(contents):
     return bits[:used]
 
 
+def read_named_bits(contents):
+    """Named BIT STRING: as BIT STRING, with no trailing zero bit."""
+    bits = read_bits(contents)
+    if bits.endswith("0"):
+        raise Bad("trailing zero bit")
+    return bits
+
+
 def read_string(kind, contents):
     """UTF8String by RFC 3629; PrintableString and IA5String by X.680."""
     if kind == PRINTABLE_STRING and not PRINTABLE.fullmatch(contents):
@@ -154,7 +166,7 @@ def read_time(contents):
 
 
 def read_contents(kind, contents):
-    """The value that the contents octets of a kind 1..11 stand for, or Bad."""
+    """The value that the contents octets of a kind 1..11 or 17 stand for, or Bad."""
     if kind == BOOLEAN:
         return read_boolean(contents)
     if kind in (INTEGER, ENUMERATED):
@@ -169,6 +181,8 @@ def read_contents(kind, contents):
         return contents
     if kind == BIT_STRING:
         return read_bits(contents)
+    if kind == NAMED_BIT_STRING:
+        return read_named_bits(contents)
     if kind in STRING_KINDS:
         return read_string(kind, contents)
     if kind == GENERALIZED_TIME:

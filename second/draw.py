@@ -9,9 +9,11 @@ import draw_types
 import draw_values
 import engine
 import filters
+import reference
 import rules
 import table as types
 import value as values
+from draw_bits import BitDrawer
 from draw_forms import FormDrawer
 from draw_text import TextDrawer
 
@@ -53,11 +55,11 @@ class Case:
 
 
 class CaseDrawer:
-    """Draws one case after another from a seed."""
+    """Draws one case after another from a seed, with named BIT STRINGs (Q-2 of document 02) on request."""
 
-    def __init__(self, seed, limits=SMALL):
-        self.dice, self.limits = random.Random(seed), limits
-        self.edges = FormDrawer(self.dice)
+    def __init__(self, seed, limits=SMALL, bits=False):
+        self.dice, self.limits, self.bits = random.Random(seed), limits, bits
+        self.edges = BitDrawer(self.dice) if bits else FormDrawer(self.dice)
 
     def case(self):
         """One case of any entry; small ones are often close to the edge of a sentence."""
@@ -88,7 +90,7 @@ class CaseDrawer:
         least = dice.choice([0, 0, 40, 80, 80, 120])
         while True:
             room = 20 if dice.random() < 0.1 else dice.randint(100, limits.table)
-            root = draw_types.TypeDrawer(dice, room, limits.deepest).type()
+            root = draw_types.TypeDrawer(dice, room, limits.deepest, self.bits).type()
             rows = draw_types.lay_out(dice, root, dice.random() < 0.05)
             octets = draw_types.table_octets(rows)
             if len(rows) > limits.rows or not least <= len(octets) <= limits.table:
@@ -199,8 +201,8 @@ class CaseDrawer:
 
 
 def corpus(seed, count, limits=SMALL):
-    """The first `count` cases of a seed."""
-    drawer = CaseDrawer(seed, limits)
+    """The first `count` cases of a seed, with named BIT STRINGs among them."""
+    drawer = CaseDrawer(seed, limits, bits=True)
     return [drawer.case() for _ in range(count)]
 
 
@@ -210,6 +212,11 @@ def _items(found):
         return [found]
     inner = [found.filter] if isinstance(found, filters.Not) else found.filters
     return [item for one in inner for item in _items(one)]
+
+
+def target_of(table, item):
+    """The type row that the reference of an item ends at, which the table allows."""
+    return reference.target(table, [] if item.component is None else reference.parse(item.component))
 
 
 def coverage(cases):
@@ -237,6 +244,8 @@ def coverage(cases):
                 answer = engine.ask(case.inputs[0], case.inputs[1], alone.encode("utf-8"), 65535)
                 if rule and answer[0] == "answer":
                     seen["rule says", rule.name + " " + answer[1]] += 1
+                    if rule.read is rules.bits_of and answer[1] == "TRUE" and table.rows[target_of(table, item)].kind == der.NAMED_BIT_STRING:
+                        seen["bits", "names" if item.value[0] == "{" else "digits"] += 1
         if case.entry == "list":
             for source, _, _ in case.answer[1]:
                 seen["source", source] += 1
@@ -251,7 +260,7 @@ def wanted():
                "ask": ["TRUE", "FALSE", "UNDEFINED"] + ["refused %d" % n for n in range(1, 6)],
                "list": ["listed"] + ["refused %d" % n for n in (1, 2, 3, 4, 6)]}
     things = [(entry, answer) for entry, several in answers.items() for answer in several]
-    things += [("kind", kind) for kind in range(1, 17)]
+    things += [("kind", kind) for kind in range(1, 19)] + [("bits", way) for way in ("names", "digits")]
     things += [("tag mode", mode) for mode in range(3)] + [("presence", n) for n in range(3)]
     things += [("source", n) for n in range(3)] + [("untagged CHOICE", "member")]
     things += [("rule", rule.name) for rule in rules.RULES] + [("rule", "unknown")]

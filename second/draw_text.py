@@ -14,6 +14,8 @@ ODD_VALUES = ["-0", "01", "00", "+1", "1 2", "3, x", "{}", "{ a }", "{\"}\"}", "
               "true", "FALSE", "1.40", "3.1", "2", "2.05", "1.2.", "cn", "\"20230229120000Z\"",
               "20240229120000Z", "\"20240229120000.10Z\"", "0", "-1", "2.999", "- 1", "1.0",
               "9223372036854775808", "-9223372036854775809", "18446744073709551617"]
+ODD_BITS = ["{,}", "{a,}", "{,a}", "{print ,perform}", "{print perform}", "{print;perform}", "{{}}", "{\"print\"}", "{print.perform}",
+            "{PRINT}", "{'1'B}", "{0}", "{print}{}", "{}{}", "{print},", "print", "{\tprint}", "{print,\u00a0perform}", "{ print, }", "{-}"]
 ODD_RULES = ["unknownMatch", "2.5.13.99", "x", "integerMatch-", "a--b", "1.39", "0.0", "2.999.1",
              "caseIgnoreSubstringsMatch", "integermatchx", "2.5.13.140"]
 BAD_RULES = ["3.1", "1.40", "2", "2.05", "2.5.", ".5", "1a", "-a", "a.b", "", "a_b", "2..5"]
@@ -113,7 +115,7 @@ class TextDrawer:
         if len(fitting) > 1 and dice.random() < 0.9:
             fitting = [rule for rule in fitting if rule.kinds != rules.ANY]
         rule = dice.choice(fitting)
-        asserted = self.asserted(rule, text, defaults)
+        asserted = self.asserted(rule, text, defaults, target)
         shown, odd = self.rule_text(rule), dice.random()
         if odd < 0.04:
             shown = dice.choice(ODD_RULES)
@@ -134,7 +136,7 @@ class TextDrawer:
         parts.append("value" + self.msp() + asserted + self.sp() + "}")
         return "item:" + "".join(parts)
 
-    def asserted(self, rule, text, defaults):
+    def asserted(self, rule, text, defaults, target):
         """A value text: equal to, near or unlike something that the reference names."""
         dice = self.dice
         held = [] if self.tree is None else self.held(text, defaults)
@@ -157,6 +159,8 @@ class TextDrawer:
             if near:
                 octets = dice.choice([octets + b"\0", octets[:-1], octets[:-1] + b"\2", b"\xff"])
             return "'" + octets.hex().upper() + "'H"
+        if rule.read is rules.bits_of and self.table.rows[target].kind == der.NAMED_BIT_STRING:
+            return self.named_bits(self.table.bits_by_name(target), stored, near)
         if rule.read is rules.bits_of:
             bits = "1" if stored is None else stored
             if near:
@@ -169,6 +173,30 @@ class TextDrawer:
             time = dice.choice(TIMES) if stored is None or near else time_text(stored)
             return '"' + time + '"'
         return self.string(stored, near)
+
+    def named_bits(self, numbers, stored, near):
+        """Bits for a named BIT STRING: a list of names, or digits with trailing zeros or without, perhaps close to what is stored."""
+        dice = self.dice
+        if near and dice.random() < 0.2:
+            return dice.choice(ODD_BITS)
+        bits = dice.choice(["", "1", "01"]) if stored is None else stored
+        ones = {at for at, bit in enumerate(bits) if bit == "1"}
+        if near:
+            ones ^= {dice.choice([*numbers.values(), len(bits)])}
+        if ones <= {*numbers.values()} and dice.random() < 0.6:
+            return self.bit_list([name for name, number in numbers.items() if number in ones])
+        digits = "".join("1" if at in ones else "0" for at in range(max(ones, default=-1) + 1))
+        digits += "0" * dice.choice([0, 0, 0, 1, 3, 8])
+        if dice.random() < 0.4:
+            digits += "0" * (-len(digits) % 4)
+            return "'%s'H" % "".join(format(int(digits[at:at + 4], 2), "X") for at in range(0, len(digits), 4))
+        return "'%s'B" % digits
+
+    def bit_list(self, names):
+        """A GSER list of these names in any order, some of them perhaps repeated."""
+        dice = self.dice
+        names = dice.sample(names, len(names)) + (dice.choices(names, k=dice.choice([0, 0, 0, 1, 2])) if names else [])
+        return "{" + self.sp() + ("," + self.sp()).join(names) + self.sp() + "}"
 
     def string(self, stored, near):
         """A quoted string, perhaps with spaces or letters changed."""

@@ -8,6 +8,13 @@ NAMES = ["a", "b", "c", "d", "n1", "xY", "x-y", "a-b-c", "content", "value", "it
          "abcdefghijklmnopqrstuvwx", "b-0", "seats"]
 INTEGERS = [0, 1, -1, 2, 3, 5, 127, 128, -128, -129, 255, 256, 32767, 32768, -32768,
             2 ** 31, 2 ** 32, 2 ** 63 - 1, -2 ** 63]
+# The kinds without inner types, as often as they are drawn, and as often with named BIT STRINGs among them.
+LEAVES = [1, 1, 2, 2, 2, 3, 4, 5, 6, 6, 7, 8, 9, 10, 11, 11]
+LEAVES_WITH_BITS = LEAVES + [der.NAMED_BIT_STRING] * 10 + [der.BIT_STRING] * 2
+BIT_NAMES = ["print", "perform", "record", "a", "ab", "aB", "a-b", "printing", "prin", "x9", "content",
+             "abcdefghijklmnopqrstuvwx", "abcdefghijklmnopqrstuvwy"]
+BIT_NUMBERS = [0, 0, 1, 1, 2, 3, 6, 7, 8, 9, 15, 16, 31, 32, 62, 63]
+BAD_NAMES = [b"", b"A", b"a-", b"a--b", b"-a", b"1a", b"a\0b", b"a_b", b"a-b", b"abcdefghijklmnopqrstuvw-"]
 
 
 @dataclass(eq=False)
@@ -17,6 +24,7 @@ class Type:
     kind: int
     members: list = field(default_factory=list)
     element: object = None
+    names: list = field(default_factory=list)
 
 
 @dataclass(eq=False)
@@ -49,10 +57,11 @@ def integer_octets(number):
 
 
 class TypeDrawer:
-    """Draws types within a number of octets for their table."""
+    """Draws types within a number of octets for their table, with named BIT STRINGs on request."""
 
-    def __init__(self, dice, room, deepest):
+    def __init__(self, dice, room, deepest, bits=False):
         self.dice, self.room, self.deepest, self.made = dice, room, deepest, []
+        self.leaves = LEAVES_WITH_BITS if bits else LEAVES
 
     def type(self, depth=0):
         """One type; a finished one may be used again."""
@@ -62,15 +71,30 @@ class TypeDrawer:
         wide = depth < self.deepest and self.room > 60
         kind = dice.choice([12, 12, 12, 12, 12, 13, 13, 14, 14, 14, 15, 15, 0] if wide and not depth
                            else [12, 12, 12, 13, 14, 14, 15, 0, 0, 0, 0, 0] if wide else [0])
-        kind = kind or dice.choice([1, 1, 2, 2, 2, 3, 4, 5, 6, 6, 7, 8, 9, 10, 11, 11])
+        kind = kind or dice.choice(self.leaves)
         drawn = Type(kind)
         self.room -= 3
         if kind in der.LIST_KINDS:
             drawn.element = self.type(depth + 1)
         elif kind in (der.SEQUENCE, der.CHOICE):
             self.members(drawn, depth)
+        elif kind == der.NAMED_BIT_STRING:
+            self.names(drawn)
         self.made.append(drawn)
         return drawn
+
+    def names(self, drawn):
+        """Names of bits, with names and numbers that differ."""
+        dice = self.dice
+        count = dice.choice([1, 2, 3, 3, 16] if self.room > 600 else [1, 1, 2, 2, 3])
+        names = dice.sample(BIT_NAMES + ["n%d" % number for number in range(8)], count)
+        numbers = []
+        while len(numbers) < count:
+            number = dice.choice(BIT_NUMBERS) if count < 4 else dice.randrange(64)
+            if number not in numbers:
+                numbers.append(number)
+        drawn.names = [*zip(names, numbers)]
+        self.room -= 26 * count
 
     def members(self, owner, depth):
         """Members with names that differ and tags as the table's conditions ask."""
@@ -133,13 +157,16 @@ def lay_out(dice, root, loose=False):
     place, rows = {}, 0
     for drawn in order:
         place[drawn] = rows
-        rows += 1 + len(drawn.members)
+        rows += 1 + len(drawn.members) + len(drawn.names)
     out = []
     for drawn in order:
         if drawn.kind in der.LIST_KINDS:
             out.append([drawn.kind, bytearray(place[drawn.element].to_bytes(2, "big"))])
             continue
-        out.append([drawn.kind, bytearray([len(drawn.members)] if drawn.kind in (12, 13) else [])])
+        count = len(drawn.members) + len(drawn.names)
+        out.append([drawn.kind, bytearray([count] if drawn.kind in der.FOLLOWERS else [])])
+        for name, number in drawn.names:
+            out.append([der.BIT_NAME, bytearray(name.encode().ljust(24, b"\0") + bytes([number]))])
         for member in drawn.members:
             out.append([16, bytearray(
                 member.name.encode().ljust(24, b"\0") + place[member.type].to_bytes(2, "big")
@@ -157,6 +184,8 @@ def table_octets(rows):
 
 def break_rows(dice, rows):
     """Break one condition of the table in place; the name of the break."""
+    if any(kind == der.BIT_NAME for kind, _ in rows) and dice.random() < 0.7:
+        return break_bits(dice, rows)
     members = [body for kind, body in rows if kind == 16]
     owners = [body for kind, body in rows if kind in (12, 13)]
     lists = [body for kind, body in rows if kind in (14, 15)]
@@ -182,8 +211,7 @@ def break_rows(dice, rows):
     elif what == "element":
         dice.choice(lists)[:] = dice.choice([0, 1, 2, 3, len(rows), 256]).to_bytes(2, "big")
     elif what == "name":
-        body[:24] = dice.choice([b"", b"A", b"a-", b"a--b", b"-a", b"1a", b"a\0b", b"a_b", b"a-b",
-                                 b"abcdefghijklmnopqrstuvw-"]).ljust(24, b"\0")
+        body[:24] = dice.choice(BAD_NAMES).ljust(24, b"\0")
     elif what == "repeat":
         body[:24] = dice.choice(members)[:24]
     elif what == "points":
@@ -205,4 +233,42 @@ def break_rows(dice, rows):
         other = dice.choice(members)
         body[26:28] = other[26:28]
         body[24:26] = dice.choice([body[24:26], max(body[24:26], other[24:26])])
+    return what
+
+
+def break_bits(dice, rows):
+    """Break one condition on rows of kinds 17 and 18 in place, or come close to it; the name of the break."""
+    lists = [at for at, (kind, _) in enumerate(rows) if kind == der.NAMED_BIT_STRING]
+    names = [at for at, (kind, _) in enumerate(rows) if kind == der.BIT_NAME]
+    pointers = [body for kind, body in rows if kind in (14, 15, 16)]
+    what = dice.choice(["count", "count", "name", "fill", "repeat", "repeat", "number", "number", "less", "more", "move", "between", "kind"]
+                       + ["points"] * 2 * bool(pointers))
+    at, other = dice.choice(names), dice.choice(names)
+    body = rows[at][1]
+    if what == "count":
+        stated = rows[dice.choice(lists)][1]
+        stated[0] = dice.choice([0, 1, 2, 3, stated[0] + 1, stated[0] - 1, 16, 17])
+    elif what == "name":
+        body[:24] = dice.choice(BAD_NAMES).ljust(24, b"\0")
+    elif what == "fill":
+        body[dice.choice([1, 22, 23])] = dice.choice([0, 1, 97, 45])
+    elif what == "repeat":
+        size = dice.choice([24, 24, 25])
+        body[:size] = rows[other][1][:size]
+    elif what == "number":
+        body[24] = dice.choice([rows[other][1][24], rows[other][1][24], 63, 64, 65, 128, 255])
+    elif what == "less":
+        del rows[at]
+    elif what == "more":
+        rows.insert(at, [der.BIT_NAME, bytearray(dice.choice([b"y", b"print"]).ljust(24, b"\0") + bytes([dice.choice([5, 60])]))])
+    elif what == "move":
+        rows.insert(dice.randrange(len(rows)), rows.pop(at))
+    elif what == "between":
+        rows.insert(at, [dice.randint(1, 11), bytearray()])
+    elif what == "kind":
+        rows[dice.choice([at, dice.choice(lists)])][0] = dice.choice([0, 7, 12, 13, 16, 17, 18, 19])
+    else:
+        pointer = dice.choice(pointers)
+        place = 24 if len(pointer) == 38 else 0
+        pointer[place:place + 2] = dice.choice([at, dice.choice(lists)]).to_bytes(2, "big")
     return what

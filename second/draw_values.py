@@ -16,6 +16,7 @@ BAD_CONTENTS = {der.BOOLEAN: ["", "01", "FFFF"], der.INTEGER: ["", "007F", "FF80
                 der.ENUMERATED: ["", "0000", "FFFF"], der.NULL: ["00"],
                 der.OBJECT_IDENTIFIER: ["", "8001", "2A80", "9080808000", "2A" * 33],
                 der.BIT_STRING: ["", "01", "08FF", "01FF", "0780FF"],
+                der.NAMED_BIT_STRING: ["", "01", "08FF", "01FF", "0780FF", "0000", "00FE", "05C0", "0640", "0700", "0100", "00C000"],
                 der.UTF8_STRING: ["C080", "EDA080", "F4908080", "80", "E282", "FF"],
                 der.PRINTABLE_STRING: ["40", "2A", "80"], der.IA5_STRING: ["80", "C3A9"]}
 FAULTS = ["length", "tag", "order", "extra", "default", "missing", "contents"]
@@ -27,6 +28,13 @@ def length_octets(size):
         return bytes([size])
     octets = size.to_bytes((size.bit_length() + 7) // 8, "big")
     return bytes([0x80 + len(octets)]) + octets
+
+
+def bits_without_zeros(octets):
+    """Contents of a named BIT STRING: these octets without their trailing zero bits."""
+    octets = octets.rstrip(b"\0")
+    unused = (octets[-1] & -octets[-1]).bit_length() - 1 if octets else 0
+    return bytes([unused]) + octets
 
 
 def subidentifier_octets(number):
@@ -76,7 +84,7 @@ class ValueDrawer:
                 several.sort(reverse=self.spoil("order"))
             contents = b"".join(several)
         else:
-            contents = self.contents(drawn.kind)
+            contents = self.contents(drawn.kind, drawn.names)
             while contents == unlike:
                 contents = self.contents(drawn.kind)
         if self.spoil("extra"):
@@ -102,8 +110,8 @@ class ValueDrawer:
             return self.header(0xA0 + member.number, self.encode(member.type, None, unlike))
         return self.encode(member.type, member.number if member.mode == 2 else None, unlike)
 
-    def contents(self, kind):
-        """Contents octets of a kind 1..11."""
+    def contents(self, kind, names=()):
+        """Contents octets of a kind 1..11 or 17; `names` are the names and numbers of bits."""
         dice = self.dice
         if kind in BAD_CONTENTS and self.spoil("contents"):
             return bytes.fromhex(dice.choice(BAD_CONTENTS[kind]))
@@ -122,6 +130,11 @@ class ValueDrawer:
             octets = [dice.randrange(256) for _ in range(dice.randint(0, min(3, self.longest)))]
             unused = dice.randint(0, 7) if octets else 0
             return bytes([unused] + octets[:-1] + [octet >> unused << unused for octet in octets[-1:]])
+        if kind == der.NAMED_BIT_STRING:
+            ones = sum(1 << 63 - number for _, number in names if dice.random() < 0.6)
+            if dice.random() < 0.25:
+                ones ^= 1 << dice.randrange(64)
+            return bits_without_zeros(ones.to_bytes(8, "big") + (b"\1" if dice.random() < 0.04 else b""))
         if kind == der.GENERALIZED_TIME:
             return dice.choice(BAD_TIMES if self.spoil("contents") else TIMES).encode()
         return "".join(dice.choice(WORDS[kind])

@@ -119,7 +119,7 @@ class Asking:
         rule = rules.find(item.rule)
         if target is None or rule is None or not rules.applies(rule, self.table, target):
             return UNDEFINED
-        asserted = rule.read(item.value)
+        asserted = rules.asserted(rule, self.table, target, item.value)
         if asserted is rules.NOT_CONFORMING:
             return UNDEFINED
         try:

@@ -1,7 +1,7 @@
 """Listings and filters for crates/cases: tables and values, each with what is asked about it.
 
-Like corpus.py this module and those that it draws on, question_filters.py, question_places.py and question_strings.py,
-choose cases; engine.py answers them.
+Like corpus.py this module and those that it draws on, question_filters.py, question_places.py, question_strings.py and
+question_bits.py, choose cases; engine.py answers them.
 """
 
 import random
@@ -9,6 +9,7 @@ import random
 import draw
 import draw_values
 import engine
+import question_bits
 import question_filters
 import question_places
 import question_strings
@@ -123,9 +124,9 @@ def edges(found, seed):
         asked += 1
 
 
-def drawn(found, seed, limits, subjects, filters, listings, where=("none",)):
+def drawn(found, seed, limits, subjects, filters, listings, where=("none",), bits=False):
     """Drawn tables with drawn values, and so many drawn filters and listings about each."""
-    drawer = draw.CaseDrawer(seed, limits)
+    drawer = draw.CaseDrawer(seed, limits, bits)
     dice = drawer.dice
     for _ in range(subjects):
         table, value = drawer.both(dice.choice(where))
@@ -157,6 +158,10 @@ def subjects(hostile):
     drawn(found, 84, draw.SMALL, BROKEN, 2, 2, ("table", "value", "value", "value"))
     drawn(found, 85, draw.LARGE, LARGE, 8, 4)
     question_strings.ask(found)
+    question_bits.ask(found)
+    drawn(found, 86, draw.SMALL, 60, 6, 3, bits=True)
+    drawn(found, 87, draw.SMALL, 40, 2, 1, ("table", "value", "value", "value"), bits=True)
+    drawn(found, 88, draw.LARGE, 8, 6, 3, bits=True)
     return {subject: list(asked) for subject, asked in found.of.items()}
 
 

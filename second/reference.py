@@ -22,7 +22,7 @@ class Named:
     """A named value: the three numbers of the listing, and what a rule is applied to.
 
     `row` is the type row (COUNT_TYPE for a count). `held` is the decoded contents for kinds
-    1..11 and for a CHOICE of them, the number for a count, and None otherwise.
+    1..11 and 17 and for a CHOICE of them, the number for a count, and None otherwise.
     """
 
     source: int
@@ -232,7 +232,7 @@ class Walk:
                 yield from self._along(element, first, last, None, steps[1:])
 
     def _content(self, row, place, end, number):
-        """The decoded contents of a kind 1..11, or of the alternative of a CHOICE."""
+        """The decoded contents of a kind 1..11 or 17, or of the alternative of a CHOICE."""
         kind = self.table.rows[row].kind
         if kind == der.CHOICE:
             member = self._chosen(row, place, end)

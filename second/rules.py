@@ -58,6 +58,23 @@ def bits_of(text):
     return "".join(format(int(digit, 16), "04b") for digit in match.group(2))
 
 
+def named_bits_of(text, numbers):
+    """A named BIT STRING: bits as above, or a GSER list of names in braces (RFC 3641 section 3.5).
+
+    Trailing zero bits are treated as absent (RFC 4517 section 4.2.1); stored values have none. Spaces stand after the opening
+    brace, after a comma and before the closing brace. An unknown name doesn't conform, a repeated one counts once.
+    """
+    if text[:1] != "{" or text[-1:] != "}" or len(text) < 2:
+        bits = bits_of(text)
+        return bits if bits is NOT_CONFORMING else bits.rstrip("0")
+    inner = text[1:-1].strip(" ")
+    names = {name.lstrip(" ") for name in inner.split(",")} if inner else set()
+    if not names <= numbers.keys():
+        return NOT_CONFORMING
+    ones = {numbers[name] for name in names}
+    return "".join("1" if number in ones else "0" for number in range(max(ones, default=-1) + 1))
+
+
 def string_of(text):
     """Strings: quoted, `""` for a quote, at least one character."""
     match = STRING_TEXT.fullmatch(text)
@@ -117,7 +134,7 @@ RULES = (
     Rule("objectIdentifierMatch", "2.5.13.0", (der.OBJECT_IDENTIFIER,), oid_of, equal),
     Rule("octetStringMatch", "2.5.13.17", (der.OCTET_STRING,), octets_of, equal),
     Rule("octetStringOrderingMatch", "2.5.13.18", (der.OCTET_STRING,), octets_of, less),
-    Rule("bitStringMatch", "2.5.13.16", (der.BIT_STRING,), bits_of, equal),
+    Rule("bitStringMatch", "2.5.13.16", der.BIT_KINDS, bits_of, equal),
     Rule("caseIgnoreMatch", "2.5.13.2", der.STRING_KINDS, string_of, same_ignoring_case),
     Rule("caseExactMatch", "2.5.13.5", der.STRING_KINDS, string_of, same_exactly),
     Rule("generalizedTimeMatch", "2.5.13.27", (der.GENERALIZED_TIME,), time_of, equal),
@@ -153,3 +170,10 @@ def applies(rule, table, target):
     if table.rows[target].kind in rule.kinds:
         return True
     return rule.kinds == der.STRING_KINDS and choice_of_strings(table, target)
+
+
+def asserted(rule, table, target, text):
+    """What a value text asserts under a rule for the type that a reference ends at, or NOT_CONFORMING."""
+    if rule.read is bits_of and table.rows[target].kind == der.NAMED_BIT_STRING:
+        return named_bits_of(text, table.bits_by_name(target))
+    return rule.read(text)

@@ -21,6 +21,24 @@ def choice(*members):
     return bytes([13, len(members)]) + b"".join(members)
 
 
+def bit_name(name, number):
+    """A row of kind 18: a bit's name, as a text or as octets, and its number."""
+    name = name.encode() if isinstance(name, str) else name
+    return bytes([18]) + name.ljust(24, b"\0") + bytes([number])
+
+
+def named_bits(*pairs, count=None):
+    """A row of kind 17 and its names of bits, given as pairs of name and number; `count` is another number of names to state."""
+    return bytes([17, len(pairs) if count is None else count]) + b"".join(bit_name(*pair) for pair in pairs)
+
+
+def bit_contents(bits):
+    """Contents octets of a text of 0 and 1."""
+    unused = -len(bits) % 8
+    filled = bits + "0" * unused
+    return bytes([unused]) + bytes(int(filled[at:at + 8], 2) for at in range(0, len(filled), 8))
+
+
 def of(kind, row):
     """A SEQUENCE OF (14) or SET OF (15) row."""
     return bytes([kind]) + row.to_bytes(2, "big")
@@ -97,3 +115,7 @@ def object_class(names=None, description=None, obsolete=None, mandatories=None):
         parts.append(tlv(1, obsolete))
     inner = [] if mandatories is None else [tlv(0xA3, tlv(0x31, *(tlv(6, one) for one in mandatories)))]
     return tlv(0x30, *parts, tlv(0xA0, tlv(0x30, *inner)))
+
+
+# The rights of a licence, from Q-2 of document 02.
+RIGHTS = (("print", 0), ("perform", 1), ("record", 2))

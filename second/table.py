@@ -7,6 +7,8 @@ import der
 
 MOST_ROWS = 128
 MOST_MEMBERS = 16
+MOST_NAMES = 16
+LARGEST_BIT = 63
 LONGEST_CHAIN = 16
 
 NONE, EXPLICIT, IMPLICIT = 0, 1, 2
@@ -16,11 +18,13 @@ MANDATORY, OPTIONAL, DEFAULT = 0, 1, 2
 NAME = re.compile(rb"([a-z][A-Za-z0-9]*(?:-[A-Za-z0-9]+)*)\x00*")
 
 BODY = {**{kind: 0 for kind in range(1, 12)},
-        der.SEQUENCE: 1, der.CHOICE: 1, der.SEQUENCE_OF: 2, der.SET_OF: 2, der.MEMBER: 38}
+        der.SEQUENCE: 1, der.CHOICE: 1, der.SEQUENCE_OF: 2, der.SET_OF: 2, der.MEMBER: 38,
+        der.NAMED_BIT_STRING: 1, der.BIT_NAME: 25}
+FOLLOWING = frozenset(der.FOLLOWERS.values())
 
 
 class NotAdmitted(Exception):
-    """A condition of the section "Type table" does not hold."""
+    """A condition of the section "Type table", or of Q-2 on rows 17 and 18, does not hold."""
 
 
 def need(condition, what):
@@ -31,7 +35,10 @@ def need(condition, what):
 
 @dataclass(frozen=True)
 class Row:
-    """One row: `points` holds the row number that it names, if any."""
+    """One row: `points` holds the row number that it names, if any.
+
+    `count` is the number of rows that follow it. `number` is a member's tag number or the bit number of a row 18.
+    """
 
     kind: int
     count: int = 0
@@ -43,6 +50,13 @@ class Row:
     default: bytes = b""
 
 
+def read_name(field):
+    """The name of a member or of a bit from its field of 24 octets, filled with zeros."""
+    name = NAME.fullmatch(field)
+    need(name, "name")
+    return name.group(1).decode("ascii")
+
+
 def read_row(kind, body):
     """One row from its kind and its body."""
     if kind in (der.SEQUENCE, der.CHOICE):
@@ -51,17 +65,22 @@ def read_row(kind, body):
         return Row(kind, count=body[0])
     if kind in der.LIST_KINDS:
         return Row(kind, points=int.from_bytes(body, "big"))
+    if kind == der.NAMED_BIT_STRING:
+        need(1 <= body[0] <= MOST_NAMES, "names of bits")
+        return Row(kind, count=body[0])
+    if kind == der.BIT_NAME:
+        need(body[24] <= LARGEST_BIT, "bit number")
+        return Row(kind, name=read_name(body[:24]), number=body[24])
     if kind != der.MEMBER:
         return Row(kind)
-    name = NAME.fullmatch(body[:24])
-    need(name, "name")
+    name = read_name(body[:24])
     mode, number, presence, size = body[26:30]
     need(mode in (NONE, EXPLICIT, IMPLICIT), "tag mode")
     need(number <= 30 and (mode != NONE or number == 0), "tag number")
     need(presence in (MANDATORY, OPTIONAL, DEFAULT), "presence")
     need(1 <= size <= 8 if presence == DEFAULT else size == 0, "default length")
     need(not any(body[30 + size:]), "fill of the default")
-    return Row(kind, points=int.from_bytes(body[24:26], "big"), name=name.group(1).decode("ascii"),
+    return Row(kind, points=int.from_bytes(body[24:26], "big"), name=name,
                mode=mode, number=number, presence=presence, default=body[30:30 + size])
 
 
@@ -84,8 +103,8 @@ class Table:
 
     def __init__(self, octets):
         self.rows = read_rows(octets)
-        need(self.rows[0].kind != der.MEMBER, "row 0 is a type")
-        self._check_members_stand_right()
+        need(self.rows[0].kind not in FOLLOWING, "row 0 is a type")
+        self._check_followers_stand_right()
         self._check_pointers()
         self._check_chains()
         self._tags = [frozenset()] * len(self.rows)
@@ -94,9 +113,11 @@ class Table:
         for number, row in enumerate(self.rows):
             if row.kind in (der.SEQUENCE, der.CHOICE):
                 self._check_one_type(number, row)
+            if row.kind == der.NAMED_BIT_STRING:
+                self._check_bits(number)
 
     def members(self, number):
-        """The row numbers of the members or alternatives of a SEQUENCE or CHOICE."""
+        """The row numbers of what follows a SEQUENCE, CHOICE or named BIT STRING: members, alternatives, names of bits."""
         return range(number + 1, number + 1 + self.rows[number].count)
 
     def member_named(self, number, name):
@@ -106,33 +127,37 @@ class Table:
                 return member
         return None
 
+    def bits_by_name(self, number):
+        """The bit number of each name of a named BIT STRING."""
+        return {self.rows[row].name: self.rows[row].number for row in self.members(number)}
+
     def tags(self, number):
         """The tags (class, number) with which a value of this row, type or member, can start."""
         return self._tags[number]
 
-    def _check_members_stand_right(self):
-        """Member rows stand directly after their SEQUENCE or CHOICE and nowhere else."""
-        owned = set()
-        for number, row in enumerate(self.rows):
-            if row.kind in (der.SEQUENCE, der.CHOICE):
-                owned.update(self.members(number))
-        held = {number for number, row in enumerate(self.rows) if row.kind == der.MEMBER}
-        need(owned == held, "member rows")
+    def _check_followers_stand_right(self):
+        """Member rows stand directly after their SEQUENCE or CHOICE, names of bits after their row 17, and nowhere else."""
+        owned = {(member, der.FOLLOWERS[row.kind]) for number, row in enumerate(self.rows) if row.kind in der.FOLLOWERS
+                 for member in self.members(number)}
+        held = {(number, row.kind) for number, row in enumerate(self.rows) if row.kind in FOLLOWING}
+        need(owned == held, "rows that follow another")
 
     def _check_pointers(self):
         """Row numbers point to later rows of types."""
         for number, row in enumerate(self.rows):
             if row.kind in der.LIST_KINDS or row.kind == der.MEMBER:
                 need(number < row.points < len(self.rows), "row number")
-                need(self.rows[row.points].kind != der.MEMBER, "row number of a member")
+                need(self.rows[row.points].kind not in FOLLOWING, "row number of a row that follows another")
 
     def _check_chains(self):
-        """A chain has at most 16 type rows (member rows not counted)."""
+        """A chain has at most 16 type rows (member rows not counted); a row 17 is one, a row 18 none."""
         longest = [0] * len(self.rows)
         for number in reversed(range(len(self.rows))):
             row = self.rows[number]
             if row.kind == der.MEMBER:
                 longest[number] = longest[row.points]
+            elif row.kind == der.BIT_NAME:
+                longest[number] = 0
             elif row.kind in der.LIST_KINDS:
                 longest[number] = 1 + longest[row.points]
             else:
@@ -149,7 +174,15 @@ class Table:
             return frozenset({(der.CONTEXT, row.number)})
         if row.kind == der.CHOICE:
             return frozenset().union(*(self._tags[member] for member in self.members(number)))
+        if row.kind == der.BIT_NAME:
+            return frozenset()
         return frozenset({(der.UNIVERSAL, der.UNIVERSAL_NUMBER[row.kind])})
+
+    def _check_bits(self, number):
+        """Names and numbers in one list differ."""
+        rows = [self.rows[row] for row in self.members(number)]
+        need(len({row.name for row in rows}) == len(rows), "names of bits differ")
+        need(len({row.number for row in rows}) == len(rows), "bit numbers differ")
 
     def _check_one_type(self, number, row):
         """The conditions on the members of one SEQUENCE or CHOICE."""

@@ -4,8 +4,10 @@ import unittest
 from collections import Counter
 
 import corpus
+import der
 import engine
 import filters
+import question_bits
 import question_strings
 import questions
 import reference
@@ -131,6 +133,35 @@ class Files(unittest.TestCase):
                 self.assertTrue(any(leaf(8, string.encode()) in value for value in stored), string)
                 for oid, _ in question_strings.RULES:
                     self.assertIn(item("*", oid, question_strings.quoted(string)).encode(), texts)
+
+    def test_each_bit(self):
+        """Each bit number is asserted by a name, with the number of tests that tells it, and stored as the last bit and above the names."""
+        value = question_bits.of_bits(question_bits.one_bit(number) for number in range(64))
+        told, rows = set(), {}
+        for kind, inputs, line in self.cases:
+            if kind == "f" and inputs[1] == value and b'component "*"' in inputs[2] and b"value {" in inputs[2] and line.startswith("TRUE"):
+                table = rows.setdefault(inputs[0], types.Table(inputs[0]))
+                name = inputs[2].decode().split("value {")[1].split("}")[0]
+                self.assertEqual(line, "TRUE %d" % (table.bits_by_name(1)[name] + 1))
+                told.add(table.bits_by_name(1)[name])
+        self.assertEqual(told, {*range(64)})
+
+    def test_named_bits(self):
+        """Tables, values and questions with rows of kind 17 or 18 stand in all answers."""
+        seen = Counter((kind, corpus.word_of(line)) for kind, inputs, line in self.cases if kind != "p" and self.has_bits(inputs[0]))
+        for kind, words in (("t", ["admitted", "refused 2"]), ("v", ["good", "refused 4"]),
+                            ("f", ["TRUE", "FALSE", "UNDEFINED", "refused 3", "refused 5"]), ("l", ["listed", "refused 3", "refused 6"])):
+            for word in words:
+                self.assertGreaterEqual(seen[kind, word], 100, (kind, word))
+
+    def has_bits(self, octets):
+        """Whether the table holds a whole row of kind 17 or 18 that is where its rows begin."""
+        place = 0
+        while place < len(octets) and octets[place] in types.BODY:
+            if octets[place] in (der.NAMED_BIT_STRING, der.BIT_NAME) and place + types.BODY[octets[place]] < len(octets):
+                return True
+            place += 1 + types.BODY[octets[place]]
+        return False
 
     def test_laws(self):
         kept = None, None, None

@@ -10,7 +10,7 @@ import table as types
 class Node:
     """One decoded value: its type row, its own first octet, its whole length and what it holds.
 
-    `held` is the decoded contents of a kind 1..11, a dict from member row to Node for a
+    `held` is the decoded contents of a kind 1..11 or 17, a dict from member row to Node for a
     SEQUENCE, (alternative's row, Node) for a CHOICE, a list of Nodes for SEQUENCE OF, SET OF.
     """
 
