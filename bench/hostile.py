@@ -1,6 +1,6 @@
 """Inputs that ask for much work: tables, values and filters at their limits. Every answer expected is the second program's."""
 
-from workloads import LONGEST_FILTER, LONGEST_VALUE, Question, samples
+from workloads import LONGEST_FILTER, LONGEST_VALUE, Question, bits, named_bits, samples
 
 choice, item, member, of, sequence, tlv = samples.choice, samples.item, samples.member, samples.of, samples.sequence, samples.tlv
 
@@ -8,6 +8,7 @@ NULL_ROW, INTEGER_ROW, OID_ROW, OCTETS_ROW, BITS_ROW, UTF8_ROW = (bytes([kind]) 
 NULL = tlv(5)
 PRESENT = item(None, "presentMatch", "NULL")
 DEEPEST = 16
+BIT_NAMES = [("m" * 23 + last, at) for at, last in enumerate("abcdefghijklmnop")]
 
 
 def asks(name, table, value, text=PRESENT):
@@ -57,6 +58,9 @@ def tables():
     yield asks("128-rows", INTEGER_ROW * 128, NULL)
     yield asks("129-rows", INTEGER_ROW * 129, NULL)
     yield asks("members-alone", member("m", 1) * 128, NULL)
+    yield asks("bit-names-differ-late", named_bits(BIT_NAMES) * 7 + named_bits(BIT_NAMES[:8]), NULL)
+    yield asks("last-bit-name-twice", named_bits(BIT_NAMES) * 7 + named_bits(BIT_NAMES[:7] + [(BIT_NAMES[6][0], 7)]), NULL)
+    yield asks("bit-names-alone", named_bits([("m", 0)])[2:] * 128, NULL)
 
 
 def values():
@@ -129,6 +133,22 @@ def questions_of_digits():
     yield asks("all-bits", of(14, 1) + BITS_ROW, tlv(0x30, contents(tlv(3, long))), item("*", "bitStringMatch", "'%s'H" % ("AA" * 989 + "AB")))
 
 
+def questions_of_named_bits():
+    """Named bits against long lists of names, long texts of digits and spaces; long stored bits against many lists."""
+    two = named_bits([("a", 0), ("b", 1)])
+    for name, digits, before, fill, after in (("name-repeated", "", "{", "a,", "a}"), ("name-before-another", "1", "{", "a,", "b}"),
+                                              ("name-before-unknown", "1", "{", "a,", "c}"), ("spaces-in-list", "1", "{a,", " ", "b}"),
+                                              ("zeros-in-hex", "1", "'8", "0", "1'H"), ("zeros-in-binary", "1", "'1", "0", "1'B"),
+                                              ("zeros-at-end", "11", "'8", "0", "'H")):
+        yield fills(name, two, bits(digits), "bitStringMatch", before, fill, after)
+    last, other = BIT_NAMES[-1][0], BIT_NAMES[-2][0]
+    yield fills("long-name-repeated", named_bits(BIT_NAMES), bits("0" * 15 + "1"), "bitStringMatch", "{", last + ",", other + "}")
+    yield asks("names-in-items", of(14, 1) + two, tlv(0x30, contents(bits("1"))), items(item("*", "bitStringMatch", "{a,b}")))
+    yield asks("stored-zeros", two, tlv(3, b"\0\x80" + b"\0" * (LONGEST_VALUE - 7) + b"\1"), items(item(None, "bitStringMatch", "{a}")))
+    long = tlv(3, b"\0" + b"\xaa" * 989 + b"\xab")
+    yield asks("all-named-bits", of(14, 1) + two, tlv(0x30, contents(long)), item("*", "bitStringMatch", "'%s'H" % ("AA" * 989 + "A9")))
+
+
 def questions_of_names():
     """References of long names, and one that no type allows."""
     names = ["m" * 23 + last for last in "abcdefghijklmnop"]
@@ -173,5 +193,5 @@ def questions_of_nested_lists():
 
 def questions():
     """All of them."""
-    return [*tables(), *values(), *questions_of_strings(), *questions_of_numbers(), *questions_of_digits(), *questions_of_names(), *questions_of_lists(),
-            *questions_of_nested_lists()]
+    return [*tables(), *values(), *questions_of_strings(), *questions_of_numbers(), *questions_of_digits(), *questions_of_named_bits(), *questions_of_names(),
+            *questions_of_lists(), *questions_of_nested_lists()]

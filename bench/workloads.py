@@ -15,6 +15,7 @@ LONGEST_FILTER, LONGEST_VALUE = 2048, 4096
 PARTS = 250
 SIZES = [64, 128, 256] + list(range(512, LONGEST_VALUE + 1, 512))
 EVENT_TABLE = b"\x08"  # one row, UTF8String
+RIGHTS = [("print", 0), ("perform", 1), ("record", 2)]
 
 
 class Question:
@@ -26,6 +27,10 @@ class Question:
             raise SystemExit("bench: %s: the second program answers %s, expected is %s" % (name, told, answer))
         self.name, self.by_hand, self.timed = name, by_hand, timed
         self.table, self.value, self.text, self.answer = table, value, text, told
+
+    def asked_of(self, side):
+        """Whether an implementation is asked: asn1c's code answers only what is compared by hand."""
+        return side != "asn1c" or self.by_hand != "-"
 
     def line(self):
         """The harness's line."""
@@ -87,6 +92,39 @@ def of_parts():
         yield Question("%d-octets" % size, "seven_copies", table, value, seven, "FALSE %d" % count)
 
 
+def named_bits(names):
+    """The rows of a named BIT STRING, from names and numbers."""
+    return bytes([17, len(names)]) + b"".join(bytes([18]) + name.encode().ljust(24, b"\0") + bytes([number]) for name, number in names)
+
+
+def bits(digits):
+    """A BIT STRING of binary digits."""
+    octets = [digits[at:at + 8].ljust(8, "0") for at in range(0, len(digits), 8)]
+    return samples.tlv(3, bytes([-len(digits) % 8] + [int(octet, 2) for octet in octets]))
+
+
+def rights_table():
+    """SEQUENCE { event UTF8String, parts SEQUENCE OF SEQUENCE { name PrintableString, rights BIT STRING { print(0), perform(1), record(2) } } }."""
+    licence_rows = samples.sequence(samples.member("event", 3), samples.member("parts", 4)) + b"\x08" + samples.of(14, 5)
+    return licence_rows + samples.sequence(samples.member("name", 8), samples.member("rights", 9)) + b"\x09" + named_bits(RIGHTS)
+
+
+def parts_with_rights(count):
+    """Parts of 16 octets, by turns without rights, with one right, another one, and all three."""
+    turns = [("Part %04d", ""), ("Part %03d", "1"), ("Part %03d", "01"), ("Part %03d", "111")]
+    return [samples.tlv(0x30, samples.tlv(0x13, (name % at).encode()), bits(digits)) for at, (name, digits) in zip(range(count), itertools.cycle(turns))]
+
+
+def of_rights():
+    """250 parts with rights; none has exactly the first two. asn1c's code has no names and isn't asked."""
+    table, both = rights_table(), samples.item("parts.*.rights", "bitStringMatch", "{print,perform}")
+    parts, last = parts_with_rights(PARTS), samples.tlv(0x30, samples.tlv(0x13, b"Last one"), bits("11"))
+    yield Question("named-bits", "-", table, sized(LONGEST_VALUE, parts), both, "FALSE %d" % PARTS)
+    value = sized(LONGEST_VALUE, parts[:-1] + [last])
+    yield Question("named-bits-true", "-", table, value, both, "TRUE %d" % PARTS, timed=False)
+    yield Question("named-bits-zeros", "-", table, value, samples.item("parts.*.rights", "bitStringMatch", "'110'B"), "TRUE %d" % PARTS, timed=False)
+
+
 # What the items of the two `or` filters assert. An item: the comparing in harness/by_hand.c, reference, rule, asserted value (a text or a number).
 
 
@@ -140,7 +178,21 @@ def of_items():
 
 def questions():
     """All questions."""
-    return list(of_parts()) + list(of_items())
+    return list(of_parts()) + list(of_items()) + list(of_rights())
+
+
+def further_of_bits():
+    """Named bits: lists of names, digits, bits beyond the names, a reference that goes inside."""
+    rights = rights_table(), licence(parts=parts_with_rights(4))
+    for text in ("{print}", "{ perform, print,perform }", "{}", "'010'B", "'E0'H", "{stage}", "{print ,perform}"):
+        for reference in ("parts.*.rights", "parts.3.rights", "parts.1.rights.print"):
+            yield (*rights, samples.item(reference, "bitStringMatch", text))
+    far = named_bits([("far", 63), ("near", 7), ("a-name-of-24-characters1", 0)])
+    for digits, text in (("0" * 7 + "1", "{near}"), ("0" * 63 + "1", "{ far }"), ("1" + "0" * 99 + "1", "{a-name-of-24-characters1}"), ("", "''B"),
+                         ("11", "'C00'H")):
+        yield far, bits(digits), samples.item(None, "bitStringMatch", text)
+        yield samples.of(15, 1) + far, samples.tlv(0x31, bits(digits), bits(digits)), samples.item("*", "2.5.13.16", text)
+    yield bytes([7]), bits("11"), samples.item(None, "bitStringMatch", "{}")
 
 
 def further():
@@ -160,6 +212,7 @@ def further():
              (bytes([11]), samples.leaf(11, b"20240229120000Z"), "not:" + samples.item(None, "generalizedTimeMatch", '"20240229120000Z"')),
              (samples.LICENCE, samples.RECORD, "and:{%s,or:{},%s}" % (samples.item("parts.0", "integerMatch", 2), samples.item("x", "integerMatch", 2)))]
     asked += [(*strings, samples.item("*", rule, '"%s"' % text)) for rule in ("caseIgnoreMatch", "caseExactMatch") for text in texts + stored]
+    asked += further_of_bits()
     return [Question("further-%d" % at, "-", *question, samples.asked(*question), timed=False) for at, question in enumerate(asked)]
 
 

@@ -125,6 +125,15 @@ pub fn is_bit_string(contents: &[u8]) -> bool {
     }
 }
 
+/// A BIT STRING whose last bit, if it has bits, is 1.
+pub fn is_bit_string_without_trailing_zeros(contents: &[u8]) -> bool {
+    let last_bit = match *contents {
+        [unused, .., last] if unused <= 7 => last >> unused & 1,
+        _ => 1,
+    };
+    is_bit_string(contents) && last_bit == 1
+}
+
 pub fn is_utf8(contents: &[u8]) -> bool {
     std::str::from_utf8(contents).is_ok()
 }
@@ -226,6 +235,21 @@ mod tests {
         assert!(!is_object_identifier(&[]));
         assert!(is_object_identifier(&[1; 32]));
         assert!(!is_object_identifier(&[1; 33]));
+    }
+
+    #[test]
+    fn bit_strings() {
+        let both =
+            |contents: &[u8]| (is_bit_string(contents), is_bit_string_without_trailing_zeros(contents));
+        for contents in [&[0][..], &[0, 1], &[7, 0x80], &[5, 0xE0], &[6, 0, 0x40], &[0, 0xFF, 0xFF]] {
+            assert_eq!(both(contents), (true, true), "{contents:02X?}");
+        }
+        for contents in [&[0, 0][..], &[0, 0xFE], &[5, 0xC0], &[7, 0], &[0, 0x80, 0]] {
+            assert_eq!(both(contents), (true, false), "{contents:02X?}");
+        }
+        for contents in [&[][..], &[1], &[7], &[8, 0], &[0xFF, 0x80], &[6, 0x60], &[1, 1]] {
+            assert_eq!(both(contents), (false, false), "{contents:02X?}");
+        }
     }
 
     #[test]

@@ -3,10 +3,14 @@
 //! A case is a drawn table with a drawn value of its type, either of them broken now and then, and
 //! questions about them. Small domains make equal values likely.
 
-use crate::table::{Basic, Form, Member, Presence, Table, Tagging, Type};
+use crate::table::{Basic, BitName, Form, Member, Presence, Table, Tagging, Type};
 use crate::{check_table, der, list};
 
 const QUESTIONS: usize = 12;
+/// No input of a case is longer (docs/CASES.md): one octet more than the limits.
+const LONGEST_TABLE: usize = 4993;
+const LONGEST_VALUE: usize = 4097;
+const LONGEST_FILTER: usize = 2049;
 const RULES: [(&str, &str); 12] = [
     ("presentMatch", "1.2.36.79672281.1.13.5"),
     ("booleanMatch", "2.5.13.13"),
@@ -60,7 +64,7 @@ impl Draw {
         let octet = match self.below(3) {
             0 => self.next() as u8,
             1 => self.pick(b"\"{},.*: 0-'aT"),
-            _ => self.below(18) as u8,
+            _ => self.below(20) as u8,
         };
         match self.below(5) {
             0 => octets.insert(at, octet),
@@ -72,6 +76,29 @@ impl Draw {
         }
     }
 
+    /// Changes the end of a bit string in the value, if there is any, to one close to it.
+    fn other_bits(&mut self, value: &mut [u8]) {
+        let contents = |at: usize| {
+            let length = usize::from(*value.get(at + 1)?);
+            value.get(at + 2..at + 2 + length).filter(|octets| der::is_bit_string(octets))
+        };
+        let found: Vec<usize> =
+            (0..value.len()).filter(|&at| value[at] == 3 && contents(at).is_some()).collect();
+        if found.is_empty() {
+            return;
+        }
+        let unused = self.pick(&found) + 2;
+        let last = unused + usize::from(value[unused - 1]) - 1;
+        match self.below(4) {
+            0 => value[unused] = value[unused].wrapping_sub(1),
+            1 => value[unused] += 1,
+            // The octet of the last bits: without the last 1, or zero.
+            2 if last > unused => value[last] &= value[last].wrapping_sub(1),
+            _ if last > unused => value[last] = 0,
+            _ => value[unused] = self.pick(&[1, 7, 8, 255]),
+        }
+    }
+
     /// One case.
     pub fn case(&mut self) -> Vec<u8> {
         let mut table = self.table();
@@ -79,19 +106,30 @@ impl Draw {
         let mut questions = Vec::new();
         if let Some(parsed) = Table::parse(&table) {
             value = self.value(&parsed.root, None);
-            value.truncate(4097);
+            value.truncate(LONGEST_VALUE);
             if self.once_in(8) {
                 self.broken(&mut value);
+            } else if self.once_in(20) {
+                self.other_bits(&mut value);
             }
             questions = (0..QUESTIONS).map(|_| self.question(&table, &value, &parsed.root)).collect();
         }
         if self.once_in(10) {
             self.broken(&mut table);
+        } else if self.once_in(10) {
+            table = self.other_bit_names(&table);
         }
+        table.truncate(LONGEST_TABLE);
+        value.truncate(LONGEST_VALUE);
         match self.below(6) {
             0 => [vec![b't'], sized(&table)].concat(),
             1 => {
-                self.broken(&mut value);
+                if self.once_in(3) {
+                    self.other_bits(&mut value);
+                } else {
+                    self.broken(&mut value);
+                    value.truncate(LONGEST_VALUE);
+                }
                 [vec![b'v'], sized(&table), sized(&value)].concat()
             }
             2 if self.once_in(4) => {
@@ -122,15 +160,21 @@ impl Draw {
 
     fn loose_table(&mut self) -> Vec<u8> {
         let most = self.pick(&[4, 10, 20, 40]);
+        // Some tables have many named bit strings, the others none.
+        let named_bits = self.once_in(3);
         let mut rows: Vec<Vec<u8>> = Vec::new();
         // Rows that wait for a type: which, where their row number stands, and whether they are alternatives.
         let mut waiting: Vec<(usize, usize, bool)> = Vec::new();
         loop {
             let row = rows.len();
             let open = row + waiting.len() < most;
-            let kind =
-                if open && (row == 0 || self.once_in(2)) { 12 + self.below(4) } else { 1 + self.below(11) }
-                    as u8;
+            let kind = if named_bits && self.once_in(if row == 0 { 10 } else { 3 }) {
+                17
+            } else if open && (row == 0 || self.once_in(2)) {
+                12 + self.below(4) as u8
+            } else {
+                1 + self.below(11) as u8
+            };
             // Two rows share a type now and then.
             let sharing = if self.once_in(6) { 2 } else { 1 };
             for _ in 0..sharing.min(waiting.len()) {
@@ -155,6 +199,7 @@ impl Draw {
                     waiting.push((row, 1, false));
                     rows.push(vec![kind, 0, 0]);
                 }
+                17 => rows.extend(self.bit_names()),
                 _ => rows.push(vec![kind]),
             }
             if waiting.is_empty() {
@@ -177,6 +222,67 @@ impl Draw {
         row.extend([mode, if mode == 0 { 0 } else { number as u8 }]);
         row.resize(39, 0);
         row
+    }
+
+    /// The rows of a named bit string.
+    fn bit_names(&mut self) -> Vec<Vec<u8>> {
+        let names = self.pick(&[1, 2, 3, 3, 3, 5, 16]);
+        let longest = if self.once_in(8) { "a-very-long-name-of-24-" } else { "right" };
+        let (first, step) = self.pick(&[(0, 1), (0, 1), (0, 1), (6, 1), (48, 1), (63, 63), (5, 7)]);
+        let mut rows = vec![vec![17, names as u8]];
+        for i in 0..names {
+            let name = match ["print", "perform", "record", "a", "x-1"].get(i) {
+                Some(&name) if longest == "right" => name.to_string(),
+                _ => format!("{longest}{}", char::from(b'a' + i as u8)),
+            };
+            let mut row = [&[18], name.as_bytes()].concat();
+            row.resize(25, 0);
+            row.push(((first + i * step) % 64) as u8);
+            // In any place of the list.
+            let at = if self.once_in(2) { rows.len() } else { 1 + self.below(rows.len()) };
+            rows.insert(at, row);
+        }
+        rows
+    }
+
+    /// The table with a change in one of its named bit strings, if it has any.
+    fn other_bit_names(&mut self, table: &[u8]) -> Vec<u8> {
+        let mut rows = rows(table);
+        let heads: Vec<usize> = (0..rows.len()).filter(|&at| rows[at][0] == 17).collect();
+        if heads.is_empty() {
+            return table.to_vec();
+        }
+        let head = self.pick(&heads);
+        let names = usize::from(rows[head][1]);
+        let [one, other] = [(); 2].map(|()| head + 1 + self.below(names));
+        match self.below(9) {
+            0 => rows[one][25] = rows[other][25],
+            1 => {
+                let name = rows[other][1..25].to_vec();
+                rows[one][1..25].copy_from_slice(&name);
+            }
+            2 => rows[one][25] = self.pick(&[0, 1, 62, 63, 64, 65, 128, 255]),
+            3 => rows[head][1] = self.pick(&[0, 1, 2, 15, 16, 17, 255]),
+            4 => rows[one][1 + self.below(10)] = self.pick(b"\0aA-1_ z"),
+            5 => rows.swap(one, other),
+            6 => drop(rows.remove(other)),
+            7 => {
+                let row = rows[other].clone();
+                rows.insert(self.pick(&[head, one, rows.len()]), row);
+                rows[head][1] += self.pick(&[0, 1]);
+            }
+            _ => {
+                // A row number that is a name's.
+                let lists: Vec<usize> =
+                    (0..rows.len()).filter(|&at| matches!(rows[at][0], 14..=16)).collect();
+                if !lists.is_empty() {
+                    let from = self.pick(&lists);
+                    let at = if rows[from][0] == 16 { 25 } else { 1 };
+                    rows[from][at..at + 2].copy_from_slice(&(other as u16).to_be_bytes());
+                }
+            }
+        }
+        rows.concat()
     }
 
     fn presence(&mut self, row: &mut [u8], kind: u8, alternative: bool) {
@@ -249,6 +355,28 @@ impl Draw {
         }
     }
 
+    /// Some bits of a named bit string as digits, the last of them 1.
+    fn bits(&mut self, names: &[BitName]) -> String {
+        let mut set = Vec::new();
+        for _ in 0..self.pick(&[0, 1, 1, 2, 2, 3]) {
+            set.push(usize::from(self.pick(names).bit));
+        }
+        if self.once_in(8) {
+            set.push(self.pick(&[2, 7, 8, 15, 63, 64, 65, 128, 1100]));
+        }
+        let length = set.iter().max().map_or(0, |last| last + 1);
+        (0..length).map(|bit| if set.contains(&bit) { '1' } else { '0' }).collect()
+    }
+
+    /// Good contents of a named bit string, rarely with zeros at the end.
+    fn named_bits(&mut self, names: &[BitName]) -> Vec<u8> {
+        let mut digits = self.bits(names);
+        if self.once_in(60) {
+            digits += self.pick(&["0", "00", "0000", "00000000", "0000000000"]);
+        }
+        packed(&digits)
+    }
+
     fn text(&mut self, from: &[&str]) -> Vec<u8> {
         (0..self.below(6)).flat_map(|_| self.pick(from).bytes()).collect()
     }
@@ -261,6 +389,7 @@ impl Draw {
                 return self.member_value(&members[chosen]);
             }
             Form::Basic(basic) => self.contents(*basic),
+            Form::NamedBits(names) => self.named_bits(names),
             Form::Sequence(members) => {
                 let mut octets = Vec::new();
                 for member in members {
@@ -306,6 +435,15 @@ impl Draw {
         while !self.once_in(4) {
             let next = match &ty.form {
                 Form::Basic(_) => break,
+                Form::NamedBits(names) => {
+                    // No reference goes inside, not even one of a name.
+                    if self.once_in(10) {
+                        let name = String::from_utf8_lossy(self.pick(names).name).into_owned();
+                        text += self.pick(&[&name, &name, "0", "1", "*", "content"]);
+                        return (text, Some(ty));
+                    }
+                    break;
+                }
                 Form::Sequence(members) | Form::Choice(members) => {
                     if members.is_empty() {
                         break;
@@ -351,7 +489,7 @@ impl Draw {
         if self.once_in(8) {
             self.broken(&mut filter);
         }
-        filter.truncate(2049);
+        filter.truncate(LONGEST_FILTER);
         let budget: u64 = match self.below(12) {
             0 => 65_536,
             1..=4 => self.below(4) as u64,
@@ -390,6 +528,7 @@ impl Draw {
         let (suited, text): (&[usize], String) = match target.map(|ty| (&ty.form, ty)) {
             None => (&[2, 3], self.below(4).to_string()),
             Some((Form::Basic(basic), _)) => (suited(*basic), self.asserted(*basic)),
+            Some((Form::NamedBits(names), _)) => (&[7], self.asserted_bits(names)),
             Some((Form::Choice(members), _)) if members.iter().all(|m| is_string(&m.ty)) => {
                 (&[8, 9], self.asserted(Basic::Utf8String))
             }
@@ -419,6 +558,56 @@ impl Draw {
         let defaults = self.pick(&["", "", "useDefaultValues FALSE,", "useDefaultValues TRUE, "]);
         let (before, after) = (self.spaces(), self.spaces());
         format!("item:{{{before}{component}{defaults}rule {rule},{after}value {before}{text}{after}}}")
+    }
+
+    /// A text for a named bit string, of a value that may well be stored: a list of names or digits. Not
+    /// each of them conforms.
+    fn asserted_bits(&mut self, names: &[BitName]) -> String {
+        let mut digits = self.bits(names);
+        if self.once_in(3) {
+            let zeros = self.pick(&[0, 0, 1, 2, 3, 7, 8, 9, 64, 200]);
+            digits.extend(std::iter::repeat_n('0', zeros));
+            if self.once_in(2) {
+                return format!("'{digits}'B");
+            }
+            digits.extend(std::iter::repeat_n('0', digits.len().wrapping_neg() % 4));
+            let nibbles =
+                digits.as_bytes().chunks(4).map(|four| four.iter().fold(0, |n, d| 2 * n + (d - b'0')));
+            return format!("'{}'H", nibbles.map(|nibble| format!("{nibble:X}")).collect::<String>());
+        }
+        let is_set = |name: &&BitName| digits.as_bytes().get(usize::from(name.bit)) == Some(&b'1');
+        let mut listed: Vec<String> =
+            names.iter().filter(is_set).map(|name| String::from_utf8_lossy(name.name).into_owned()).collect();
+        while self.once_in(4) && !listed.is_empty() {
+            let again = listed[self.below(listed.len())].clone();
+            listed.insert(self.below(listed.len() + 1), again);
+        }
+        if self.once_in(12) {
+            let name = String::from_utf8_lossy(self.pick(names).name).into_owned();
+            let near =
+                self.pick(&["", "stage", "0", "A", "Print", "perform1", "recor", "\u{e9}", "\"a\"", "{a}"]);
+            let near = match self.below(4) {
+                0 => name.to_uppercase(),
+                1 => name[..name.len() - 1].to_string(),
+                2 => name + "a",
+                _ => near.to_string(),
+            };
+            listed.insert(self.below(listed.len() + 1), near);
+        }
+        let mut text = String::from("{") + self.spaces();
+        for (i, name) in listed.iter().enumerate() {
+            if i > 0 {
+                let comma = if self.once_in(20) { self.pick(&[" ,", " ", ";", ",,", ", ,"]) } else { "," };
+                text = text + comma + self.spaces();
+            }
+            text += name;
+        }
+        let after = if self.once_in(20) {
+            self.pick(&[",", ", ", "\t", "\u{a0}", "{}", "}{"])
+        } else {
+            self.spaces()
+        };
+        text + after + "}"
     }
 
     /// A text that conforms, of a value that may well be stored.
@@ -456,6 +645,9 @@ impl Draw {
             Basic::BitString => {
                 let bits: String = contents[1..].iter().map(|b| format!("{b:08b}")).collect();
                 let bits = &bits[..bits.len() - usize::from(contents[0])];
+                if self.once_in(10) {
+                    return self.pick(&["{}", "{ }", "{print}", "{a}"]).to_string();
+                }
                 if self.once_in(2) && bits.len() % 8 == 0 {
                     format!("'{}'H", hex(&contents[1..]))
                 } else {
@@ -467,6 +659,34 @@ impl Draw {
             }
         }
     }
+}
+
+/// The rows of a table that has only whole rows.
+fn rows(table: &[u8]) -> Vec<Vec<u8>> {
+    let mut rows = Vec::new();
+    let mut rest = table;
+    while let Some(kind) = rest.first() {
+        let size = match kind {
+            12 | 13 | 17 => 2,
+            14 | 15 => 3,
+            16 => 39,
+            18 => 26,
+            _ => 1,
+        };
+        let (row, after) = rest.split_at(size.min(rest.len()));
+        rows.push(row.to_vec());
+        rest = after;
+    }
+    rows
+}
+
+/// The contents of a BIT STRING of binary digits.
+fn packed(digits: &str) -> Vec<u8> {
+    let octets = digits.as_bytes().chunks(8).map(|eight| {
+        eight.iter().enumerate().fold(0, |octet, (at, &digit)| octet | (digit - b'0') << (7 - at))
+    });
+    let unused = digits.len().wrapping_neg() % 8;
+    std::iter::once(unused as u8).chain(octets).collect()
 }
 
 fn is_string(ty: &Type) -> bool {

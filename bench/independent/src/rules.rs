@@ -3,7 +3,7 @@
 use crate::der;
 use crate::prepare::{is_prepared_to, prepared, Case};
 use crate::reference::Target;
-use crate::table::{Basic, Form, Tagging, Type};
+use crate::table::{Basic, BitName, Form, Tagging, Type};
 use std::cmp::Ordering;
 
 #[derive(Clone, Copy, Debug, PartialEq, Eq)]
@@ -58,10 +58,18 @@ impl Rule {
             Rule::Integer | Rule::IntegerOrdering => is(Basic::Integer),
             Rule::ObjectIdentifier => is(Basic::ObjectIdentifier),
             Rule::OctetString | Rule::OctetStringOrdering => is(Basic::OctetString),
-            Rule::BitString => is(Basic::BitString),
+            Rule::BitString => is(Basic::BitString) || bit_names(target).is_some(),
             Rule::CaseIgnore | Rule::CaseExact => is_string(ty),
             Rule::GeneralizedTime | Rule::GeneralizedTimeOrdering => is(Basic::GeneralizedTime),
         }
+    }
+}
+
+/// The names of the bits, if the target is a BIT STRING that has names.
+fn bit_names<'t>(target: Target<'t>) -> Option<&'t [BitName<'t>]> {
+    match target {
+        Target::Type(Type { form: Form::NamedBits(names), .. }) => Some(names),
+        _ => None,
     }
 }
 
@@ -116,6 +124,8 @@ pub enum Matcher<'f> {
     Octets(Relation, Vec<u8>),
     /// Bits from the first on, the last octet filled with zeros, and their number.
     Bits(Vec<u8>, usize),
+    /// Bits of a type with names, from the first on to the octet of the last bit that is 1.
+    NamedBits(Vec<u8>),
     /// Whether case counts, and the prepared string.
     Text(Case, Vec<u8>),
     Time(Relation, &'f [u8]),
@@ -156,10 +166,13 @@ impl<'f> Matcher<'f> {
             Rule::ObjectIdentifier => Matcher::ObjectIdentifier(subidentifiers(text)?),
             Rule::OctetString => Matcher::Octets(Relation::Equal, octets(text)?),
             Rule::OctetStringOrdering => Matcher::Octets(Relation::Less, octets(text)?),
-            Rule::BitString => {
-                let (packed, number) = bits(text)?;
-                Matcher::Bits(packed, number)
-            }
+            Rule::BitString => match bit_names(target) {
+                Some(names) => Matcher::NamedBits(named_bits(text, names)?),
+                None => {
+                    let (packed, number) = bits(text)?;
+                    Matcher::Bits(packed, number)
+                }
+            },
             Rule::CaseIgnore => Matcher::Text(Case::Fold, prepared(string(text)?, Case::Fold)),
             Rule::CaseExact => Matcher::Text(Case::Keep, prepared(string(text)?, Case::Keep)),
             Rule::GeneralizedTime => Matcher::Time(Relation::Equal, time(text)?),
@@ -181,6 +194,10 @@ impl<'f> Matcher<'f> {
                 [unused, stored @ ..] => {
                     stored.len() * 8 == number + usize::from(*unused) && stored == packed
                 }
+                [] => false,
+            },
+            Matcher::NamedBits(asserted) => match contents {
+                [_, stored @ ..] => without_zeros(stored) == asserted,
                 [] => false,
             },
             Matcher::Text(case, asserted) => is_prepared_to(contents, *case, asserted),
@@ -274,6 +291,41 @@ fn bits(text: &[u8]) -> Option<(Vec<u8>, usize)> {
     Some((packed, digits.len()))
 }
 
+/// The bits of a type with names: a list of the names, or digits as on other types. Zeros at the end
+/// don't count.
+fn named_bits(text: &[u8], names: &[BitName]) -> Option<Vec<u8>> {
+    let packed = if text.starts_with(b"{") { bit_list(text, names)? } else { bits(text)?.0 };
+    Some(without_zeros(&packed).to_vec())
+}
+
+/// `{` [ sp identifier *( `,` sp identifier ) ] sp `}` (RFC 3641), sp being any number of spaces. A name
+/// that stands more than once counts once.
+fn bit_list(text: &[u8], names: &[BitName]) -> Option<Vec<u8>> {
+    let mut inner = text.strip_prefix(b"{")?.strip_suffix(b"}")?;
+    while let [before @ .., b' '] = inner {
+        inner = before;
+    }
+    let mut packed = vec![0u8; 8];
+    if inner.is_empty() {
+        return Some(packed);
+    }
+    for mut name in inner.split(|&b| b == b',') {
+        while let [b' ', after @ ..] = name {
+            name = after;
+        }
+        let bit = usize::from(names.iter().find(|known| known.name == name)?.bit);
+        packed[bit / 8] |= 0x80 >> (bit % 8);
+    }
+    Some(packed)
+}
+
+/// Packed bits up to the last octet that isn't zero. Those of two bit strings are the same exactly if the
+/// bit strings differ in nothing but zero bits at their ends.
+fn without_zeros(packed: &[u8]) -> &[u8] {
+    let used = packed.iter().rposition(|&b| b != 0).map_or(0, |last| last + 1);
+    &packed[..used]
+}
+
 /// The text between double quotes, as it stands.
 fn double_quoted(text: &[u8]) -> Option<&[u8]> {
     text.strip_prefix(b"\"")?.strip_suffix(b"\"")
@@ -333,6 +385,63 @@ mod tests {
         assert_eq!(bits(b"'B"), None);
         assert_eq!(octets(b"'0AF'H"), None);
         assert_eq!(octets(b"'0a'H"), None);
+    }
+
+    #[test]
+    fn named_bit_texts() {
+        let names = [("print", 0), ("perform", 1), ("record", 63)]
+            .map(|(name, bit)| BitName { name: name.as_bytes(), bit });
+        let far = [0x80, 0, 0, 0, 0, 0, 0, 1];
+        for (text, expected) in [
+            ("{}", &[][..]),
+            ("{ }", &[]),
+            ("{   }", &[]),
+            ("{print}", &[0x80]),
+            ("{perform,print}", &[0xC0]),
+            ("{  print,   perform  }", &[0xC0]),
+            ("{ print, print, perform, print }", &[0xC0]),
+            ("{record,print}", &far),
+            ("'110'B", &[0xC0]),
+            ("'11'B", &[0xC0]),
+            ("'C00'H", &[0xC0]),
+            ("'000'B", &[]),
+            ("''H", &[]),
+            ("'0000000000000000000'H", &[]),
+            ("'00000000000000000100'H", &[0, 0, 0, 0, 0, 0, 0, 0, 1]),
+        ] {
+            assert_eq!(named_bits(text.as_bytes(), &names).as_deref(), Some(expected), "{text}");
+        }
+        for bad in [
+            "",
+            "{",
+            "}",
+            "{,}",
+            "{print,}",
+            "{print, }",
+            "{,print}",
+            "{print ,perform}",
+            "{print perform}",
+            "{printperform}",
+            "{print,PERFORM}",
+            "{Print}",
+            "{prin}",
+            "{prints}",
+            "{stage}",
+            "{print,stage}",
+            "{0}",
+            "{\"print\"}",
+            "{{print}}",
+            "{print}{perform}",
+            "{print\t}",
+            "print",
+            "{print",
+            "print}",
+            "'110'",
+            "'12'B",
+            "'c0'H",
+        ] {
+            assert_eq!(named_bits(bad.as_bytes(), &names), None, "{bad}");
+        }
     }
 
     #[test]

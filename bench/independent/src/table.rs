@@ -8,6 +8,8 @@ pub const SIZES: std::ops::RangeInclusive<usize> = 1..=4992;
 const MAX_ROWS: usize = 128;
 const MAX_CHAIN: usize = 16;
 const MAX_MEMBERS: usize = 16;
+const MAX_BIT_NAMES: usize = 16;
+const MAX_BIT: u8 = 63;
 const MAX_TAG: u8 = 30;
 const NAME: usize = 24;
 const DEFAULT: usize = 8;
@@ -18,6 +20,9 @@ const SEQUENCE_OF: u8 = 14;
 const SET_OF: u8 = 15;
 const MEMBER: u8 = 16;
 const MEMBER_BODY: usize = 38;
+const NAMED_BITS: u8 = 17;
+const BIT_NAME: u8 = 18;
+const BIT_NAME_BODY: usize = NAME + 1;
 
 /// A type that has no parts.
 #[derive(Clone, Copy, Debug, PartialEq, Eq)]
@@ -134,10 +139,19 @@ pub struct Type<'t> {
 #[derive(Debug)]
 pub enum Form<'t> {
     Basic(Basic),
+    /// A BIT STRING with names.
+    NamedBits(Vec<BitName<'t>>),
     Sequence(Vec<Member<'t>>),
     Choice(Vec<Member<'t>>),
     SequenceOf(Rc<Type<'t>>),
     SetOf(Rc<Type<'t>>),
+}
+
+/// A name of a bit, with the number of the bit from 0.
+#[derive(Clone, Copy, Debug)]
+pub struct BitName<'t> {
+    pub name: &'t [u8],
+    pub bit: u8,
 }
 
 /// A member of a SEQUENCE or an alternative of a CHOICE.
@@ -174,7 +188,7 @@ impl<'t> Type<'t> {
             other => other.tag().map_or(Tags::NONE, Tags::one),
         };
         let below = match &form {
-            Form::Basic(_) => 0,
+            Form::Basic(_) | Form::NamedBits(_) => 0,
             Form::Sequence(members) | Form::Choice(members) => {
                 members.iter().map(|m| m.ty.chain).max().unwrap_or(0)
             }
@@ -189,6 +203,7 @@ impl Form<'_> {
     pub fn tag(&self) -> Option<u8> {
         match self {
             Form::Basic(basic) => Some(basic.tag()),
+            Form::NamedBits(_) => Some(Basic::BitString.tag()),
             Form::Sequence(_) | Form::SequenceOf(_) => Some(16 | der::CONSTRUCTED),
             Form::SetOf(_) => Some(17 | der::CONSTRUCTED),
             Form::Choice(_) => None,
@@ -207,18 +222,19 @@ impl<'t> Table<'t> {
     /// Reads a table; `None` if it is not admitted.
     pub fn parse(octets: &'t [u8]) -> Option<Table<'t>> {
         let rows = split(octets)?;
-        // From the last row to the first, as rows name later ones: a row that isn't built yet, or is a
-        // member, cannot be named.
+        // From the last row to the first, as rows name later ones: a row that isn't built yet, or is no
+        // type, cannot be named.
         let mut types: Vec<Option<Rc<Type>>> = vec![None; rows.len()];
         for &at in type_rows(&rows)?.iter().rev() {
             let (kind, body) = rows[at];
-            let members = || {
-                let count = usize::from(body[0]);
-                (at + 1..=at + count).map(|row| member(row, rows[row].1, &types)).collect::<Option<Vec<_>>>()
-            };
+            let followers = || at + 1..=at + usize::from(body[0]);
+            let members =
+                || followers().map(|row| member(row, rows[row].1, &types)).collect::<Option<Vec<_>>>();
+            let bit_names = || followers().map(|row| bit_name(rows[row].1)).collect::<Option<Vec<_>>>();
             let form = match kind {
                 SEQUENCE => Form::Sequence(members().filter(|m| is_sequence(m))?),
                 CHOICE => Form::Choice(members().filter(|m| is_choice(m))?),
+                NAMED_BITS => Form::NamedBits(bit_names().filter(|names| is_bit_list(names))?),
                 SEQUENCE_OF => Form::SequenceOf(named(body, &types)?),
                 SET_OF => Form::SetOf(named(body, &types)?),
                 _ => Form::Basic(Basic::from_kind(kind)?),
@@ -238,9 +254,10 @@ fn split(octets: &[u8]) -> Option<Vec<Row<'_>>> {
     let mut rest = octets;
     while let Some((&kind, after)) = rest.split_first() {
         let size = match kind {
-            SEQUENCE | CHOICE => 1,
+            SEQUENCE | CHOICE | NAMED_BITS => 1,
             SEQUENCE_OF | SET_OF => 2,
             MEMBER => MEMBER_BODY,
+            BIT_NAME => BIT_NAME_BODY,
             _ => Basic::from_kind(kind).map(|_| 0)?,
         };
         if rows.len() == MAX_ROWS || after.len() < size {
@@ -253,25 +270,29 @@ fn split(octets: &[u8]) -> Option<Vec<Row<'_>>> {
     (!rows.is_empty()).then_some(rows)
 }
 
-/// The numbers of the rows that are types, if all others are members in their places.
+/// The numbers of the rows that are types, if all others follow one of them as they should.
 fn type_rows(rows: &[Row]) -> Option<Vec<usize>> {
     let mut found = Vec::new();
     let mut at = 0;
     while let Some(&(kind, body)) = rows.get(at) {
-        let members = match kind {
-            MEMBER => return None,
-            SEQUENCE | CHOICE => usize::from(body[0]),
-            _ => 0,
+        let (follower, allowed) = match kind {
+            MEMBER | BIT_NAME => return None,
+            SEQUENCE => (MEMBER, 0..=MAX_MEMBERS),
+            CHOICE => (MEMBER, 1..=MAX_MEMBERS),
+            NAMED_BITS => (BIT_NAME, 1..=MAX_BIT_NAMES),
+            _ => {
+                found.push(at);
+                at += 1;
+                continue;
+            }
         };
-        if members > MAX_MEMBERS || kind == CHOICE && members == 0 {
-            return None;
-        }
-        let owned = rows.get(at + 1..at + 1 + members)?;
-        if owned.iter().any(|row| row.0 != MEMBER) {
+        let count = usize::from(body[0]);
+        let owned = rows.get(at + 1..at + 1 + count)?;
+        if !allowed.contains(&count) || owned.iter().any(|row| row.0 != follower) {
             return None;
         }
         found.push(at);
-        at += 1 + members;
+        at += 1 + count;
     }
     Some(found)
 }
@@ -284,10 +305,7 @@ fn named<'t>(octets: &[u8], types: &[Option<Rc<Type<'t>>>]) -> Option<Rc<Type<'t
 
 fn member<'t>(row: usize, body: &'t [u8], types: &[Option<Rc<Type<'t>>>]) -> Option<Member<'t>> {
     let (name, body) = body.split_at(NAME);
-    let name = unfilled(name, name.iter().position(|&b| b == 0).unwrap_or(NAME))?;
-    if !is_identifier(name) {
-        return None;
-    }
+    let name = identifier(name)?;
     let ty = named(body, types)?;
     let (mode, number, presence, length) = (body[2], body[3], body[4], usize::from(body[5]));
     if number > MAX_TAG || length > DEFAULT {
@@ -321,6 +339,18 @@ fn member<'t>(row: usize, body: &'t [u8], types: &[Option<Rc<Type<'t>>>]) -> Opt
     Some(Member { row, name, ty, tagging, presence, starts })
 }
 
+fn bit_name(body: &[u8]) -> Option<BitName<'_>> {
+    let (name, bit) = body.split_at(NAME);
+    let (name, bit) = (identifier(name)?, bit[0]);
+    (bit <= MAX_BIT).then_some(BitName { name, bit })
+}
+
+/// The name in a field that is filled with zeros.
+fn identifier(field: &[u8]) -> Option<&[u8]> {
+    let length = field.iter().position(|&b| b == 0).unwrap_or(field.len());
+    unfilled(field, length).filter(|name| is_identifier(name))
+}
+
 /// The first `length` octets, if all others are zero.
 fn unfilled(field: &[u8], length: usize) -> Option<&[u8]> {
     let (used, filler) = field.split_at(length);
@@ -337,6 +367,12 @@ fn is_identifier(name: &[u8]) -> bool {
 
 fn names_differ(members: &[Member]) -> bool {
     members.iter().enumerate().all(|(i, m)| members[..i].iter().all(|other| other.name != m.name))
+}
+
+/// Names differ, and so do numbers.
+fn is_bit_list(names: &[BitName]) -> bool {
+    let differ = |one: &BitName, other: &BitName| one.name != other.name && one.bit != other.bit;
+    names.iter().enumerate().all(|(i, own)| names[..i].iter().all(|other| differ(own, other)))
 }
 
 fn is_choice(members: &[Member]) -> bool {

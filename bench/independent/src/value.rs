@@ -1,6 +1,6 @@
 //! The check of a stored value against its type.
 
-use crate::der::Element;
+use crate::der::{self, Element};
 use crate::table::{Form, Member, Presence, Tagging, Type};
 
 /// The size of a value in octets.
@@ -28,6 +28,7 @@ impl Checker<'_> {
         }
         let good = match &ty.form {
             Form::Basic(basic) => basic.admits(element.contents(self.octets)),
+            Form::NamedBits(_) => der::is_bit_string_without_trailing_zeros(element.contents(self.octets)),
             Form::Sequence(members) => self.sequence(members, element),
             Form::SequenceOf(inner) => self.list(inner, element, false),
             Form::SetOf(inner) => self.list(inner, element, true),

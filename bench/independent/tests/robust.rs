@@ -3,6 +3,7 @@
 mod common;
 
 use common::{licence_table, LICENCE};
+use independent::cases::{read_case, read_question, Case, Input, Question};
 use independent::{ask, check_table, check_value, list, part, Truth};
 
 /// Numbers drawn by SplitMix64.
@@ -75,4 +76,52 @@ fn broken_inputs() {
         let _ = ask(&table, &value, &draw.broken(&filter), draw.next() % 4);
     }
     assert!(agreed > 1000);
+}
+
+/// The kinds of the rows of a table.
+fn kinds(table: &[u8]) -> Vec<u8> {
+    let mut found = Vec::new();
+    let mut rest = table;
+    while let [kind, ..] = *rest {
+        found.push(kind);
+        let size = match kind {
+            12 | 13 | 17 => 2,
+            14 | 15 => 3,
+            16 => 39,
+            18 => 26,
+            _ => 1,
+        };
+        rest = rest.get(size..).unwrap_or(&[]);
+    }
+    found
+}
+
+/// Drawn questions are answered. A good part of them is about named bits, with each kind of answer.
+#[test]
+fn drawn_questions() {
+    let mut draw = independent::draw::Draw::new(1);
+    let (mut questions, mut about_bits) = (0, 0);
+    let mut answers = std::collections::BTreeMap::new();
+    for _ in 0..4000 {
+        let drawn = draw.case();
+        let mut input = Input::new(&drawn);
+        let Some(Case::Questions(table, value, count)) = read_case(&mut input) else { continue };
+        let named_bits = kinds(table).contains(&17);
+        for _ in 0..count {
+            questions += 1;
+            about_bits += usize::from(named_bits);
+            if let Question::Filter(filter, budget) = read_question(&mut input).expect("a question") {
+                let answer = ask(table, value, filter, budget).map(|(truth, _)| format!("{truth:?}"));
+                if named_bits && filter.windows(22).any(|word| word == b"bitStringMatch,value {") {
+                    *answers.entry(answer).or_insert(0) += 1;
+                }
+            }
+        }
+    }
+    assert!(about_bits * 6 > questions, "{about_bits} of {questions}");
+    for answer in
+        ["True", "False", "Undefined"].map(|truth| Ok(truth.to_string())).into_iter().chain((1..=5).map(Err))
+    {
+        assert!(answers.get(&answer).is_some_and(|&count| count > 10), "{answer:?} in {answers:?}");
+    }
 }

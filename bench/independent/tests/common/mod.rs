@@ -1,5 +1,8 @@
 //! The licence record of document 01.
 
+// Not every test uses all of it.
+#![allow(dead_code)]
+
 /// A member's row: name, type row, tag mode, tag number, presence, default.
 pub fn member(name: &str, ty: u16, mode: u8, number: u8, presence: u8, default: &[u8]) -> Vec<u8> {
     let mut row = vec![16];
