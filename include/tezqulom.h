@@ -41,7 +41,7 @@ extern "C" {
 #define TEZQULOM_MAX_ROWS 128   /* rows of a table */
 #define TEZQULOM_MAX_CHAIN 16   /* type rows, each naming the next as its element or as its member's type */
 #define TEZQULOM_MAX_MEMBERS 16 /* members of a SEQUENCE, alternatives of a CHOICE */
-#define TEZQULOM_MAX_NAME 24    /* octets of a member's name */
+#define TEZQULOM_MAX_NAME 24    /* octets of a member's name, of a named bit's */
 #define TEZQULOM_MAX_DEPTH 16   /* of a filter */
 #define TEZQULOM_MAX_ITEMS 64   /* of a filter */
 

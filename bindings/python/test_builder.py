@@ -2,6 +2,7 @@
 
 import doctest
 import pathlib
+import re
 import subprocess
 import sys
 import tempfile
@@ -22,13 +23,14 @@ from samples import CLASSES, EXAMPLE, LICENCE, RECORD  # noqa: E402
 
 try:
     from pyasn1.codec.der import encoder
-    from pyasn1.type import char, namedtype, tag, univ, useful
+    from pyasn1.type import char, namedtype, namedval, tag, univ, useful
 except ImportError:
     encoder = None
     print("  pyasn1's classes and records SKIPPED, it is not installed")
 
 DRAWN = 1500
 NOT_FOUND = "not found"
+RIGHTS = {"print": 0, "perform": 1, "record": 2}
 
 
 def load_tests(_loader, tests, _pattern):
@@ -43,6 +45,13 @@ def licence():
     return build.Sequence(event=build.UTF8String(), seats=build.Default(build.Integer(), 1), parts=build.SequenceOf(part))
 
 
+def bit_row(name, number):
+    return b"\x12" + name.encode().ljust(24, b"\0") + bytes([number])
+
+
+RIGHTS_TABLE = b"\x11\3" + b"".join(bit_row(*bit) for bit in RIGHTS.items())
+
+
 class Descriptions(unittest.TestCase):
     """Tables from descriptions."""
 
@@ -55,6 +64,21 @@ class Descriptions(unittest.TestCase):
             part4=build.Explicit(3, build.Choice(eeny_meeny=build.BitString(), miney_mo=build.OctetString())))
         self.assertEqual(Table(build.build(example)).text(), Table(EXAMPLE).text())
         self.assertEqual(tezqulom.check_table(build.build(build.Sequence())), 1)
+
+    def test_named_bits(self):
+        self.assertEqual(build.build(build.BitString(print=0, perform=1, record=2)), RIGHTS_TABLE)
+        self.assertEqual(build.build(build.BitString(RIGHTS)), RIGHTS_TABLE)
+        self.assertEqual(build.build(build.BitString({"a": 63}, b_c=5)), b"\x11\2" + bit_row("a", 63) + bit_row("b-c", 5))
+        self.assertEqual(build.build(build.BitString()), b"\x07")
+        most = build.BitString({"n%d" % at: 4 * at for at in range(16)})
+        self.assertEqual(tezqulom.check_table(build.build(build.Sequence(a=build.Optional(most), b=build.Implicit(0, most), c=build.SetOf(most)))), 56)
+        table = Table(build.build(build.Sequence({"m%d" % at: most for at in range(8)})))
+        self.assertEqual((len(table.rows), table.bits(9)["n3"], table.bits(0)), (26, 12, {}))
+
+    def test_named_bits_text(self):
+        table = Table(build.build(build.Sequence(rights=build.Optional(build.Implicit(0, build.BitString(RIGHTS))), plain=build.BitString())))
+        self.assertEqual(table.text().splitlines(), [
+            "SEQUENCE", "  rights [0] IMPLICIT BIT STRING {print(0), perform(1), record(2)} OPTIONAL", "  plain BIT STRING"])
 
     def test_defaults(self):
         for kind, default, contents in [(build.Boolean(), True, b"\xff"), (build.Boolean(), False, b"\0"), (build.Integer(), -129, b"\xff\x7f"),
@@ -89,12 +113,28 @@ class Descriptions(unittest.TestCase):
                 ("when: no row for UTCTime", build.Sequence(when=build.Optional(build.UTCTime()))), ("s: no row for Set", build.Sequence(s=build.Set(a=1))),
                 ("a: tag number 31, not 0 to 30", build.Sequence(a=build.Implicit(31, build.Integer()))),
                 ("a{25}: a name has at most 24 characters", build.Sequence({"a" * 25: build.Integer()})),
-                ("more than 16 types in one another", deep),
+                ("more than 16 types in one another", deep), ("a: BitString is no description; write", build.Sequence(a=build.BitString)),
+                ("r: named bit print: bit number 64, not 0 to 63", build.Sequence(r=build.BitString(print=64))),
+                ("^named bit print: bit number True, not", build.BitString(print=True)), ("^named bit print: bit number '0'", build.BitString(print="0")),
+                ("^named bit 0: its name is no text", build.BitString({0: 1})),
+                ("r.a{25}: a name has at most 24", build.Sequence(r=build.BitString({"a" * 25: 0}))),
+                ("a: a default on BIT STRING", build.Sequence(a=build.Default(build.BitString(RIGHTS), 1))),
                 ("290 rows, more than 128", build.Sequence(
                     {"m%d" % at: build.Sequence({"n%d-%d" % (at, of): build.Integer() for of in range(16)}) for at in range(16)}))]:
             with self.assertRaisesRegex(build.TableError, sentence):
                 build.build(given)
         self.assertRaises(build.TableError, build.Optional, build.Optional(build.Integer()))
+
+    def test_named_bits_errors(self):
+        for sentence, given in [
+                ("^BIT STRING of 0 names, not 1 to 16", build.BitString({})),
+                ("^BIT STRING of 17 names, not 1 to 16", build.BitString({"n%d" % at: at for at in range(17)})),
+                ("r: named bits a and b have the same number", build.Sequence(r=build.BitString(a=1, b=1))),
+                ("named bit a-b has the name of row 1", build.BitString({"a-b": 0}, a_b=1)),
+                ("r: named bit Print: its name is not a lowercase", build.Sequence(r=build.BitString(Print=0))),
+                ("b: members a and b start with the same tag", build.Sequence(a=build.Optional(build.BitString(RIGHTS)), b=build.BitString()))]:
+            with self.assertRaisesRegex(build.TableError, sentence):
+                build.build(given)
 
     def test_text(self):
         self.assertEqual(Table(LICENCE).text().splitlines()[1:4], ["  event UTF8String", "  seats INTEGER DEFAULT 1", "  parts SEQUENCE OF"])
@@ -140,6 +180,15 @@ class Pyasn1(unittest.TestCase):
             "SEQUENCE", "  c CHOICE", "    a INTEGER", "    b [2] EXPLICIT NULL", "  d [1] EXPLICIT CHOICE OPTIONAL", "    a INTEGER",
             "    b [2] EXPLICIT NULL", "  e BOOLEAN DEFAULT TRUE", "  f GeneralizedTime OPTIONAL", "  g [4] IMPLICIT SEQUENCE OPTIONAL"])
 
+    def test_named_bits(self):
+        rights = type("R", (univ.BitString,), {"namedValues": namedval.NamedValues(*RIGHTS.items())})
+        self.assertEqual(build.build(rights), RIGHTS_TABLE)
+        tagged = rights().subtype(implicitTag=tag.Tag(tag.tagClassContext, tag.tagFormatSimple, 0))
+        table = build.build(self.sequence(namedtype.NamedType("a", tagged), namedtype.NamedType("b", univ.BitString())))
+        self.assertEqual(Table(table).text().splitlines()[1:], ["  a [0] IMPLICIT BIT STRING {print(0), perform(1), record(2)}", "  b BIT STRING"])
+        for names in (["print"], ["perform", "record"], ["print", "record"]):
+            self.assertEqual(encoder.encode(rights(",".join(names))), records.encoded_bits(RIGHTS_TABLE, None, names))
+
     def test_no_row(self):
         application = tag.Tag(tag.tagClassApplication, tag.tagFormatSimple, 1)
         for sentence, given in [("when: no row for UTCTime", useful.UTCTime()), ("when: no row for Any", univ.Any()), ("when: no row for Set", univ.Set()),
@@ -171,7 +220,7 @@ class Causes(unittest.TestCase):
                 continue
             table = Table(case.inputs[0])
             for row in range(len(table.rows)):
-                if table.kind(row) is not Kind.MEMBER:
+                if table.kind(row).is_type:
                     self.assertEqual(tezqulom.check_table(table.after(row)), len(table.rows) - row)
                     self.assertEqual(list(clauses._clauses(table.rows, row)), [])
 
@@ -226,6 +275,98 @@ class Causes(unittest.TestCase):
         self.assertEqual(str(clauses.why_table(LICENCE.replace(b"seats", b"Seats"))).split(",")[0], "row 2: member Seats: its name is not a lowercase letter")
         self.assertIsNone(clauses.why_table(LICENCE))
         self.assertIsNone(records.why_value(LICENCE, RECORD))
+
+    def test_named_tables(self):
+        """Tables near one with named bits: a cause exactly where the engine refuses."""
+        table = build.build(build.Sequence(a=build.BitString(RIGHTS), b=build.SetOf(build.BitString(x=63))))
+        changed = [table[:at] + bytes([octet]) + table[at + 1:] for at in range(len(table)) for octet in (0, 1, 2, 7, 16, 17, 18, 63, 64, 97, table[at] ^ 1)]
+        cut = [table[:at] for at in range(1, len(table))] + [table[at:] for at in range(1, len(table))]
+        moved = [table[:at] + row + table[at:] for at in range(len(table)) for row in (bit_row("y", 9), b"\x11\1", b"\x11\1" + bit_row("y", 9), b"\2")]
+        answers = set()
+        for octets in changed + cut + moved:
+            cause = clauses.why_table(octets)
+            self.assertEqual(cause is None, clauses.admitted(octets), octets.hex())
+            self.assertNotIn(NOT_FOUND, str(cause), octets.hex())
+            answers.add(re.sub("[0-9]+|[a-z]+(?=:| stands| has)", "", str(cause)))
+        self.assertGreaterEqual(len(answers), 20)
+
+    def test_named_sentences(self):
+        one, owner = bit_row("a", 0), b"\x11\1"
+        lists = [b"\x0e\0" + bytes([at + 1]) for at in range(16)]
+        for sentence, octets in [
+                ("row 0: row 0 is a named bit, not a type", one), ("row 0: BIT STRING of 0 names, not 1 to 16", b"\x11\0"),
+                ("row 0: BIT STRING of 17 names, not", b"\x11\x11" + b"".join(bit_row("a%d" % at, at) for at in range(17))),
+                ("row 0: at octet 0: BIT STRING is cut off after 1 of 2 octets", b"\x11"),
+                ("row 1: at octet 2: named bit is cut off after 25 of 26 octets", owner + one[:-1]),
+                ("row 0: the table ends where a named bit is counted: 1 more", owner), ("row 1: INTEGER stands where a named bit is counted", owner + b"\2"),
+                ("row 2: named bit a stands after no BIT STRING that counts it", owner + one + one),
+                ("row 1: named bit a stands after no BIT STRING", b"\x07" + one),
+                ("row 1: named bit stands where a member is counted: 1 more", b"\x0c\1" + one + b"\2"),
+                ("row 1: member stands where a named bit is counted: 1 more", owner + LICENCE[2:41] + one),
+                ("row 1: named bit a: bit number 64, not 0 to 63", owner + bit_row("a", 64)),
+                ("row 1: named bit A: its name is not a lowercase letter", owner + bit_row("A", 0)),
+                ("row 1: named bit without a name: its name is not", owner + bit_row("", 0)),
+                ("row 2: named bit a has the name of row 1", b"\x11\2" + one + bit_row("a", 1)),
+                ("row 2: named bits a and b have the same number", b"\x11\2" + one + bit_row("b", 0)),
+                ("row 0: names row 2, a named bit", b"\x0e\0\2" + owner + one),
+                ("row 0: a chain of 17 type rows, more than 16", b"".join(lists) + owner + one)]:
+            self.assertTrue(str(clauses.why_table(octets)).startswith(sentence), (clauses.why_table(octets), sentence))
+        self.assertEqual(tezqulom.check_table(b"".join(lists[:15]) + owner + one), 17)
+
+    def test_named_values(self):
+        """Contents of up to two octets: a cause exactly where the engine refuses, and a trailing zero bit is said to be one."""
+        trailing = 0
+        for contents in [bytes([unused, last]) for unused in range(10) for last in range(256)] + [b"", b"\0", b"\1", b"\0\0\1", b"\0\1\0", b"\4\0\x10"]:
+            value = b"\3" + bytes([len(contents)]) + contents
+            fault = records.why_value(RIGHTS_TABLE, value)
+            zero = records.why_value(b"\7", value) is None and fault is not None
+            self.assertEqual(": a trailing zero bit" in str(fault), zero, contents)
+            trailing += zero
+            if fault is None:
+                node, = records.tree(RIGHTS_TABLE, value)
+                self.assertEqual((node.value, records.encoded_bits(RIGHTS_TABLE, None, node.names)), (node.value.rstrip("0"), value))
+                self.compare_tree(RIGHTS_TABLE, value)
+        self.assertEqual(trailing, 256)
+        table = build.build(build.Sequence(n=build.Integer(), r=build.Explicit(1, build.BitString(RIGHTS))))
+        self.assertEqual(str(records.why_value(table, bytes.fromhex("3009020105A1040302" "05C0"))),
+                         "at octet 7, r: BIT STRING with contents 05C0: a trailing zero bit, which named bits don't have")
+
+    def test_encoded_bits(self):
+        table = build.build(build.Sequence(n=build.Integer(), r=build.Implicit(0, build.BitString(RIGHTS)), rs=build.SequenceOf(build.BitString(x=63))))
+        for bits, octets in [(["print", "perform"], "030206c0"), ({"record"}, "03020520"), ([], "030100"), ("", "030100"), ("000", "030100"),
+                             ("110", "030206c0"), (["print", 3], "03020490"), ((8,), "0303070080"), (["print", "print"], "03020780")]:
+            self.assertEqual(records.encoded_bits(table, "r", bits).hex(), octets)
+        self.assertEqual(records.encoded_bits(table, "rs.*", ["x"]).hex(), "0309000000000000000001")
+        for error, reference, bits in [(ValueError, "r", ["play"]), (ValueError, "r", "print"), (ValueError, "r", [-1]), (ValueError, "r", [32768]),
+                                       (TypeError, "r", {"print": False}), (TypeError, "r", [True]), (TypeError, "r", [None]), (ValueError, "n", ["print"]),
+                                       (ValueError, None, []), (ValueError, "rs.0", []), (Refused, "x", [])]:
+            self.assertRaises(error, records.encoded_bits, table, reference, bits)
+
+    def test_named_parts(self):
+        table = build.build(build.SequenceOf(build.BitString(RIGHTS)))
+        value = bytes.fromhex("300C" "030206C0" "030100" "030300C001")
+        self.assertEqual([(part.value, part.names) for part in records.parts(table, value, "*")], [
+            ("11", ("print", "perform")), ("", ()), ("1100000000000001", ("print", "perform", 15))])
+        both = tezqulom.item(None, "bitStringMatch", tezqulom.bit_list(["perform", "print"]))
+        self.assertEqual([answer.truth.name for _, answer in records.each(table, value, "*", both)], ["TRUE", "FALSE", "FALSE"])
+        self.compare_tree(table, value)
+
+    def test_named_undefined(self):
+        value = bytes.fromhex("030206C0")
+        for cause, table, text in [
+                ("the value {print,play} doesn't conform for the rule bitStringMatch: no bit has the name play", RIGHTS_TABLE, "{print,play}"),
+                ("the value {PRINT} doesn't conform for the rule bitStringMatch", RIGHTS_TABLE, "{PRINT}"),
+                ("the value {print ,perform} doesn't conform for the rule bitStringMatch", RIGHTS_TABLE, "{print ,perform}"),
+                ("the value {print} doesn't conform for the rule bitStringMatch: the bits there have no names", b"\7", "{print}"),
+                ("the value {} doesn't conform for the rule bitStringMatch", b"\7", "{}")]:
+            line, = filters.explain(table, value, tezqulom.item(None, "bitStringMatch", text))
+            self.assertEqual((line.truth, line.cause), (Truth.UNDEFINED, cause))
+        line, = filters.explain(RIGHTS_TABLE, value, "item:{rule presentMatch,value {play}}")
+        self.assertEqual(line.cause, "the value {play} doesn't conform for the rule presentMatch")
+        line, = filters.explain(RIGHTS_TABLE, value, "item:{rule octetStringMatch,value '00'H}")
+        self.assertEqual(line.cause, "the rule octetStringMatch is not for the type there")
+        self.assertEqual(filters.why_filter(RIGHTS_TABLE, "item:{rule bitStringMatch,value {print}"),
+                         "at character 33: the value's quotes or braces are not closed")
 
     def test_undefined(self):
         for cause, text in [('the reference "seat" is malformed', 'item:{component "seat",rule presentMatch,value NULL}'),
@@ -319,6 +460,15 @@ copies=IMPLICIT:0,INTEGER:3
             subprocess.run(["openssl", "asn1parse", "-genconf", configuration, "-noout", "-out", der], check=True, capture_output=True)
             record = der.read_bytes()
         self.compare(self.table(), record)
+
+    def test_bit_lists(self):
+        """openssl leaves out trailing zero bits of a list of bits."""
+        for bits in ([0], [0, 1], [2], [0, 2, 5], [7], [8], [0, 15], [63]):
+            with tempfile.TemporaryDirectory() as folder:
+                der, text = pathlib.Path(folder, "der"), "FORMAT:BITLIST,BITSTR:" + ",".join(map(str, bits))
+                subprocess.run(["openssl", "asn1parse", "-genstr", text, "-noout", "-out", der], check=True, capture_output=True)
+                self.assertEqual(der.read_bytes(), records.encoded_bits(RIGHTS_TABLE, None, bits))
+                tezqulom.check_value(RIGHTS_TABLE, der.read_bytes())
 
     @unittest.skipIf(encoder is None, "pyasn1 is not installed")
     def test_places_of_pyasn1(self):

@@ -187,6 +187,57 @@ class Statuses(Command):
         self.assertEqual(said(0, "table", "--show", "table")["text"].splitlines()[0], "SEQUENCE")
 
 
+class NamedBits(Command):
+    """A BIT STRING whose bits have names: shown by them, and asked about by them."""
+
+    def setUp(self):
+        super().setUp()
+        (self.folder / "rights.py").write_text("from tezqulom.builder import *\ntable = Sequence(event=UTF8String(), rights=Optional("
+                                               "BitString(print=0, perform=1, record=2)))\n")
+        for name, rights in (("both", "030206C0"), ("none", "030100"), ("more", "030300C001"), ("absent", ""), ("zero", "030205C0")):
+            (self.folder / name).write_bytes(encoded(0x30, b"\x0c\2e1" + bytes.fromhex(rights)))
+
+    def made(self):
+        self.gives(0, "", "table", "rights.py", "-o", "rights")
+
+    def test_table(self):
+        self.made()
+        self.gives(0, "rights: admitted, 8 rows\nboth: good\n", "check", "rights", "both")
+        self.gives(0, "SEQUENCE\n  event UTF8String\n  rights BIT STRING {print(0), perform(1), record(2)} OPTIONAL\n", "table", "--show", "rights")
+        (self.folder / "rights.py").write_text("from tezqulom.builder import *\ntable = Sequence(rights=BitString(print=0, perform=0))\n")
+        self.gives(3, "", "table", "rights.py", error="rights.py: rights: named bits print and perform have the same number\n")
+
+    def test_show(self):
+        self.made()
+        for name, line in [("both", "    6  rights BIT STRING {print, perform}\n"), ("none", "    6  rights BIT STRING {}\n"),
+                           ("more", "    6  rights BIT STRING '1100000000000001'B\n"), ("absent", "")]:
+            self.gives(0, line, "show", "rights", name, "rights")
+        self.assertIn("         rights BIT STRING (absent)\n", self.gives(0, None, "show", "rights", "absent"))
+        self.gives(0, "stored 6 4 rights BIT STRING {print, perform}\n", "list", "rights", "both", "rights")
+
+    def test_ask(self):
+        self.made()
+        for text, status, answer in [("{print,perform}", 0, "TRUE 1"), ("'110'B", 0, "TRUE 1"), ("{print}", 1, "FALSE 1"), ("{play}", 2, "UNDEFINED 0")]:
+            self.gives(status, answer + "\n", "ask", "rights", "both", tezqulom.item("rights", "bitStringMatch", text))
+        self.assertIn("  because the value {play} doesn't conform for the rule bitStringMatch: no bit has the name play\n",
+                      self.gives(2, None, "explain", "rights", "both", tezqulom.item("rights", "bitStringMatch", "{play}")))
+
+    def test_refused(self):
+        self.made()
+        self.gives(3, "zero: refused 4: the value is not one of the table's type: at octet 6, rights: BIT STRING with contents 05C0: "
+                   "a trailing zero bit, which named bits don't have\n", "why", "rights", "zero")
+        (self.folder / "cut").write_bytes(b"\x11\1")
+        self.gives(3, "cut: refused 2: the table is not admitted: row 0: the table ends where a named bit is counted: 1 more\n", "why", "cut")
+
+    def test_json(self):
+        self.made()
+        for name, value, names in [("both", "11", ["print", "perform"]), ("none", "", []), ("more", "1100000000000001", ["print", "perform", 15])]:
+            shown, = json.loads(self.gives(0, None, "show", "rights", name, "rights", "--json"))
+            listed, = json.loads(self.gives(0, None, "list", "rights", name, "rights", "--json"))
+            for found in (shown, listed):
+                self.assertEqual((found["kind"], found["value"], found["names"]), ("BIT STRING", value, names))
+
+
 class Forms(Command):
     """DER, hexadecimal digits and PEM; standard input; names and values that don't print."""
 

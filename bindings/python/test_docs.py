@@ -1,4 +1,4 @@
-"""The examples of the README's first steps and of the GUIDE's cookbook, each run."""
+"""The examples of the README's first steps and of the GUIDE's cookbook and rights, each run."""
 
 import doctest
 import os
@@ -47,10 +47,29 @@ class Examples(unittest.TestCase):
         self.addCleanup(shutil.rmtree, self.folder)
         self.environment = {**os.environ, "PATH": os.pathsep.join((str(ROOT / "bindings"), os.environ["PATH"])), "TEZQULOM_LIBRARY": library.file}
 
-    def records(self):
-        """The cookbook's records."""
-        rows = re.findall(r"^\| `(\w)` \| `([0-9A-F ]+)` \|", section(GUIDE, "Cookbook"), flags=re.MULTILINE)
+    def records(self, title="Cookbook"):
+        """The records of a section."""
+        rows = re.findall(r"^\| `(\w)` \| `([0-9A-F ]+)` \|", section(GUIDE, title), flags=re.MULTILINE)
         return {name: bytes.fromhex(octets) for name, octets in rows}
+
+    def questions(self, title, table, names, least):
+        """The questions of a section about records of these names."""
+        records = self.records(title)
+        self.assertEqual(sorted(records), sorted(names))
+        rows = re.findall(r"^\| ([^|]+) \| `([a-z]+:.*)` \| (\w+) \| (\w+) \| (\w+) \|$", section(GUIDE, title), flags=re.MULTILINE)
+        self.assertGreaterEqual(len(rows), least)
+        for question, text, *truths in rows:
+            self.assertEqual([tezqulom.ask(table, records[name], text).truth.name for name in names], truths, question)
+
+    def interact(self, title, least):
+        """The Python examples of a section, in the folder."""
+        code = "\n".join(re.findall(r"```python\n(.*?)```", section(GUIDE, title), flags=re.DOTALL))
+        here = os.getcwd()
+        os.chdir(self.folder)
+        self.addCleanup(os.chdir, here)
+        test = doctest.DocTestParser().get_doctest(code, {}, title, None, 0)
+        self.assertGreaterEqual(len(test.examples), least)
+        self.assertEqual(doctest.DocTestRunner().run(test).failed, 0)
 
     def play(self, text, least):
         """Run transcripts, in one folder, one after another."""
@@ -61,8 +80,8 @@ class Examples(unittest.TestCase):
                                   stderr=subprocess.STDOUT, timeout=60)
             self.assertEqual(done.stdout.decode(), printed, given)
 
-    def fill(self):
-        for name, octets in {"licence.table": LICENCE, **self.records()}.items():
+    def fill(self, title="Cookbook"):
+        for name, octets in {"licence.table": LICENCE, **self.records(title)}.items():
             (self.folder / name).write_bytes(octets)
 
     def test_first_steps(self):
@@ -72,12 +91,7 @@ class Examples(unittest.TestCase):
         self.play(section(README, "First steps"), 7)
 
     def test_cookbook(self):
-        records = self.records()
-        self.assertEqual(sorted(records), ["a", "b", "c"])
-        rows = re.findall(r"^\| ([^|]+) \| `([a-z]+:.*)` \| (\w+) \| (\w+) \| (\w+) \|$", section(GUIDE, "Cookbook"), flags=re.MULTILINE)
-        self.assertGreaterEqual(len(rows), 18)
-        for question, text, *truths in rows:
-            self.assertEqual([tezqulom.ask(LICENCE, records[name], text).truth.name for name in "abc"], truths, question)
+        self.questions("Cookbook", LICENCE, "abc", 18)
 
     def test_transcripts(self):
         self.fill()
@@ -85,13 +99,20 @@ class Examples(unittest.TestCase):
 
     def test_python(self):
         self.fill()
-        code = "\n".join(re.findall(r"```python\n(.*?)```", section(GUIDE, "Cookbook"), flags=re.DOTALL))
-        here = os.getcwd()
-        os.chdir(self.folder)
-        self.addCleanup(os.chdir, here)
-        test = doctest.DocTestParser().get_doctest(code, {}, "cookbook", None, 0)
-        self.assertGreaterEqual(len(test.examples), 12)
-        self.assertEqual(doctest.DocTestRunner().run(test).failed, 0)
+        self.interact("Cookbook", 12)
+
+    def test_rights(self):
+        """The table that the builder makes is that of the rows, and the answers are those of the questions."""
+        title = "Rights as named bits"
+        self.fill(title)
+        self.play(section(GUIDE, title), 6)
+        table = (self.folder / "rights.table").read_bytes()
+        rows = re.findall(r"^\| \d \| (\d+) \| ([^|]+) \|", section(GUIDE, title), flags=re.MULTILINE)
+        written = [re.sub("00 x ([0-9]+)", lambda zeros: "00" * int(zeros[1]), octets.replace("`", "")) for _, octets in rows]
+        self.assertEqual(table.hex(), "".join(written).replace(" ", "").lower())
+        self.assertEqual([int(place) for place, _ in rows], [len(bytes.fromhex("".join(written[:at]))) for at in range(len(rows))])
+        self.questions(title, table, "def", 7)
+        self.interact(title, 9)
 
     def test_bindings(self):
         code = re.search(r"```python\n(.*?)```", (ROOT / "docs" / "BINDINGS.md").read_text(encoding="utf-8"), flags=re.DOTALL).group(1)

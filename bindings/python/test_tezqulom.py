@@ -17,7 +17,7 @@ from collections import Counter
 import tezqulom
 import tezqulom.engine
 import tezqulom.values
-from tezqulom import Answer, Count, Default, Kind, Refusal, Refused, Stored, Time, Truth, quoted, value_of
+from tezqulom import Answer, Count, Default, Kind, Refusal, Refused, Stored, Time, Truth, bit_list, quoted, value_of
 from tezqulom.library import library
 
 ROOT = pathlib.Path(__file__).resolve().parents[2]
@@ -184,6 +184,72 @@ class Document(unittest.TestCase):
             self.assertEqual(str(caught.exception), sentence)
 
 
+class NamedBits(unittest.TestCase):
+    """A BIT STRING whose bits have names, alone and as a licence's rights; document 02's Q-2."""
+
+    ROWS = b"".join(b"\x12" + name.ljust(24, b"\0") + bytes([number]) for number, name in enumerate((b"print", b"perform", b"record")))
+    RIGHTS = b"\x11\3" + ROWS
+
+    def truth(self, stored, asserted, table=RIGHTS):
+        answer = tezqulom.ask(table, bytes.fromhex(stored), tezqulom.item(None, "bitStringMatch", asserted))
+        self.assertEqual(answer.tests, answer.truth is not Truth.UNDEFINED)
+        return answer.truth.name
+
+    def test_answers(self):
+        """Stored print and perform; no bits; bits above the last name."""
+        both, none, more = "030206C0", "030100", "030300C001"
+        for stored, asserted, truth in [
+                (both, "{print,perform}", "TRUE"), (both, "{perform,print}", "TRUE"), (both, "{  print,   perform  }", "TRUE"),
+                (both, "{ print, print, perform, print }", "TRUE"), (both, "{print}", "FALSE"), (both, "{print,perform,record}", "FALSE"),
+                (both, "{}", "FALSE"),
+                (both, "'11'B", "TRUE"), (both, "'110'B", "TRUE"), (both, "'C'H", "TRUE"), (both, "'C00'H", "TRUE"), (both, "'C'B", "UNDEFINED"),
+                (both, "'111'B", "FALSE"), (both, "''B", "FALSE"),
+                (none, "{}", "TRUE"), (none, "{ }", "TRUE"), (none, "{   }", "TRUE"), (none, "''B", "TRUE"), (none, "''H", "TRUE"), (none, "'0000'B", "TRUE"),
+                (none, "{record}", "FALSE"), (more, "'C001'H", "TRUE"), (more, "'C0010'H", "TRUE"), (more, "{print,perform}", "FALSE"),
+                (both, "{print,play}", "UNDEFINED"), (both, "{print,PERFORM}", "UNDEFINED"), (both, "{print ,perform}", "UNDEFINED"),
+                (both, "{print,}", "UNDEFINED"), (both, "{,print}", "UNDEFINED"), (both, "{print perform}", "UNDEFINED"), (both, "print", "UNDEFINED"),
+                (both, "{print}x", "UNDEFINED"), (both, "{print\u00a0}", "UNDEFINED"), (both, "{{print}}", "UNDEFINED"), (both, '{"print"}', "UNDEFINED")]:
+            self.assertEqual(self.truth(stored, asserted), truth, (stored, asserted))
+
+    def test_numbers(self):
+        """The number is the bit, not the place in the list."""
+        table = b"\x11\2" + self.ROWS[:25] + b"\x3f" + self.ROWS[26:51] + b"\0"
+        self.assertEqual(self.truth("03020780", "{perform}", table), "TRUE")
+        self.assertEqual(self.truth("0309000000000000000001", "{print}", table), "TRUE")
+
+    def test_unnamed(self):
+        """A BIT STRING without names counts trailing zero bits and takes no list."""
+        for stored, asserted, truth in [("030206C0", "'11'B", "TRUE"), ("030206C0", "'110'B", "FALSE"), ("030205C0", "'110'B", "TRUE"),
+                                        ("030206C0", "{print}", "UNDEFINED"), ("030100", "{}", "UNDEFINED")]:
+            self.assertEqual(self.truth(stored, asserted, b"\7"), truth, (stored, asserted))
+
+    def test_values(self):
+        for contents, good in [("00", True), ("06C0", True), ("00FF", True), ("00C001", True), ("0480", False), ("05C0", False), ("00FE", False),
+                               ("0700", False), ("000000", False), ("00C000", False), ("06C1", False), ("0880", False), ("01", False), ("", False)]:
+            value = b"\3" + bytes([len(contents) // 2]) + bytes.fromhex(contents)
+            if good:
+                self.assertIsNone(tezqulom.check_value(self.RIGHTS, value))
+            else:
+                with self.assertRaises(Refused) as caught:
+                    tezqulom.check_value(self.RIGHTS, value)
+                self.assertIs(caught.exception.refusal, Refusal.VALUE, contents)
+
+    def test_unclosed(self):
+        with self.assertRaises(Refused) as caught:
+            tezqulom.ask(self.RIGHTS, b"\3\1\0", "item:{rule bitStringMatch,value {print}")
+        self.assertIs(caught.exception.refusal, Refusal.FORM)
+
+    def test_other_rules(self):
+        for rule, text, truth in [("presentMatch", "NULL", Truth.TRUE), ("2.5.13.16", "{print}", Truth.FALSE), ("octetStringMatch", "'00'H", Truth.UNDEFINED)]:
+            self.assertIs(tezqulom.ask(self.RIGHTS, b"\3\1\0", tezqulom.item(None, rule, text)).truth, truth)
+
+    def test_value_of(self):
+        for octets, bits in [("030206C0", "11"), ("030100", ""), ("800206C0", "11"), ("030300C001", "1100000000000001")]:
+            self.assertEqual(value_of(Kind.NAMED_BIT_STRING, bytes.fromhex(octets)), bits)
+        for octets in ("030205C0", "0300", "03020701"):
+            self.assertRaises(ValueError, value_of, Kind.NAMED_BIT_STRING, bytes.fromhex(octets))
+
+
 def carried(record):
     """Whether a record has a part with three copies: a worker's question."""
     return tezqulom.ask(LICENCE, record, P1)
@@ -235,6 +301,14 @@ class Quoting(unittest.TestCase):
             room = (ctypes.c_uint8 * size)(*[7] * size)
             given = library.tezqulom_quote(text, len(text), room, size)
             self.assertEqual((given.number, given.count, bytes(room)), answer)
+
+    def test_bit_list(self):
+        for names, text in [(["print", "perform"], "{print,perform}"), ([], "{}"), ({"b", "a-b", "c9"}, "{a-b,b,c9}"), (("a", "a"), "{a,a}")]:
+            self.assertEqual(bit_list(names), text)
+        for name in self.HOSTILE[:8] + ["", "Print", "a--b", "a-", "a,b", "a b", "a}", "é", "a\n", "9"]:
+            self.assertRaises(ValueError, bit_list, ["print", name])
+        for names in ("print", b"print", {"print": 0}, [b"print"], [5], 5):
+            self.assertRaises(TypeError, bit_list, names)
 
     def test_no_quoted_form(self):
         for text in ("", b"\xff", b"\xed\xa0\x80"):

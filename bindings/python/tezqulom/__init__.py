@@ -18,7 +18,8 @@ A list of two INTEGERs, and whether one of them is below 6:
     >>> value_of(Kind.INTEGER, part(value, 5, 3))
     5
 
-A text goes into a filter by `quoted`, never by itself: `item("event", "caseExactMatch", quoted(event))`.
+A text goes into a filter by `quoted`, never by itself: `item("event", "caseExactMatch", quoted(event))`. Names of bits go into it by `bit_list`:
+`item("rights", "bitStringMatch", bit_list(["print", "perform"]))`.
 
 `tezqulom.builder` makes tables; `python -m tezqulom` is the command. The shared library is the file that the
 environment variable TEZQULOM_LIBRARY names, else libtezqulom.so beside the package or in a folder above it, else
@@ -26,12 +27,12 @@ target/bindings/libtezqulom.so of the repository; docs/BINDINGS.md says how it i
 """
 
 from .engine import (MOST_TESTS, Answer, Component, Count, Default, NotQuoted, Octets, Refusal, Refused, Stored, Text,
-                     Truth, ask, asker, check_table, check_value, item, list_into, listing, part, quoted,
+                     Truth, ask, asker, bit_list, check_table, check_value, item, list_into, listing, part, quoted,
                      quoted_by_library, room_for)
 from .values import Kind, Time, value_of
 from .version import VERSION
 
 __version__ = VERSION
 __all__ = ["MOST_TESTS", "Answer", "Component", "Count", "Default", "Kind", "NotQuoted", "Octets", "Refusal", "Refused",
-           "Stored", "Text", "Time", "Truth", "ask", "asker", "check_table", "check_value", "item", "list_into",
+           "Stored", "Text", "Time", "Truth", "ask", "asker", "bit_list", "check_table", "check_value", "item", "list_into",
            "listing", "part", "quoted", "quoted_by_library", "room_for", "value_of"]

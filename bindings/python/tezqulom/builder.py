@@ -7,7 +7,14 @@
     206
 
 In a name that is a keyword argument `_` stands for a hyphen; names can be given in a dict as well. Tags and presence stand on members:
-`Explicit(0, ..)`, `Implicit(0, ..)`, `Optional(..)`, `Default(.., value)`, in any order. A type that has no row is an error that names the member:
+`Explicit(0, ..)`, `Implicit(0, ..)`, `Optional(..)`, `Default(.., value)`, in any order. A BIT STRING whose bits have names is written with their
+numbers, as in ASN.1:
+
+    >>> Rights = BitString(print=0, perform=1, record=2)
+    >>> len(build(Rights))
+    80
+
+A type that has no row is an error that names the member:
 
     >>> build(Sequence(event=UTF8String(), seats=Integer))
     Traceback (most recent call last):
@@ -25,14 +32,13 @@ from typing import Any, Callable, Dict, Iterator, List, NamedTuple, Optional as 
 from . import clauses
 from .engine import check_table
 from .rows import CONTEXT, DEFAULT, EXPLICIT, IMPLICIT, MANDATORY, MOST_ROWS, NONE, OPTIONAL, Row
-from .values import Kind, integer_contents
+from .values import NAME_FIELD, Kind, integer_contents
 
 __all__ = ["BitString", "Boolean", "Choice", "Default", "Enumerated", "Explicit", "GeneralizedTime", "IA5String", "Implicit", "Integer", "Null",
            "ObjectIdentifier", "OctetString", "Optional", "PrintableString", "Sequence", "SequenceOf", "Set", "SetOf", "TableError", "UTCTime", "UTF8String",
            "build"]
 
 MOST_CHAINED = clauses.MOST_CHAINED
-_LONGEST_NAME = 24
 
 
 class TableError(ValueError):
@@ -40,10 +46,11 @@ class TableError(ValueError):
 
 
 class Type(NamedTuple):
-    """A description: a kind, and what is in it, by name (a list's element has the name `*`)."""
+    """A description: a kind, what is in it, by name (a list's element has the name `*`), and the numbers of bits that have names."""
 
     kind: Kind
     below: Tuple[Tuple[str, Any], ...] = ()
+    bits: Tuple[Tuple[str, int], ...] = ()
 
 
 class Marked(NamedTuple):
@@ -66,7 +73,7 @@ def _basic(kind: Kind) -> Callable[[], Type]:
 
 
 Boolean, Integer, Enumerated, Null, ObjectIdentifier, OctetString = map(_basic, list(Kind)[:6])
-BitString, UTF8String, PrintableString, IA5String, GeneralizedTime = map(_basic, list(Kind)[6:11])
+UTF8String, PrintableString, IA5String, GeneralizedTime = map(_basic, list(Kind)[7:11])
 
 
 class Rowless(NamedTuple):
@@ -85,20 +92,24 @@ def Set(members: Maybe[Dict[str, Any]] = None, /, **named: Any) -> Rowless:
     return Rowless("Set")
 
 
-def _named(kind: Kind, members: Maybe[Dict[str, Any]], named: Dict[str, Any]) -> Type:
-    """A description by names."""
-    given = tuple((members or {}).items()) + tuple((name.replace("_", "-"), one) for name, one in named.items())
-    return Type(kind, given)
+def _named(given: Maybe[Dict[str, Any]], named: Dict[str, Any]) -> Tuple[Tuple[str, Any], ...]:
+    """What is given by names."""
+    return tuple((given or {}).items()) + tuple((name.replace("_", "-"), one) for name, one in named.items())
 
 
 def Sequence(members: Maybe[Dict[str, Any]] = None, /, **named: Any) -> Type:
     """SEQUENCE of named members, in this order."""
-    return _named(Kind.SEQUENCE, members, named)
+    return Type(Kind.SEQUENCE, _named(members, named))
 
 
 def Choice(alternatives: Maybe[Dict[str, Any]] = None, /, **named: Any) -> Type:
     """CHOICE of named alternatives."""
-    return _named(Kind.CHOICE, alternatives, named)
+    return Type(Kind.CHOICE, _named(alternatives, named))
+
+
+def BitString(names: Maybe[Dict[str, int]] = None, /, **named: int) -> Type:
+    """BIT STRING; with names and their bits' numbers a named one, in which trailing zero bits don't count."""
+    return Type(Kind.BIT_STRING) if names is None and not named else Type(Kind.NAMED_BIT_STRING, bits=_named(names, named))
 
 
 def SequenceOf(element: Any) -> Type:
@@ -174,11 +185,13 @@ class _Builder:
         described = keyed[1]
         holder = described.kind in (Kind.SEQUENCE, Kind.CHOICE)
         below = [(name, one, self._key(path, name, one.type)) for name, one in described.below]
-        head = Row(described.kind, count=len(below)) if holder else Row(described.kind, to=below[0][2] if below else None)
-        self._add(head, path)
+        count = len(below) if holder else len(described.bits)
+        self._add(Row(described.kind, count=count, to=below[0][2] if below and not holder else None), path)
+        for name, number in described.bits:
+            self._add(Row(Kind.NAMED_BIT, name=_field(name), number=number), path)
         for name, one, key in below if holder else ():
             default = b"" if one.default is None else integer_contents(one.default) if one.type.kind is not Kind.BOOLEAN else b"\xff" if one.default else b"\0"
-            self._add(Row(Kind.MEMBER, to=key, name=name.encode().ljust(_LONGEST_NAME, b"\0"), mode=one.mode, number=one.number,
+            self._add(Row(Kind.MEMBER, to=key, name=_field(name), mode=one.mode, number=one.number,
                           presence=one.presence, size=len(default), filled=default.ljust(8, b"\0")), _path(path, name))
 
     def _key(self, path: str, name: str, described: Type) -> Any:
@@ -187,6 +200,11 @@ class _Builder:
     def _add(self, row: Row, path: str) -> None:
         self.rows.append(row)
         self.paths.append(path)
+
+
+def _field(name: str) -> bytes:
+    """A name, filled with zeros."""
+    return name.encode().ljust(NAME_FIELD, b"\0")
 
 
 def _path(path: str, name: str) -> str:
@@ -217,6 +235,7 @@ def _settled(given: Any, path: str, depth: int = 1) -> Type:
     if depth > MOST_CHAINED:
         raise _fail(path, "more than %d types in one another" % MOST_CHAINED)
     described = given if isinstance(given, Type) else _of_pyasn1(given, path)
+    _check_bits(described, path)
     holder = described.kind in (Kind.SEQUENCE, Kind.CHOICE)
     below = []
     for name, one in described.below:
@@ -227,13 +246,28 @@ def _settled(given: Any, path: str, depth: int = 1) -> Type:
         below.append((name, marked._replace(type=_settled(marked.type, where, depth + 1))))
         if marked.presence == DEFAULT:
             _check_default(below[-1][1], where)
-    return Type(described.kind, tuple(below))
+    return described._replace(below=tuple(below))
+
+
+def _check_name(name: str, where: str) -> None:
+    """What a row can't hold of a name."""
+    if len(name.encode("utf-8", "replace")) > NAME_FIELD:
+        raise _fail(where, "a name has at most %d characters" % NAME_FIELD)
+
+
+def _check_bits(described: Type, path: str) -> None:
+    """What rows can't hold of named bits."""
+    for name, number in described.bits:
+        if not isinstance(name, str):
+            raise _fail(path, "named bit %r: its name is no text" % (name,))
+        _check_name(name, _path(path, name))
+        if isinstance(number, bool) or not isinstance(number, int) or not 0 <= number <= clauses.MOST_BIT:
+            raise _fail(path, "named bit %s: bit number %r, not 0 to %d" % (name, number, clauses.MOST_BIT))
 
 
 def _check_member(marked: Marked, name: str, where: str) -> None:
     """What a row can't hold of a member."""
-    if len(name.encode("utf-8", "replace")) > _LONGEST_NAME:
-        raise _fail(where, "a name has at most %d characters" % _LONGEST_NAME)
+    _check_name(name, where)
     if not isinstance(marked.number, int) or not 0 <= marked.number <= clauses.MOST_TAG:
         raise _fail(where, "tag number %s, not 0 to %d" % (marked.number, clauses.MOST_TAG))
 
@@ -304,6 +338,8 @@ def _of_pyasn1(given: Any, path: str) -> Type:
         return Type(kind, (("*", given.componentType),))
     if kind in (Kind.SEQUENCE, Kind.CHOICE):
         return Type(kind, tuple((one.name, _pyasn1_member(one, _path(path, one.name))) for one in given.componentType.namedTypes))
+    if kind is Kind.BIT_STRING and given.namedValues:
+        return BitString(dict(given.namedValues.items()))
     return Type(kind)
 
 

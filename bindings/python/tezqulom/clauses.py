@@ -9,15 +9,20 @@ from typing import Iterator, List, NamedTuple, Optional
 
 from .engine import Octets, Refusal, Refused, check_table
 from .rows import CONSTRUCTED, CONTEXT, DEFAULT, IMPLICIT, MANDATORY, MOST_ROWS, NONE, OPTIONAL, EXPLICIT, Row, Unreadable, from_row, read
-from .values import Kind, printable
+from .values import NAME_FIELD, Kind, printable
 
 MOST_MEMBERS = 16
+MOST_NAMES = 16
 MOST_CHAINED = 16
 MOST_TAG = 30
+MOST_BIT = 63
 _NAME = re.compile(rb"[a-z](-?[A-Za-z0-9])*")
 _LISTS = (Kind.SEQUENCE_OF, Kind.SET_OF)
 _HOLDERS = (Kind.SEQUENCE, Kind.CHOICE)
 _DEFAULTED = (Kind.BOOLEAN, Kind.INTEGER, Kind.ENUMERATED)
+_FOLLOWERS = {Kind.SEQUENCE: Kind.MEMBER, Kind.CHOICE: Kind.MEMBER, Kind.NAMED_BIT_STRING: Kind.NAMED_BIT}
+_OWNERS = {Kind.MEMBER: "SEQUENCE or CHOICE", Kind.NAMED_BIT: "BIT STRING"}
+_BAD_NAME = "its name is not a lowercase letter, then letters, digits and single hyphens, no hyphen last"
 
 
 class Cause(NamedTuple):
@@ -68,7 +73,7 @@ def cause_in(rows: List[Row]) -> Cause:
 
 
 def _types_from_last(rows: List[Row]) -> Iterator[int]:
-    return (row for row in reversed(range(len(rows))) if rows[row].kind is not Kind.MEMBER)
+    return (row for row in reversed(range(len(rows))) if rows[row].kind.is_type)
 
 
 def _admits_from(rows: List[Row], row: int) -> bool:
@@ -83,29 +88,42 @@ def _placing(rows: List[Row]) -> Iterator[tuple]:
     """Clauses on where rows stand: they hold for the whole table."""
     if len(rows) > MOST_ROWS:
         yield None, "the table has %d rows, not 1 to %d" % (len(rows), MOST_ROWS)
-    if rows[0].kind is Kind.MEMBER:
-        yield 0, "row 0 is a member, not a type"
-    owed = 0
+    if not rows[0].kind.is_type:
+        yield 0, "row 0 is a %s, not a type" % rows[0].kind.asn1
+    follower, owed = Kind.MEMBER, 0
     for at, row in enumerate(rows):
-        if row.kind is Kind.MEMBER:
-            if not owed:
-                yield at, "member %s stands after no SEQUENCE or CHOICE that counts it" % _shown(row)
-            owed -= 1
+        if owed and row.kind is not follower:
+            yield at, "%s stands where a %s is counted: %d more" % (row.kind.asn1, follower.asn1, owed)
+        if row.kind.is_type:
+            follower, owed = _FOLLOWERS.get(row.kind, follower), row.count
             continue
-        if owed:
-            yield at, "%s stands where a member is counted: %d more" % (row.kind.asn1, owed)
-        owed = row.count
+        if not owed:
+            yield at, "%s stands after no %s that counts it" % (_called(row), _OWNERS[row.kind])
+        owed = max(0, owed - 1)
     if owed:
-        yield len(rows) - 1, "the table ends where a member is counted: %d more" % owed
+        yield len(rows) - 1, "the table ends where a %s is counted: %d more" % (follower.asn1, owed)
 
 
 def _shown(row: Row) -> str:
     return printable(row.identifier) or "without a name"
 
 
+def _called(row: Row) -> str:
+    return "%s %s" % (row.kind.asn1, _shown(row))
+
+
+def _good_name(row: Row) -> bool:
+    """Whether the octets of a name are one, filled with zeros."""
+    name = row.name.rstrip(b"\0")
+    return b"\0" not in name and _NAME.fullmatch(name) is not None
+
+
 def _clauses(rows: List[Row], row: int) -> Iterator[tuple]:
-    """Clauses on one type row and its members."""
+    """Clauses on one type row and the rows that follow it as its own."""
     kind, count = rows[row].kind, rows[row].count
+    if kind is Kind.NAMED_BIT_STRING:
+        yield from _named_bits(rows, row, range(row + 1, row + 1 + count))
+        return
     if kind in _HOLDERS and not (kind is Kind.CHOICE) <= count <= MOST_MEMBERS:
         yield row, "%s of %d members, not %d to %d" % (kind.asn1, count, kind is Kind.CHOICE, MOST_MEMBERS)
     members = range(row + 1, row + 1 + count)
@@ -114,7 +132,7 @@ def _clauses(rows: List[Row], row: int) -> Iterator[tuple]:
         if sentence is not None:
             yield at, sentence
     for at in members:
-        yield from ((at, "member %s: %s" % (_shown(rows[at]), sentence)) for sentence in _member(rows, at, kind))
+        yield from ((at, "%s: %s" % (_called(rows[at]), sentence)) for sentence in _member(rows, at, kind))
     yield from _names(rows, members)
     chain = _chain(rows, row)
     if len(chain) > MOST_CHAINED:
@@ -122,24 +140,39 @@ def _clauses(rows: List[Row], row: int) -> Iterator[tuple]:
     yield from _same_tags(rows, members, kind)
 
 
+def _named_bits(rows: List[Row], row: int, bits: range) -> Iterator[tuple]:
+    """Clauses on a named BIT STRING and its named bits."""
+    if not 1 <= len(bits) <= MOST_NAMES:
+        yield row, "BIT STRING of %d names, not 1 to %d" % (len(bits), MOST_NAMES)
+    for at in bits:
+        if not _good_name(rows[at]):
+            yield at, "%s: %s" % (_called(rows[at]), _BAD_NAME)
+        if rows[at].number > MOST_BIT:
+            yield at, "%s: bit number %d, not 0 to %d" % (_called(rows[at]), rows[at].number, MOST_BIT)
+    yield from _names(rows, bits)
+    for at in bits:
+        for other in range(bits.start, at):
+            if rows[other].number == rows[at].number:
+                yield at, "named bits %s and %s have the same number" % (_shown(rows[other]), _shown(rows[at]))
+
+
 def _pointer(rows: List[Row], at: int) -> Optional[str]:
     """What is wrong with the row that a row names."""
     to = rows[at].to or 0
-    whose = "member %s: " % _shown(rows[at]) if rows[at].kind is Kind.MEMBER else ""
+    whose = "%s: " % _called(rows[at]) if rows[at].kind is Kind.MEMBER else ""
     if to <= at:
         return whose + "names row %d, not a later one" % to
     if to >= len(rows):
         return whose + "names row %d, the last one is %d" % (to, len(rows) - 1)
-    return whose + "names row %d, a member" % to if rows[to].kind is Kind.MEMBER else None
+    return None if rows[to].kind.is_type else whose + "names row %d, a %s" % (to, rows[to].kind.asn1)
 
 
 def _member(rows: List[Row], at: int, owner: Kind) -> Iterator[str]:
     """What is wrong with a member's own fields."""
     row = rows[at]
     kind = rows[row.to or 0].kind
-    name = row.name.rstrip(b"\0")
-    if b"\0" in name or not _NAME.fullmatch(name):
-        yield "its name is not a lowercase letter, then letters, digits and single hyphens, no hyphen last"
+    if not _good_name(row):
+        yield _BAD_NAME
     if row.mode > IMPLICIT:
         yield "tag mode %d, not 0 to 2" % row.mode
     if row.number > (0 if row.mode == NONE else MOST_TAG):
@@ -171,16 +204,16 @@ def _default(row: Row, kind: Kind) -> Iterator[str]:
 
 def _good_default(row: Row, kind: Kind) -> bool:
     """Whether the engine takes a default's contents in a table of this member alone."""
-    alone = row._replace(to=2, mode=NONE, number=0, name=b"a".ljust(24, b"\0"))
+    alone = row._replace(to=2, mode=NONE, number=0, name=b"a".ljust(NAME_FIELD, b"\0"))
     return admitted(b"".join(one.octets() for one in (Row(Kind.SEQUENCE, count=1), alone, Row(kind))))
 
 
 def _names(rows: List[Row], members: range) -> Iterator[tuple]:
-    """Members that bear an earlier one's name."""
+    """Members, or named bits, that bear an earlier one's name."""
     for at in members:
         for other in range(members.start, at):
             if rows[other].name == rows[at].name:
-                yield at, "member %s has the name of row %d" % (_shown(rows[at]), other)
+                yield at, "%s has the name of row %d" % (_called(rows[at]), other)
 
 
 def _chain(rows: List[Row], row: int) -> List[int]:

@@ -147,7 +147,7 @@ def show(options: argparse.Namespace, inputs: Inputs) -> int:
 def node_line(node: records.Node) -> str:
     """A component in one line: place, name, kind, value."""
     place = "%5d" % node.place if node.source == "stored" else " " * 5
-    value = " " + gser(node.kind, node.value) if node.kind.basic and node.source != "absent" else ""
+    value = " " + gser(node.kind, node.value, node.names) if node.kind.basic and node.source != "absent" else ""
     if node.elements is not None:
         value = ", " + counted(node.elements, "element")
     mark = "" if node.source == "stored" else " (%s)" % node.source
@@ -183,15 +183,16 @@ def list_(options: argparse.Namespace, inputs: Inputs) -> int:
 
 def part_json(part: records.Part) -> Dict[str, Any]:
     """A listed component for JSON."""
-    named = part.component
-    return {"source": type(named).__name__.lower(), **named._asdict(), "reference": part.reference, "kind": part.kind.asn1, "value": plain_json(part.value)}
+    named, names = part.component, {} if part.names is None else {"names": part.names}
+    return {"source": type(named).__name__.lower(), **named._asdict(), "reference": part.reference, "kind": part.kind.asn1, "value": plain_json(part.value),
+            **names}
 
 
 def part_line(part: records.Part) -> str:
     """A listed component in one line: source, place, number, reference, kind, value."""
     named = part.component
     reference = part.reference + " " if part.reference else ""
-    return "%s %d %d %s%s %s" % (type(named).__name__.lower(), *named, reference, part.kind.asn1, gser(part.kind, part.value))
+    return "%s %d %d %s%s %s" % (type(named).__name__.lower(), *named, reference, part.kind.asn1, gser(part.kind, part.value, part.names))
 
 
 def check(options: argparse.Namespace, inputs: Inputs) -> int:

@@ -2,7 +2,8 @@
 
 import ctypes
 import enum
-from typing import Any, Callable, List, Mapping, NamedTuple, NoReturn, Optional, Sequence, Tuple, Union
+import re
+from typing import Any, Callable, Iterable, List, Mapping, NamedTuple, NoReturn, Optional, Sequence, Tuple, Union
 
 from .library import CAnswer, library
 
@@ -17,6 +18,7 @@ MOST_TESTS = 65535
 
 _DONE = 0
 _LARGEST = 2 ** 64 - 1
+_NAME = re.compile("[a-z](-?[A-Za-z0-9])*")
 
 
 class Truth(enum.Enum):
@@ -357,8 +359,27 @@ def _quoted_here(octets: bytes) -> bytes:
     return b'"' + octets.replace(b'"', b'""') + b'"'
 
 
+def bit_list(names: Iterable[str]) -> str:
+    """Names of bits as the GSER list that stands for them in a filter, for bitStringMatch on a BIT STRING whose bits have names.
+
+    A ValueError for what is no name, so nothing in it can end its item. A name that no bit has makes the item Undefined.
+
+    >>> bit_list(["print", "perform"]), bit_list([])
+    ('{print,perform}', '{}')
+    """
+    if isinstance(names, (str, bytes, Mapping)):
+        raise TypeError("names: a list or set of names is needed, not %s" % type(names).__name__)
+    given = sorted(names) if isinstance(names, (set, frozenset)) else list(names)
+    for name in given:
+        if not isinstance(name, str):
+            raise TypeError("names: str is needed, not %s" % type(name).__name__)
+        if not _NAME.fullmatch(name):
+            raise ValueError("names: %r is no name of a bit" % name)
+    return "{%s}" % ",".join(given)
+
+
 def item(reference: Optional[str], rule: str, value: str, defaults: bool = True) -> str:
-    """An item of a filter. The value is a GSER text: make one of a text by `quoted`.
+    """An item of a filter. The value is a GSER text: make one of a text by `quoted`, of names of bits by `bit_list`.
 
     >>> item("event", "caseExactMatch", quoted("e1"))
     'item:{component "event",rule caseExactMatch,value "e1"}'

@@ -4,15 +4,17 @@ import re
 from typing import Callable, Iterator, List, NamedTuple, Optional, Union
 
 from .engine import Answer, Octets, Refusal, Refused, Text, Truth, ask, item, listing
+from .rows import Table
 from .values import Kind
 
 MOST_DEPTH = 16
 MOST_ITEMS = 64
 
-# For each kind a value and asserted values that conform for its rules; presentMatch is for any.
+# For each kind a value and asserted values that conform for its rules; presentMatch is for any. A BIT STRING's conform for a named one too.
 _SAMPLES = ((Kind.BOOLEAN, "0101FF", "TRUE"), (Kind.INTEGER, "020100", "0"), (Kind.OBJECT_IDENTIFIER, "06012A", "1.2"),
             (Kind.OCTET_STRING, "040100", "'00'H"), (Kind.BIT_STRING, "030100", "'0'B"), (Kind.IA5_STRING, "160161", '"a"'),
             (Kind.GENERALIZED_TIME, "180F32303234303130313030303030305A", '"20240101000000Z"'), (Kind.NULL, "0500", "NULL"))
+_BIT_LIST = re.compile(r"\{ *[a-z][A-Za-z0-9-]*(?:, *[a-z][A-Za-z0-9-]*)* *\}")
 
 
 class Malformed(ValueError):
@@ -239,7 +241,18 @@ def _cause(table: Octets, value: Octets, found: Item) -> str:
         return "the rule %s is unknown" % found.rule
     if not any(_defined(table, value, found.reference, found.rule, text) for _, _, text in _SAMPLES):
         return "the rule %s is not for the type there" % found.rule
-    return "the value %s doesn't conform for the rule %s" % (found.value, found.rule)
+    return "the value %s doesn't conform for the rule %s%s" % (found.value, found.rule, _unnamed(Table(table), found))
+
+
+def _unnamed(table: Table, found: Item) -> str:
+    """What is wrong with a list of names of bits."""
+    row = table.reached(found.reference)
+    if row is None or not _BIT_LIST.fullmatch(found.value) or not _defined(bytes([Kind.BIT_STRING]), b"\3\1\0", None, found.rule, "'0'B"):
+        return ""
+    if table.kind(row) is Kind.BIT_STRING:
+        return ": the bits there have no names"
+    unknown = [name for name in re.findall("[^{}, ]+", found.value) if name not in table.bits(row)]
+    return ": no bit has the name %s" % unknown[0] if table.kind(row) is Kind.NAMED_BIT_STRING and unknown else ""
 
 
 def _allowed(table: Octets, value: Octets, reference: str) -> bool:

@@ -4,9 +4,10 @@ from typing import Iterator, List, NamedTuple, Optional, Tuple
 
 from .engine import Answer, Component, Count, Default, Octets, Refusal, Refused, Text, asker, check_value, counted, listing, part
 from .rows import CONSTRUCTED, DEFAULT, EXPLICIT, MANDATORY, Member, Table
-from .values import Kind, Plain, contents_of, encoded, gser, integer_contents, plain
+from .values import Bits, Kind, Names, Plain, bit_string_contents, contents_of, encoded, gser, integer_contents, named_bits, plain
 
 _MOST_SHOWN = 32
+_NO_VALUE = b"\0\0"
 
 
 class Node(NamedTuple):
@@ -25,6 +26,8 @@ class Node(NamedTuple):
     """The value of a basic kind."""
     elements: Optional[int] = None
     """The number of elements of a list."""
+    names: Optional[Names] = None
+    """The bits that are 1 of a stored named BIT STRING: their names, and the numbers of those that have none."""
 
 
 def _joined(reference: str, identifier: object) -> str:
@@ -49,7 +52,8 @@ class _Tree:
         start, end = self.end(place)
         node = Node(depth, name, reference, kind, "stored", place, end - place)
         if kind.basic:
-            yield node._replace(value=plain(kind, self.octets[start:end]))
+            contents = self.octets[start:end]
+            yield node._replace(value=plain(kind, contents), names=self.table.names(row, contents))
         elif kind in (Kind.SEQUENCE_OF, Kind.SET_OF):
             places = list(self.places(start, end))
             yield node._replace(elements=len(places))
@@ -145,6 +149,8 @@ class Part(NamedTuple):
     octets: bytes
     stored: bytes = b""
     """The octets as they are stored; none of a default and a count."""
+    names: Optional[Names] = None
+    """The bits that are 1 of a named BIT STRING, as a Node has them."""
 
     @property
     def value(self) -> Plain:
@@ -167,13 +173,32 @@ def _part(named: _Named, one: Component) -> Part:
         return Part(one, exact, rows.kind(row), rows.after(row), rows.default_octets(Member(one.row, rows.rows[one.row])))
     assert row is not None
     octets, tag = part(named.octets, one.place, one.length), rows.kind(row).tag
-    return Part(one, exact, rows.kind(row), rows.after(row), octets if tag is None else bytes([tag]) + octets[1:], octets)
+    own = octets if tag is None else bytes([tag]) + octets[1:]
+    return Part(one, exact, rows.kind(row), rows.after(row), own, octets, rows.names(row, contents_of(octets)))
 
 
 def each(table: Octets, value: Octets, reference: Optional[str], filter_text: Text) -> List[Tuple[Part, Answer]]:
     """A filter about each component that a reference names: its references start at that component. Refused as `listing` and `ask` are."""
     found = parts(table, value, reference)
     return [(one, asker(one.table, filter_text)(one.octets)) for one in found]
+
+
+def encoded_bits(table: Octets, reference: Optional[str], bits: Bits) -> bytes:
+    """Bits as a value of the named BIT STRING that a reference reaches, with its own tag and without a trailing zero bit.
+
+    They are names, with numbers for bits that have none, or a text of 0 and 1. A ValueError for a name that no bit has, and where the reference
+    reaches another type. Refused: SIZE, TABLE, FORM, as a listing is.
+    """
+    try:
+        listing(table, _NO_VALUE, reference)
+    except Refused as refused:
+        if refused.refusal is not Refusal.VALUE:
+            raise
+    found = Table(table)
+    row = found.reached(reference)
+    if row is None or found.kind(row) is not Kind.NAMED_BIT_STRING:
+        raise ValueError("%s is no BIT STRING whose bits have names" % (reference or "the whole value"))
+    return encoded(Kind.NAMED_BIT_STRING.tag or 0, bit_string_contents(named_bits(found.bits(row), bits)))
 
 
 class Fault(NamedTuple):
@@ -269,7 +294,7 @@ class _Search:
         if self.good(row, place, end):
             return end
         if kind.basic:
-            raise _Found(place, reference, "%s with contents %s" % (kind.asn1, self.shown(start, end)))
+            raise _Found(place, reference, "%s with contents %s%s" % (kind.asn1, self.shown(start, end), self.trailing(kind, place, end)))
         if kind is Kind.SEQUENCE:
             self.members(row, start, end, reference)
         else:
@@ -283,6 +308,16 @@ class _Search:
         except Refused:
             return False
         return True
+
+    def trailing(self, kind: Kind, place: int, end: int) -> str:
+        """The cause in a named BIT STRING that is good but for its names."""
+        if kind is not Kind.NAMED_BIT_STRING:
+            return ""
+        try:
+            check_value(bytes([Kind.BIT_STRING]), bytes([Kind.BIT_STRING.tag or 0]) + self.octets[place + 1:end])
+        except Refused:
+            return ""
+        return ": a trailing zero bit, which named bits don't have"
 
     def starts(self, member: Member, place: int) -> bool:
         """Whether the tag octet at a place can be a member's first."""

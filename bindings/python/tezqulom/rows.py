@@ -3,14 +3,16 @@
 from typing import Dict, Iterator, List, NamedTuple, Optional, Tuple
 
 from .engine import Octets, check_table
-from .values import Kind, Plain, encoded, plain
+from .values import NAME_FIELD, Kind, Names, Plain, encoded, names_of, plain
 
 NONE, EXPLICIT, IMPLICIT = 0, 1, 2
 MANDATORY, OPTIONAL, DEFAULT = 0, 1, 2
 CONTEXT, CONSTRUCTED = 0x80, 0x20
 MEMBER_BODY = 38
 MOST_ROWS = 128
-_BODIES = {Kind.SEQUENCE: 1, Kind.CHOICE: 1, Kind.SEQUENCE_OF: 2, Kind.SET_OF: 2, Kind.MEMBER: MEMBER_BODY}
+_COUNTED = (Kind.SEQUENCE, Kind.CHOICE, Kind.NAMED_BIT_STRING)
+_BODIES = {**dict.fromkeys(Kind, 0), **dict.fromkeys(_COUNTED, 1), Kind.SEQUENCE_OF: 2, Kind.SET_OF: 2, Kind.MEMBER: MEMBER_BODY,
+           Kind.NAMED_BIT: NAME_FIELD + 1}
 
 
 class Unreadable(ValueError):
@@ -26,13 +28,14 @@ class Row(NamedTuple):
 
     kind: Kind
     count: int = 0
-    """The members of a SEQUENCE, the alternatives of a CHOICE."""
+    """The members of a SEQUENCE, the alternatives of a CHOICE, the names of a named BIT STRING."""
     to: Optional[int] = None
     """The row that an element or a member is of."""
     name: bytes = b""
-    """A member's 24 octets of name."""
+    """The 24 octets of a member's name, or a named bit's."""
     mode: int = NONE
     number: int = 0
+    """A member's tag number, or a named bit's number."""
     presence: int = MANDATORY
     size: int = 0
     """The length of a default."""
@@ -41,7 +44,7 @@ class Row(NamedTuple):
 
     @property
     def identifier(self) -> str:
-        """A member's name."""
+        """A member's name, or a named bit's."""
         return self.name.rstrip(b"\0").decode("ascii", "backslashreplace")
 
     @property
@@ -52,8 +55,10 @@ class Row(NamedTuple):
     def octets(self, less: int = 0) -> bytes:
         """The row's octets, with the row number in it less by so much."""
         head = bytes([self.kind])
-        if self.kind in (Kind.SEQUENCE, Kind.CHOICE):
+        if self.kind in _COUNTED:
             return head + bytes([self.count])
+        if self.kind is Kind.NAMED_BIT:
+            return head + self.name + bytes([self.number])
         pointer = b"" if self.to is None else (self.to - less).to_bytes(2, "big")
         if self.kind is not Kind.MEMBER:
             return head + pointer
@@ -62,10 +67,12 @@ class Row(NamedTuple):
 
 def _row(kind: Kind, body: bytes) -> Row:
     """The row of a kind and its body."""
-    if kind in (Kind.SEQUENCE, Kind.CHOICE):
+    if kind in _COUNTED:
         return Row(kind, count=body[0])
+    if kind is Kind.NAMED_BIT:
+        return Row(kind, name=body[:NAME_FIELD], number=body[NAME_FIELD])
     if kind is Kind.MEMBER:
-        return Row(kind, to=int.from_bytes(body[24:26], "big"), name=body[:24], mode=body[26], number=body[27], presence=body[28],
+        return Row(kind, to=int.from_bytes(body[24:26], "big"), name=body[:NAME_FIELD], mode=body[26], number=body[27], presence=body[28],
                    size=body[29], filled=body[30:])
     return Row(kind, to=int.from_bytes(body, "big")) if body else Row(kind)
 
@@ -75,10 +82,10 @@ def read(table: Octets) -> List[Row]:
     octets, rows, place = bytes(table), [], 0
     while place < len(octets):
         number = octets[place]
-        if not Kind.BOOLEAN <= number <= Kind.MEMBER:
+        if number not in _BODIES:
             raise Unreadable(len(rows), place, "there is no kind %d" % number)
         kind = Kind(number)
-        end = place + 1 + _BODIES.get(kind, 0)
+        end = place + 1 + _BODIES[kind]
         if end > len(octets):
             raise Unreadable(len(rows), place, "%s is cut off after %d of %d octets" % (kind.asn1, len(octets) - place, end - place))
         rows.append(_row(kind, octets[place + 1:end]))
@@ -109,6 +116,16 @@ class Table:
     def members(self, row: int) -> List[Member]:
         """The members of a SEQUENCE, the alternatives of a CHOICE."""
         return [Member(at, self.rows[at]) for at in range(row + 1, row + 1 + self.rows[row].count)]
+
+    def bits(self, row: int) -> Dict[str, int]:
+        """The numbers of a named BIT STRING's bits, by their names."""
+        named = self.rows[row + 1:row + 1 + self.rows[row].count] if self.kind(row) is Kind.NAMED_BIT_STRING else []
+        return {bit.identifier: bit.number for bit in named}
+
+    def names(self, row: int, contents: bytes) -> Optional[Names]:
+        """The bits that are 1 in the good contents of a named BIT STRING; None for another kind."""
+        kind = self.kind(row)
+        return names_of(self.bits(row), str(plain(kind, contents))) if kind is Kind.NAMED_BIT_STRING else None
 
     def to(self, row: int) -> int:
         """The row that a list's elements or a member are of."""
@@ -163,6 +180,7 @@ class Table:
 
     def text(self) -> str:
         """The table as indented text, a line for each type and member. A SEQUENCE, CHOICE or list that several rows name is written once.
+        The names of bits stand behind their BIT STRING, as in ASN.1: `BIT STRING {print(0), perform(1)}`.
 
         >>> print(Table(b"\\x0E\\x00\\x01\\x02").text())
         SEQUENCE OF
@@ -172,7 +190,8 @@ class Table:
 
     def _lines(self, row: int, before: str, behind: str, depth: int, seen: dict) -> Iterator[str]:
         kind = self.kind(row)
-        head = "  " * depth + before + kind.asn1 + behind
+        names = ", ".join("%s(%d)" % bit for bit in self.bits(row).items())
+        head = "  " * depth + before + kind.asn1 + (" {%s}" % names if names else "") + behind
         if not kind.basic and row in seen:
             yield head + ", as in line %d" % seen[row]
             seen["lines"] += 1

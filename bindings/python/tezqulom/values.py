@@ -2,9 +2,10 @@
 
 import datetime
 import enum
-from typing import NamedTuple, Optional, Union
+import re
+from typing import Iterable, Mapping, NamedTuple, Optional, Tuple, Union
 
-from .engine import Octets, Refused, check_value
+from .engine import LONGEST_VALUE, Octets, Refused, check_value
 
 
 class Kind(enum.IntEnum):
@@ -26,6 +27,8 @@ class Kind(enum.IntEnum):
     SEQUENCE_OF = 14
     SET_OF = 15
     MEMBER = 16
+    NAMED_BIT_STRING = 17
+    NAMED_BIT = 18
 
     @property
     def asn1(self) -> str:
@@ -34,19 +37,26 @@ class Kind(enum.IntEnum):
 
     @property
     def basic(self) -> bool:
-        """Whether the kind's row has no body and its value no components."""
-        return self <= Kind.GENERALIZED_TIME
+        """Whether a value of the kind has no components."""
+        return self <= Kind.GENERALIZED_TIME or self is Kind.NAMED_BIT_STRING
+
+    @property
+    def is_type(self) -> bool:
+        """Whether a row of the kind is a type; a member and a named bit only follow one."""
+        return self not in (Kind.MEMBER, Kind.NAMED_BIT)
 
     @property
     def tag(self) -> Optional[int]:
-        """The universal tag octet; a CHOICE and a member have none."""
+        """The universal tag octet; a CHOICE, a member and a named bit have none."""
         return _TAGS.get(self)
 
 
 _NAMES = dict(zip(Kind, ("BOOLEAN", "INTEGER", "ENUMERATED", "NULL", "OBJECT IDENTIFIER", "OCTET STRING", "BIT STRING", "UTF8String",
-                         "PrintableString", "IA5String", "GeneralizedTime", "SEQUENCE", "CHOICE", "SEQUENCE OF", "SET OF", "member")))
+                         "PrintableString", "IA5String", "GeneralizedTime", "SEQUENCE", "CHOICE", "SEQUENCE OF", "SET OF", "member", "BIT STRING",
+                         "named bit")))
 _TAGS = dict(zip(Kind, (0x01, 0x02, 0x0A, 0x05, 0x06, 0x04, 0x03, 0x0C, 0x13, 0x16, 0x18, 0x30)))
-_TAGS.update({Kind.SEQUENCE_OF: 0x30, Kind.SET_OF: 0x31})
+_TAGS.update({Kind.SEQUENCE_OF: 0x30, Kind.SET_OF: 0x31, Kind.NAMED_BIT_STRING: 0x03})
+_BIT_STRINGS = (Kind.BIT_STRING, Kind.NAMED_BIT_STRING)
 _STRINGS = (Kind.UTF8_STRING, Kind.PRINTABLE_STRING, Kind.IA5_STRING)
 
 
@@ -71,6 +81,12 @@ class Time(NamedTuple):
 
 
 Plain = Union[bool, int, None, str, bytes, Time]
+Names = Tuple[Union[str, int], ...]
+"""The bits that are 1 of a named BIT STRING: their names, and the numbers of those that have none."""
+Bits = Union[str, Iterable[Union[str, int]]]
+"""Bits given for a named BIT STRING: a text of 0 and 1, or names and numbers."""
+NAME_FIELD = 24
+"""The octets of a name in a row."""
 
 
 def encoded(tag: int, contents: bytes) -> bytes:
@@ -93,6 +109,55 @@ def integer_contents(number: int) -> bytes:
     return number.to_bytes((number if number >= 0 else ~number).bit_length() // 8 + 1, "big", signed=True)
 
 
+def bit_string_contents(bits: str) -> bytes:
+    """The contents of a BIT STRING, of a text of 0 and 1.
+
+    >>> bit_string_contents("110").hex(), bit_string_contents("").hex()
+    ('05c0', '00')
+    """
+    unused = -len(bits) % 8
+    return bytes([unused]) + int("0" + bits + "0" * unused, 2).to_bytes((len(bits) + unused) // 8, "big")
+
+
+def named_bits(numbers: Mapping[str, int], given: Bits) -> str:
+    """The bits of a named BIT STRING as a text of 0 and 1, without a trailing zero bit. A ValueError for a name that no bit has.
+
+    >>> named_bits({"print": 0, "perform": 1}, {"perform"}), named_bits({"print": 0}, ["print", 3]), named_bits({"print": 0}, "100")
+    ('01', '1001', '1')
+    """
+    if isinstance(given, Mapping):
+        raise TypeError("bits: names are needed, not a mapping")
+    if isinstance(given, str):
+        if not re.fullmatch("[01]*", given):
+            raise ValueError("bits: %r is no text of 0 and 1; names stand in a list" % given)
+        return given.rstrip("0")
+    ones = {_bit_number(numbers, one) for one in given}
+    return "".join("1" if at in ones else "0" for at in range(max(ones, default=-1) + 1))
+
+
+def _bit_number(numbers: Mapping[str, int], one: Union[str, int]) -> int:
+    """The number of a bit that is given by its name or its number."""
+    if isinstance(one, str):
+        if one not in numbers:
+            raise ValueError("bits: no bit has the name %r" % one)
+        return numbers[one]
+    if isinstance(one, bool) or not isinstance(one, int):
+        raise TypeError("bits: names and numbers are needed, not %s" % type(one).__name__)
+    if not 0 <= one < 8 * LONGEST_VALUE:
+        raise ValueError("bits: no value has a bit %d" % one)
+    return one
+
+
+def names_of(numbers: Mapping[str, int], bits: str) -> Names:
+    """The bits of a text of 0 and 1 that are 1, by their names, and by their numbers where they have none.
+
+    >>> names_of({"print": 0, "perform": 1}, "1101")
+    ('print', 'perform', 3)
+    """
+    names = {number: name for name, number in numbers.items()}
+    return tuple(names.get(at, at) for at, bit in enumerate(bits) if bit == "1")
+
+
 def contents_of(octets: bytes) -> bytes:
     """The contents of an encoding that the engine has found good."""
     return octets[2 + max(0, octets[1] - 0x80):]
@@ -102,8 +167,8 @@ def value_of(kind: int, octets: Octets) -> Plain:
     """The value of the octets of a listed value of a kind; a ValueError where they are none.
 
     The tag may be the kind's own or one that stands in its place (implicit). A BOOLEAN is a bool, an INTEGER and an ENUMERATED an int, NULL is
-    None, an OBJECT IDENTIFIER dotted text, an OCTET STRING bytes, a BIT STRING a text of 0 and 1, a string kind a str, a GeneralizedTime a Time;
-    of any other kind the octets themselves.
+    None, an OBJECT IDENTIFIER dotted text, an OCTET STRING bytes, a BIT STRING, named or not, a text of 0 and 1, a string kind a str, a
+    GeneralizedTime a Time; of any other kind the octets themselves.
 
     >>> value_of(Kind.INTEGER, b"\\x80\\x01\\x03")
     3
@@ -114,10 +179,16 @@ def value_of(kind: int, octets: Octets) -> Plain:
     if not kind.basic:
         return octets
     try:
-        check_value(bytes([kind]), bytes([kind.tag or 0]) + octets[1:])
+        check_value(_alone(kind), bytes([kind.tag or 0]) + octets[1:])
     except Refused:
         raise ValueError("no %s: %s" % (kind.asn1, octets.hex().upper() or "no octets")) from None
     return plain(kind, contents_of(octets))
+
+
+def _alone(kind: Kind) -> bytes:
+    """A table of a basic kind alone; a named BIT STRING needs a name, and any does for its values."""
+    named = bytes([1, Kind.NAMED_BIT]) + b"a".ljust(NAME_FIELD, b"\0") + b"\0"
+    return bytes([kind]) + (named if kind is Kind.NAMED_BIT_STRING else b"")
 
 
 def plain(kind: Kind, contents: bytes) -> Plain:
@@ -130,7 +201,7 @@ def plain(kind: Kind, contents: bytes) -> Plain:
         return None
     if kind is Kind.OBJECT_IDENTIFIER:
         return dotted(contents)
-    if kind is Kind.BIT_STRING:
+    if kind in _BIT_STRINGS:
         return "".join("%08d" % int(bin(octet)[2:]) for octet in contents[1:])[:8 * (len(contents) - 1) - contents[0]]
     if kind in _STRINGS:
         return contents.decode("utf-8")
@@ -159,13 +230,21 @@ def time_of(text: str) -> Time:
     return Time(*date, nanosecond=int(text[15:-1].ljust(9, "0")) if text[14] == "." else 0)
 
 
-def gser(kind: Kind, value: Plain) -> str:
-    """A value as text for people: strings in double quotes, with characters that don't print escaped."""
+def gser(kind: Kind, value: Plain, names: Optional[Names] = None) -> str:
+    """A value as text for people: strings in double quotes, with characters that don't print escaped.
+
+    The bits of a named BIT STRING are a GSER list of `names`; such a list has names alone, so where one has none they are a text of 0 and 1.
+
+    >>> gser(Kind.NAMED_BIT_STRING, "11", ("print", "perform")), gser(Kind.NAMED_BIT_STRING, "1001", ("print", 3))
+    ('{print, perform}', "'1001'B")
+    """
+    if names is not None and all(isinstance(name, str) for name in names):
+        return "{%s}" % ", ".join(map(str, names))
     if isinstance(value, bool):
         return str(value).upper()
     if isinstance(value, bytes):
         return "'%s'H" % value.hex().upper()
-    if kind is Kind.BIT_STRING:
+    if kind in _BIT_STRINGS:
         return "'%s'B" % value
     if isinstance(value, str) and kind is not Kind.OBJECT_IDENTIFIER:
         return '"%s"' % printable(value)

@@ -1,4 +1,4 @@
-//! Document 01's examples, and the numbers of the C header.
+//! Document 01's examples, document 02's named bits, and the numbers of the C header.
 
 use tezqulom::{
     ask, check_table, check_value, list_into, listing, part, room_for, Answer, Component, Refusal, Truth,
@@ -66,6 +66,43 @@ fn run_only() {
     let with_seats = |seats| [&[0x30, 0x18], &VALUE[2..6], &[0x02, 0x01, seats], &VALUE[6..]].concat();
     assert_eq!(check_value(TABLE, &with_seats(1)), Err(Refusal::Value));
     assert_eq!(check_value(TABLE, &with_seats(2)), Ok(()));
+}
+
+/// The table of a BIT STRING whose bits have names: print, perform and record.
+fn rights() -> Vec<u8> {
+    let mut table = vec![0x11, 3];
+    for (number, name) in ["print", "perform", "record"].into_iter().enumerate() {
+        table.push(0x12);
+        table.extend(name.bytes().chain(std::iter::repeat(0)).take(24));
+        table.push(number as u8);
+    }
+    table
+}
+
+#[test]
+fn named_bits() {
+    let table = rights();
+    assert_eq!(check_table(&table), Ok(4));
+    assert_eq!(check_table(&table[..54]), Err(Refusal::Table));
+    let both = [0x03, 0x02, 0x06, 0xC0];
+    assert_eq!(check_value(&table, &[0x03, 0x01, 0x00]), Ok(()));
+    assert_eq!(check_value(&table, &[0x03, 0x02, 0x05, 0xC0]), Err(Refusal::Value));
+    for (asserted, truth) in [
+        ("{print,perform}", Truth::True),
+        ("{ perform, print, print }", Truth::True),
+        ("'110'B", Truth::True),
+        ("'C'H", Truth::True),
+        ("{print}", Truth::False),
+        ("{}", Truth::False),
+        ("{print,play}", Truth::Undefined),
+        ("{print ,perform}", Truth::Undefined),
+    ] {
+        let filter = format!("item:{{rule bitStringMatch,value {asserted}}}");
+        let answer = ask(&table, &both, filter.as_bytes(), MOST_TESTS);
+        assert_eq!(answer, Ok(Answer { truth, tests: u64::from(truth != Truth::Undefined) }), "{asserted}");
+    }
+    let unclosed = b"item:{rule bitStringMatch,value {print}";
+    assert_eq!(ask(&table, &both, unclosed, MOST_TESTS), Err(Refusal::Form));
 }
 
 #[test]
