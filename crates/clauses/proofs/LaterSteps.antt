@@ -11,11 +11,10 @@ use lib.Seq.{drop-cons, getD-drop}
 use lib.Dec.{ltb, eqb}
 use Rattle.octets.specs.Pick.{pick}
 use Rattle.octets.proofs.Laws.{both-true, all-at}
-use Rattle.rows.proofs.KindLaws.{type-no-member, member-names, group-followers, named-followers}
+use Rattle.rows.proofs.KindLaws.{type-no-member, member-or-bit, member-names, group-followers, named-followers}
 use Rattle.rows.specs.Row.{kindAt, countAt, rowAt, isTypeKind, namesRow, namedAt, followerKind, followersAt, isFollower, isGroup, membersAt, bitNamesAt}
 use Rattle.clauses.specs.Clauses.{everyRow, isType, laterType, pointsLater, standing, followersStand, memberPlace}
 use Rattle.clauses.specs.inner.Work.{memberType, Later}
-use Rattle.clauses.proofs.NameSteps.{member-or-bit}
 
 pick-true : (b x y : Bool) → pick b x y ≡ true → ((b ≡ true) × (x ≡ true)) ⊎ ((b ≡ false) × (y ≡ true))
 pick-true true x y e = inl (refl, e)

@@ -1,21 +1,22 @@
 -- Whole rows that follow another: one lemma for each return and each turn of a loop of the first pass's functions on one such row.
 use mathlib.Core.Path.{_≡_, refl, sym, ap, ap₂, _∙_}
-use mathlib.Core.Bool.{Bool, true, false, not, false≢true}
-use mathlib.Core.Logic.{_⊎_, ⊎-elim, inl, inr}
+use mathlib.Core.Bool.{Bool, true, false, not}
+use mathlib.Core.Logic.{⊎-elim}
 use mathlib.Core.List.{List, [], _∷_, _++_}
 use Prim.Native.Nat.{ℕ, _≤_, _<_, _+_, _-_, _*_}
 use native.Mathlib.Omega.{arith}
 use native.Mathlib.Numerals.{add-one}
 use native.Mathlib.Nat.{mul-zero, mul-suc, mul-le-mul-left}
-use borrow.Author.Tests.{not-true, not-false, eq-eqb, ne-eqb, eqb-true, le-leb, lt-leb}
+use borrow.Author.Tests.{not-true, not-false, eq-eqb, ne-eqb, le-leb, lt-leb}
 use lib.Dec.{eqb}
 use lib.ListN.{length, take, drop}
 use lib.Seq.{take-add, drop-drop}
-use Rattle.octets.specs.Pick.{both, either, no, all}
+use Rattle.octets.specs.Pick.{both, no, all}
 use Rattle.octets.specs.Octets.{octet, part, same}
 use Rattle.octets.proofs.Laws.{all-more, all-not, all-done}
 use Rattle.rows.specs.Row.{rowSize, isGroup, isList, isFollower}
 use Rattle.rows.specs.Body.{memberFormed, bitFormed}
+use Rattle.rows.proofs.KindLaws.{member-or-bit}
 use Rattle.rows.proofs.NumberSteps.{part-length}
 use Rattle.clauses.specs.Clauses.{sameName, sameNumber}
 use Rattle.clauses.specs.inner.Work.{differsAt, newNameAt, numberDiffersAt, newNumberAt, memberFits, bitFits, followerSize}
@@ -172,15 +173,6 @@ member-size k e = rw e
 pub bit-size : (k : ℕ) → k ≡ 18 → rowSize k ≡ 26
 unfolding rowSize isGroup isList
 bit-size k e = rw e
-
-pub member-or-bit : (k : ℕ) → isFollower k ≡ true → (k ≡ 16) ⊎ (k ≡ 18)
-unfolding isFollower
-member-or-bit k e = go (eqb k 16) refl (eqb k 18) refl e
-  where
-    go : (x : Bool) → eqb k 16 ≡ x → (y : Bool) → eqb k 18 ≡ y → either x y ≡ true → (k ≡ 16) ⊎ (k ≡ 18)
-    go true q y r h = inl (eqb-true k 16 q)
-    go false q true r h = inr (eqb-true k 18 r)
-    go false q false r h = absurd (false≢true h)
 
 module _ (k first b n : ℕ) (inside : first + rowSize k * b ≤ n) where
   pub member-place : k ≡ 16 → first + 39 * b ≤ n

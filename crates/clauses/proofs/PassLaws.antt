@@ -16,13 +16,13 @@ use Rattle.octets.specs.Pick.{pick, both, either, no, all, consed}
 use Rattle.octets.specs.Octets.{every}
 use Rattle.octets.proofs.Laws.{both-true, all-cong, never}
 use Rattle.rows.specs.Paper.{tableLimits}
-use Rattle.rows.proofs.KindLaws.{named-followers}
+use Rattle.rows.proofs.KindLaws.{member-or-bit, named-followers}
 use Rattle.rows.specs.Row.{kindAt, rowAt, rowSize, isTypeKind, isGroup, isList, isFollower, followerKind, followersAt, bitNamesAt, rowsFrom, rows, orNone}
 use Rattle.rows.specs.Body.{memberFormed, bitFormed, rowFormed}
 use Rattle.clauses.specs.Clauses.{everyRow, wholeRows, bodyFormed, isType, firstIsType, standing, followersStand, memberPlace}
 use Rattle.clauses.specs.Clauses.{sameName, differsFrom, newName, namesDiffer, sameNumber, numberDiffersFrom, newNumber, numbersDiffer}
 use Rattle.clauses.specs.inner.Work.{firstPass, placeFrom, differsAt, newNameAt, numberDiffersAt, newNumberAt, memberFits, bitFits, followerSize}
-use Rattle.clauses.proofs.NameSteps.{first-place, next-place, member-size, bit-size, member-or-bit}
+use Rattle.clauses.proofs.NameSteps.{first-place, next-place, member-size, bit-size}
 use Rattle.clauses.proofs.LaterSteps.{due-follower, no-followers, after-group, after-named}
 
 -- rows p and q of kind k that follow one row: their names differ, and of bits their numbers

@@ -17,9 +17,9 @@ use Rattle.rows.specs.Paper.{tableLimits}
 use Rattle.rows.specs.Row.{kindAt, rowAt, rowSize, isTypeKind, isFollower, followerKind, followersAt, rowsFrom, rows, orNone}
 use Rattle.rows.specs.Body.{memberFormed, bitFormed, countFormed, rowFormed}
 use Rattle.rows.specs.inner.Sizes.{typeSize}
-use Rattle.rows.proofs.KindLaws.{kind-of-row}
+use Rattle.rows.proofs.KindLaws.{kind-of-row, member-or-bit, type-row-size, follower-unsized}
 use Rattle.clauses.specs.inner.Work.{firstPass, Placed, placeFrom, followerSize}
-use Rattle.clauses.proofs.NameSteps.{first-place, next-place, member-or-bit}
+use Rattle.clauses.proofs.NameSteps.{first-place, next-place}
 use Rattle.clauses.proofs.LaterSteps.{due-follower}
 use Rattle.clauses.proofs.PassLaws.{passes, goes, newBy, formed, sizeIf, by-test, follower-told, pass-counts}
 
@@ -251,14 +251,14 @@ module _ (t w : List ℕ) (at n k due first before : ℕ) (inv : Passing t w at 
           (λ z. by-test (ltb (length t - at) size-at) (cut z)
           (λ e. fail (ap (goes t k due first before) (uncut z e) ∙ goes-not t k due first before at (f z e) (rest size-at))))
 
-      -- a row of another kind than the one that is due, and one that follows where none is due
+      -- a row of another kind than the one that is due, and one that follows another where none is due
       pub pass-missing : (due ≡ 0 → ⊥) → (octet t at ≡ k → ⊥) → Fails t
       unfolding passes
       pass-missing d e = row-fails (λ z l ps. rw (ne-eqb due 0 d, ne-eqb (kindAt t at) k e))
 
-      pub pass-extra : (u : Bool) → due ≡ 0 → u ≡ isFollower (octet t at) → u ≡ true → Fails t
+      extra : due ≡ 0 → isFollower (kindAt t at) ≡ true → Fails t
       unfolding passes
-      pass-extra u d told e = row-fails (λ z l ps. rw (eq-eqb due 0 d, follower-no-type (kindAt t at) (sym told ∙ e)))
+      extra d e = row-fails (λ z l ps. rw (eq-eqb due 0 d, follower-no-type (kindAt t at) e))
 
       -- a row that stands where it may; `good` is what the test asks of it besides
       module _ (size : ℕ) (good : Bool) (sized : size ≡ sizeIf t at good) where
@@ -317,24 +317,35 @@ module _ (t w : List ℕ) (at n k due first before : ℕ) (inv : Passing t w at 
             (λ l. inv .follows (some-due d)) (let l = inv .fewer in omega arith)
 
       -- ---- a type row
-      module _ (size : ℕ) (u : Bool) (d : due ≡ 0) (asked : u ≡ isFollower (octet t at)) (none : u ≡ false)
-          (told : size ≡ typeSize (tableLimits .members) t at) where
-        type-sized : size ≡ sizeIf t at (countFormed (tableLimits .members) t at)
+      module _ (size : ℕ) (d : due ≡ 0) (told : size ≡ typeSize (tableLimits .members) t at) where
+        none-follows : (size ≡ 0 → ⊥) → isFollower (kindAt t at) ≡ false
         unfolding typeSize
-        type-sized = told
+        none-follows e = by-test (isFollower (kindAt t at)) (λ f. absurd (e (rw (follower-unsized (kindAt t at) f) at told ∙ go (ltb (length t - at) 0) (countFormed (tableLimits .members) t at)))) (λ f. f)
+          where
+            go : (x y : Bool) → _≡_ {A = ℕ} (pick x 0 (pick y 0 0)) 0
+            go true y = refl
+            go false true = refl
+            go false false = refl
 
-        type-on : (size-at ≡ 0 → ⊥) → (ps : List ℕ) → passes t k due first before (at ∷ ps)
-            ≡ both (countFormed (tableLimits .members) t at) (passes t (followerKind (kindAt t at)) (followersAt t at) (at + size-at) 0 ps)
-        unfolding passes
-        type-on s ps = rw (eq-eqb due 0 d, kind-of-row (kindAt t at) s (sym asked ∙ none), type-formed t at (sym asked ∙ none))
+        module _ (other : isFollower (kindAt t at) ≡ false) where
+          type-sized : size ≡ sizeIf t at (countFormed (tableLimits .members) t at)
+          unfolding typeSize
+          type-sized = rw (type-row-size (kindAt t at) other) at told
+
+          type-on : (size-at ≡ 0 → ⊥) → (ps : List ℕ) → passes t k due first before (at ∷ ps)
+              ≡ both (countFormed (tableLimits .members) t at) (passes t (followerKind (kindAt t at)) (followersAt t at) (at + size-at) 0 ps)
+          unfolding passes
+          type-on s ps = rw (eq-eqb due 0 d, kind-of-row (kindAt t at) s other, type-formed t at other)
 
         pub pass-unsized : size ≡ 0 → Fails t
-        pass-unsized e =
-            unsized size (countFormed (tableLimits .members) t at) type-sized (followerKind (kindAt t at)) (followersAt t at) (at + size-at) 0 type-on e
+        pass-unsized e = by-test (isFollower (kindAt t at)) (extra d)
+            (λ f. unsized size (countFormed (tableLimits .members) t at) (type-sized f)
+            (followerKind (kindAt t at)) (followersAt t at) (at + size-at) 0 (type-on f) e)
 
         pub pass-type : (f m : ℕ) → (size ≡ 0 → ⊥) → f ≡ followerKind (octet t at) → m ≡ followersAt t at
             → Passing t (set w (2 * n) at) (at + size) (n + 1) f m (at + size) 0
         pass-type f m e g c =
-            rw (g, c) (rw (sym (size-is size (countFormed (tableLimits .members) t at) type-sized e)) at
-            (sized-next size (countFormed (tableLimits .members) t at) type-sized (followerKind (kindAt t at)) (followersAt t at) (at + size-at) 0 type-on e
-            (first-place (rowSize (followerKind (kindAt t at))) (at + size-at)) (due-follower t at) (omega arith)))
+            let o = none-follows e in
+            rw (g, c) (rw (sym (size-is size (countFormed (tableLimits .members) t at) (type-sized o) e)) at
+            (sized-next size (countFormed (tableLimits .members) t at) (type-sized o) (followerKind (kindAt t at)) (followersAt t at) (at + size-at) 0
+            (type-on o) e (first-place (rowSize (followerKind (kindAt t at))) (at + size-at)) (due-follower t at) (omega arith)))

@@ -146,15 +146,12 @@ pub fn scan(t: &[u8], w: &mut [u64; 256]) -> usize
             due -= 1;
             before += 1;
         } else {
-            if rows::is_follower(kind) {
-                return 0;
-            }
             let size = rows::type_size(t, at);
             if size == 0 {
                 return 0;
             }
             follower = rows::follower_kind(kind);
-            due = rows::followers_at(t, at);
+            due = rows::followers_at(t, at, follower);
             at += size;
             n += 1;
             first = at;

@@ -2,3 +2,4 @@ pub mod Steps
 pub mod BitSteps
 pub mod NamedLaws
 pub mod NamedSteps
+pub mod SignificantLaws

@@ -17,7 +17,7 @@ use Rattle.digits.specs.inner.Masks.{lowBits}
 use Rattle.digits.specs.inner.Alike.{isZero, alike, alikeNumber}
 
 -- ---- a bit before bits without trailing zeros
-abbrev onto : ℕ → List ℕ → List ℕ
+abbrev pub onto : ℕ → List ℕ → List ℕ
 onto b t = pick (both (eqb b 0) (eqb (length t) 0)) [] (b ∷ t)
 
 onto-more : (b y : ℕ) (t : List ℕ) → onto b (y ∷ t) ≡ b ∷ y ∷ t
@@ -61,7 +61,7 @@ zeros-at [] e i = refl
 zeros-at (b ∷ t) e zero = eqb-true 0 b (both-true (eqb 0 b) (every isZero t) e .0)
 zeros-at (b ∷ t) e (suc i) = zeros-at t (both-true (eqb 0 b) (every isZero t) e .1) i
 
-alike-at : (a b : List ℕ) → alike a b ≡ true → (i : ℕ) → getD a i 0 ≡ getD b i 0
+pub alike-at : (a b : List ℕ) → alike a b ≡ true → (i : ℕ) → getD a i 0 ≡ getD b i 0
 unfolding alike
 alike-at [] t e i = zeros-at t e i
 alike-at (a ∷ s) [] e zero = eqb-true a 0 (both-true (eqb a 0) (alike s []) e .0)
@@ -100,6 +100,11 @@ none-left (suc n) m h = rw (← none-left n (m / 2) (half n m h)) (go (eqb m 0) 
     go true false p q = let e : m ≡ 0 = eqb-true m 0 p in absurd (eqb-false 0 (m % 2) q (omega arith))
     go false true p q = let e : 0 ≡ m % 2 = eqb-true 0 (m % 2) q in sym (ne-eqb (m / 2) 0 (λ d. eqb-false m 0 p (omega arith)))
     go false false p q = refl
+
+pub low-length : (n m : ℕ) → length (lowBits n m) ≡ n
+unfolding lowBits
+low-length zero m = refl
+low-length (suc n) m = ap suc (low-length n (m / 2))
 
 pub number-alike : (s : List ℕ) (n m : ℕ) → m < 2 ^ n → alikeNumber s m ≡ alike s (lowBits n m)
 unfolding alikeNumber alike lowBits

@@ -1,26 +1,28 @@
 -- Stored bits against those of a text or a set, trailing zeros not counted: one lemma for each return and turn.
 use mathlib.Core.Path.{_≡_, refl, sym, ap, _∙_}
-use mathlib.Core.Bool.{Bool, true, false}
+use mathlib.Core.Bool.{Bool, true, false, not, false≢true}
 use mathlib.Core.List.{List, [], _∷_}
-use Prim.Native.Nat.{ℕ, suc, _≤_, _<_, _+_, _/_, _%_, _^_}
+use Prim.Native.Nat.{ℕ, zero, suc, _≤_, _<_, _+_, _-_, _/_, _%_, _^_}
 use native.Mathlib.Omega.{arith}
-use borrow.Author.Tests.{eq-eqb, ne-eqb}
-use lib.Dec.{leb, eqb}
+use borrow.Author.Tests.{not-true, eq-eqb, ne-eqb}
+use lib.Dec.{ltb, leb, eqb}
 use lib.ListN.{length, drop, getD}
-use Rattle.octets.specs.Pick.{both}
-use Rattle.octets.specs.Octets.{same}
+use Rattle.octets.specs.Pick.{pick, both}
+use Rattle.octets.specs.Octets.{octet, same}
 use Rattle.octets.proofs.Laws.{rest-cons, rest-none}
 use Rattle.octets.proofs.TextLaws.{every-nil, every-cons}
 use Rattle.digits.specs.Named.{trimmed}
 use Rattle.digits.specs.inner.Answers.{restBits, reportBit, reportDrawn, bitsIn}
 use Rattle.digits.specs.inner.Masks.{maskBits}
 use Rattle.digits.specs.inner.Alike.{isZero, alike, alikeNumber, padded}
+use Rattle.digits.specs.inner.Significant.{significant, endsBefore}
 use Rattle.digits.specs.declared.Quarter.{Quarter}
 use Rattle.digits.specs.declared.Bits.{Bits}
 use Rattle.digits.specs.declared.BitStep.{BitStep}
 use Rattle.digits.specs.declared.Drawn.{Drawn}
-use Rattle.digits.proofs.BitSteps.{rest-start, bits-told}
-use Rattle.digits.proofs.NamedLaws.{alike-is, number-alike}
+use Rattle.digits.proofs.BitSteps.{bit-end, rest-start, bits-told}
+use Rattle.digits.proofs.NamedLaws.{alike-is, low-length, number-alike}
+use Rattle.digits.proofs.SignificantLaws.{zeros-later, last-differs}
 
 padded-none : (t : List ℕ) → [] ≡ t → 0 ∷ t ≡ padded t
 padded-none [] e = refl
@@ -62,6 +64,44 @@ module _ (h : List ℕ) (hexed : Bool) (a : Bits) (step : BitStep) (read : repor
 
       pub zeros-on : x ≡ 0 → alike [] (restBits hexed h b) ≡ m
       zeros-on d = rw (eq-eqb 0 x (sym d)) at front
+
+pub zeros-none : (h : List ℕ) (hexed : Bool) (a : Bits) → length h ≤ a .at → true ≡ alike [] (restBits hexed h a)
+unfolding alike
+zeros-none h hexed a l = sym (every-nil isZero) ∙ ap (alike []) (bit-end h hexed a l)
+
+pub zeros-last : (h : List ℕ) (hexed : Bool) (a : Bits) (u : Bool) → a .at < length h → a .at < length h - 1
+    → u ≡ alike [] (restBits hexed h (record { at = length h - 1; quarter = Quarter.First })) → not u ≡ true → false ≡ alike [] (restBits hexed h a)
+zeros-last h hexed a u m l told e = go (alike [] (restBits hexed h a)) refl
+  where
+    go : (v : Bool) → alike [] (restBits hexed h a) ≡ v → false ≡ v
+    go true z = absurd (false≢true (sym (not-true u e) ∙ told ∙ zeros-later hexed h a (length h - 1) l (omega arith) z))
+    go false z = refl
+
+-- ---- how digits end
+module _ (h : List ℕ) (n : ℕ) (m : ℕ) (inv : significant n h ≡ m) (some : 0 < n) where
+  one : n ≡ suc (n - 1)
+  one = omega arith
+
+  cut : pick (eqb (octet h (n - 1)) 48) (significant (n - 1) h) (suc (n - 1)) ≡ m
+  unfolding significant
+  cut = rw one at inv
+
+  pub digit-counts : (octet h (n - 1) ≡ 48 → ⊥) → n ≡ m
+  digit-counts d = one ∙ rw (ne-eqb (octet h (n - 1)) 48 d) at cut
+
+  pub digit-zero : octet h (n - 1) ≡ 48 → significant (n - 1) h ≡ m
+  digit-zero e = rw (eq-eqb (octet h (n - 1)) 48 e) at cut
+
+pub digits-none : (h : List ℕ) (n m : ℕ) → significant n h ≡ m → n ≤ 0 → 0 ≡ m
+unfolding significant
+digits-none h zero m inv l = inv
+digits-none h (suc n) m inv l = absurd (omega arith)
+
+pub ends-hex : (hexed : Bool) (h : List ℕ) (n : ℕ) → hexed ≡ true → ltb (length h) (n / 4) ≡ endsBefore hexed h n
+ends-hex hexed h n e = rw e
+
+pub ends-text : (hexed : Bool) (h : List ℕ) (n : ℕ) → hexed ≡ false → ltb (length h) n ≡ endsBefore hexed h n
+ends-text hexed h n e = rw e
 
 -- ---- stored bits against those of a text
 pub alike-start : (s h : List ℕ) (hexed : Bool) → alike s (restBits hexed h (record { at = 0; quarter = Quarter.First })) ≡ alike s (bitsIn hexed h)
@@ -108,6 +148,9 @@ module _ (s : List ℕ) (i rest : ℕ) (m : Bool) (inv : alikeNumber (drop i s) 
 
     pub mask-on : w ≡ rest % 2 → alikeNumber (drop (i + 1) s) (rest / 2) ≡ m
     mask-on d = rw (eq-eqb w (rest % 2) d) at lowest
+
+pub mask-last : (s : List ℕ) (n y m : ℕ) → m < 2 ^ 64 → 64 < n → y ≡ getD s (n - 1) 0 → (y ≡ 0 → ⊥) → false ≡ alikeNumber s m
+mask-last s n y m l k e d = last-differs s (maskBits m) n y (rw (low-length 64 m) k) e d ∙ sym (number-alike s 64 m l)
 
 -- ---- contents that aren't too long
 module _ (c s : List ℕ) (r : Bool) (short : length c ≤ 65536) where

@@ -11,6 +11,7 @@ ghost use Rattle.digits.specs.Asserted as asserted;
 ghost use Rattle.digits.specs.Named as named;
 ghost use Rattle.digits.specs.inner.Answers as answers;
 ghost use Rattle.digits.specs.inner.Masks as masks;
+ghost use Rattle.digits.specs.inner.Significant.{significant, endsBefore};
 ghost use Rattle.digits.specs.inner.Alike.{alike, alikeNumber, padded};
 
 pub enum Order {
@@ -363,8 +364,22 @@ fn draw_bit(h: &[u8], hexed: bool, a: Bits) -> Drawn
     Drawn { bit, after }
 }
 
+// How many digits stand up to the last that isn't 0.
+pub fn significant(h: &[u8]) -> usize
+    ensures { λ r. ⌜ r ≡ significant (length (now (h .entry))) (now (h .entry)) ⌝ }
+{
+    let mut n = h.len();
+    while 0 < n {
+        if h[n - 1] != 48 {
+            return n;
+        }
+        n -= 1;
+    }
+    0
+}
+
 // Whether the bits from a place on are all 0.
-fn only_zeros(h: &[u8], hexed: bool, from: Bits) -> bool
+fn zeros_from(h: &[u8], hexed: bool, from: Bits) -> bool
     ensures { λ r. ⌜ r ≡ alike [] (answers.restBits hexed (now (h .entry)) from) ⌝ }
 {
     let mut a = from;
@@ -379,11 +394,46 @@ fn only_zeros(h: &[u8], hexed: bool, from: Bits) -> bool
     }
 }
 
+// The same; where the last digit isn't 0, no other is read.
+fn only_zeros(h: &[u8], hexed: bool, from: Bits) -> bool
+    ensures { λ r. ⌜ r ≡ alike [] (answers.restBits hexed (now (h .entry)) from) ⌝ }
+{
+    if h.len() <= from.at {
+        return true;
+    }
+    let last = Bits {
+        at: h.len() - 1,
+        quarter: Quarter::First,
+    };
+    if from.at < last.at {
+        if !zeros_from(h, hexed, last) {
+            return false;
+        }
+    }
+    zeros_from(h, hexed, from)
+}
+
+// Whether the bits of digits end before bit n, counted in whole digits.
+fn ends_before(h: &[u8], hexed: bool, n: usize) -> bool
+    ensures { λ r. ⌜ r ≡ endsBefore hexed (now (h .entry)) n ⌝ }
+{
+    if hexed {
+        return h.len() < n / 4;
+    }
+    h.len() < n
+}
+
+// Whether stored bits are those of digits but for trailing zeros; where fewer are asserted than stored, the last stored one is read first.
 fn alike_text(c: &[u8], h: &[u8], hexed: bool) -> bool
     requires { ⌜ length (now c) ≤ 65536 ⌝ }
     ensures { λ r. ⌜ r ≡ alike (bitsOf (now (c .entry))) (answers.bitsIn hexed (now (h .entry))) ⌝ }
 {
     let n = der::bit_count(c);
+    if ends_before(h, hexed, n) {
+        if der::bit_at(c, n - 1) != 0 {
+            return false;
+        }
+    }
     let mut i = 0;
     let mut a = Bits {
         at: 0,
@@ -417,6 +467,11 @@ fn alike_mask(c: &[u8], mask: u64) -> bool
     ensures { λ r. ⌜ r ≡ alikeNumber (bitsOf (now (c .entry))) mask ⌝ }
 {
     let n = der::bit_count(c);
+    if 64 < n {
+        if der::bit_at(c, n - 1) != 0 {
+            return false;
+        }
+    }
     let mut i = 0;
     let mut rest = mask;
     while i < n {

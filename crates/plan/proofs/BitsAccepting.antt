@@ -7,12 +7,15 @@ use Prim.Native.Nat.{ℕ, _≤_}
 use native.Mathlib.Omega.{arith}
 use borrow.Author.Tests.{le-leb, ne-eqb}
 use lib.ListN.{length}
+use lib.Seq.{take-length}
 use Rattle.octets.specs.Pick.{pick, no, bind}
-use Rattle.octets.specs.Octets.{same}
+use Rattle.octets.specs.Octets.{part, same}
 use Rattle.der.specs.Meaning.{bitsOf}
 use Rattle.digits.specs.Asserted.{digits, isBitText, isBits, hexBits, textBits, assertedBits}
 use Rattle.digits.specs.Named.{trimmed}
 use Rattle.digits.specs.inner.Answers.{bitsIn}
+use Rattle.digits.specs.inner.Significant.{significant}
+use Rattle.digits.proofs.SignificantLaws.{significant-bits}
 use Rattle.types.specs.Types.{NamedBit, Ty, basic, sequence, choice, listOf, Members}
 use Rattle.reference.specs.Allowed.{Target, ofType, ofCount}
 use Rattle.bitnames.specs.Names as names
@@ -96,9 +99,19 @@ module _ (x : List ℕ) where
   unfolding accepted lessTest acceptsContents isLess
   less-plain = record { contents = λ c n. refl }
 
-  equal-named : Accepting (equal bitStrings) x (Test.namedBits (no (isBitText x))) (namedBits (assertedBits x))
+  -- as many of the digits as the plan counts
+  abbrev count : ℕ
+  count = significant (length (digits x)) (digits x)
+
+  counted-bits : trimmed (bitsIn (no (isBitText x)) (part (digits x) 0 count)) ≡ trimmed (assertedBits x)
+  counted-bits =
+      significant-bits (no (isBitText x)) (digits x) (length (digits x)) (omega arith)
+      ∙ ap (λ (l : List ℕ). trimmed (bitsIn (no (isBitText x)) l)) (take-length (digits x))
+      ∙ ap trimmed (bits-in x)
+
+  equal-named : Accepting (equal bitStrings) x (Test.namedBits (no (isBitText x)) count) (namedBits (assertedBits x))
   unfolding accepted acceptsContents isEqual
-  equal-named = record { contents = λ c n. rw (le-leb (length c) 65536 n) (ap (λ (l : List ℕ). same (trimmed (bitsOf c)) (trimmed l)) (bits-in x)) }
+  equal-named = record { contents = λ c n. rw (le-leb (length c) 65536 n) (ap (same (trimmed (bitsOf c))) counted-bits) }
 
   equal-listed : (l : List ℕ) → Accepting (equal bitStrings) x (Test.listed l) (namedBits l)
   unfolding accepted acceptsContents isEqual
@@ -124,13 +137,13 @@ module _ (x : List ℕ) where
   named-agree : (ns : List NamedBit) (r : Rule) → readByTarget r ≡ true → Agree r x (bitsTestBy r (some ns) x) (assertedBitsBy (some ns) x)
   unfolding bitsTestBy assertedBitsBy
   named-agree ns = both-rules
-      (λ (r : Rule). Agree r x (pick (isBits x) (some (ofRule r (Test.namedBits (no (isBitText x)))))
+      (λ (r : Rule). Agree r x (pick (isBits x) (some (ofRule r (Test.namedBits (no (isBitText x)) count)))
       (bind (names.listedBits ns x) (λ l. some (ofRule r (Test.listed l)))))
       (pick (isBits x) (some (namedBits (assertedBits x))) (bind (names.listedBits ns x) (λ l. some (namedBits l)))))
       (go (isBits x) (names.listedBits ns x)) (go-less (isBits x) (names.listedBits ns x))
     where
       go : (u : Bool) (o : Option (List ℕ))
-          → Agree (equal bitStrings) x (pick u (some (Test.namedBits (no (isBitText x)))) (bind o (λ l. some (Test.listed l))))
+          → Agree (equal bitStrings) x (pick u (some (Test.namedBits (no (isBitText x)) count)) (bind o (λ l. some (Test.listed l))))
           (pick u (some (namedBits (assertedBits x))) (bind o (λ l. some (namedBits l))))
       go true o = equal-named
       go false none = tt

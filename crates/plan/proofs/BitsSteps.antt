@@ -9,7 +9,8 @@ use borrow.Author.Tests.{not-true, not-false, ne-eqb}
 use lib.Dec.{eqb}
 use lib.ListN.{length}
 use Rattle.octets.specs.Pick.{pick, bind}
-use Rattle.digits.specs.Asserted.{isHexString, isBitText, isBits}
+use Rattle.digits.specs.Asserted.{digits, isHexString, isBitText, isBits}
+use Rattle.digits.specs.inner.Significant.{significant}
 use Rattle.rows.specs.Row.{kindAt, isList, namedAt}
 use Rattle.rows.proofs.KindLaws.{list-kinds}
 use Rattle.types.specs.Types.{NamedBit, Ty}
@@ -44,14 +45,19 @@ module _ (rule : Rule) (k n : ℕ) where
   named-less s e = rw e
 
 module _ (r : rules.Rule) (names : List NamedBit) (x : List ℕ) (u : Bool) (binary : u ≡ isBitText x) where
-  pub names-binary : (b : BitsTest) → u ≡ true → reportBits b ≡ some (ofRule r (testOf 20 0)) → reportBits b ≡ bitsTestBy r (some names) x
+  counted : (d : List ℕ) (n : ℕ) → d ≡ digits x → n ≡ significant (length d) d → n ≡ significant (length (digits x)) (digits x)
+  counted d n inside count = count ∙ ap (λ (y : List ℕ). significant (length y) y) inside
+
+  pub names-binary : (b : BitsTest) (d : List ℕ) (n : ℕ) → u ≡ true → d ≡ digits x → n ≡ significant (length d) d
+      → reportBits b ≡ some (ofRule r (testOf 20 n)) → reportBits b ≡ bitsTestBy r (some names) x
   unfolding bitsTestBy isBits testOf
-  names-binary b h e = rw (sym binary ∙ h) e
+  names-binary b d n h inside count e = rw (sym binary ∙ h, ← counted d n inside count) e
 
   module _ (h : u ≡ false) (v : Bool) (hexadecimal : v ≡ isHexString x) where
-    pub names-hexadecimal : (b : BitsTest) → v ≡ true → reportBits b ≡ some (ofRule r (testOf 19 0)) → reportBits b ≡ bitsTestBy r (some names) x
+    pub names-hexadecimal : (b : BitsTest) (d : List ℕ) (n : ℕ) → v ≡ true → d ≡ digits x → n ≡ significant (length d) d
+        → reportBits b ≡ some (ofRule r (testOf 19 n)) → reportBits b ≡ bitsTestBy r (some names) x
     unfolding bitsTestBy isBits testOf
-    names-hexadecimal b g e = rw (sym binary ∙ h, sym hexadecimal ∙ g) e
+    names-hexadecimal b d n g inside count e = rw (sym binary ∙ h, sym hexadecimal ∙ g, ← counted d n inside count) e
 
     module _ (g : v ≡ false) (s : BitSet) (told : reportSet s ≡ listedBits names x) where
       by-list : bitsTestBy r (some names) x ≡ bind (reportSet s) (λ l. some (ofRule r (Test.listed l)))

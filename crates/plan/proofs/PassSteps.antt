@@ -8,7 +8,7 @@ use borrow.Author.Tests.{eq-eqb, ne-eqb, lt-ltb, le-ltb}
 use lib.Dec.{ltb, leb, eqb}
 use lib.ListN.{length, getD}
 use Rattle.octets.specs.Pick.{pick, both, either, no}
-use Rattle.octets.specs.Octets.{same, below, paired}
+use Rattle.octets.specs.Octets.{part, same, below, paired}
 use Rattle.der.specs.Time as times
 use Rattle.der.specs.declared.Time.{Time}
 use Rattle.der.specs.Meaning.{plus, sameWhole, lessWhole, integerOf, booleanOf, arcsOf, bitsOf}
@@ -100,11 +100,12 @@ module _ (k : ℕ) (x c : List ℕ) where
     unfolding accepted
     named-listed e n h = rw (eq-eqb k 21 e) h
 
-    pub named-digits : (d : List ℕ) (n : ℕ) → d ≡ digits x → (k ≡ 21 → ⊥)
-        → r ≡ both (leb (length c) 65536) (same (trimmed (bitsOf c)) (trimmed (bitsIn (eqb k 19) d))) → r ≡ accepted (namedTest k n) x c
+    pub named-digits : (d e : List ℕ) (n : ℕ) → d ≡ digits x → e ≡ part d 0 n → (k ≡ 21 → ⊥)
+        → r ≡ both (leb (length c) 65536) (same (trimmed (bitsOf c)) (trimmed (bitsIn (eqb k 19) e))) → r ≡ accepted (namedTest k n) x c
     unfolding accepted
-    named-digits d n inside a h =
-        rw (ne-eqb k 21 a) (h ∙ ap (λ (y : List ℕ). both (leb (length c) 65536) (same (trimmed (bitsOf c)) (trimmed (bitsIn (eqb k 19) y)))) inside)
+    named-digits d e n inside cut a h =
+        rw (ne-eqb k 21 a) (h ∙ ap (λ (y : List ℕ). both (leb (length c) 65536) (same (trimmed (bitsOf c)) (trimmed (bitsIn (eqb k 19) y))))
+        (cut ∙ ap (λ (y : List ℕ). part y 0 n) inside))
 
 -- ---- a test by its numbers
 integer-told : (c : List ℕ) (r told otherwise : Bool) → r ≡ both (isShort c) told → shortFits c ≡ true → r ≡ integerIs told otherwise c
@@ -193,7 +194,7 @@ module _ (k n m : ℕ) where
           text false true = refl
           text false false = refl
 
-          named : (a : Bool) → false ≡ acceptedCount (pick a (Test.listed (maskBits n)) (Test.namedBits (eqb k 19))) m
+          named : (a : Bool) → false ≡ acceptedCount (pick a (Test.listed (maskBits n)) (Test.namedBits (eqb k 19) n)) m
           named true = refl
           named false = refl
 

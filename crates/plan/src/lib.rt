@@ -363,17 +363,19 @@ fn named_test(rule: Rule, comparison: usize, number: usize) -> BitsTest
     }
 }
 
-// Digits, or a list of names, each looked up once.
+// Digits, their trailing zeros counted off once, or a list of names, each looked up once.
 fn names_test(rule: Rule, t: &[u8], w: &[u64; 256], row: usize, x: &[u8]) -> BitsTest
     requires worded { ⌜ Worded (now t) (now w) ⌝ }
     requires here { ⌜ row < length (tableRows (now t)) ⌝ }
     ensures { λ r. ⌜ tests.reportBits r ≡ tests.bitsTestBy (meant rule) (some (namesAfter (now (t .entry)) row)) (now (x .entry)) ⌝ }
 {
     if digits::is_bit_text(x) {
-        return named_test(rule, Comparison::NAMED_BINARY, 0);
+        let count = digits::significant(digits::operand(x));
+        return named_test(rule, Comparison::NAMED_BINARY, count);
     }
     if digits::is_hex_string(x) {
-        return named_test(rule, Comparison::NAMED_HEXADECIMAL, 0);
+        let count = digits::significant(digits::operand(x));
+        return named_test(rule, Comparison::NAMED_HEXADECIMAL, count);
     }
     match bitnames::listed_bits(t, w, row, x) {
         BitSet::Of(set) => named_test(rule, Comparison::LISTED, set as usize),
@@ -505,7 +507,7 @@ fn accepts_named(comparison: usize, n: usize, x: &[u8], c: &[u8]) -> bool
     }
     digits::same_named_bits(
         c,
-        digits::operand(x),
+        octets::part(digits::operand(x), 0, n),
         comparison == Comparison::NAMED_HEXADECIMAL,
     )
 }

@@ -12,6 +12,7 @@ use Rattle.octets.specs.Text.{within}
 use Rattle.octets.proofs.Laws.{both-true}
 use Rattle.rows.specs.Row.{kindAt, countAt, elementAt, typeRowAt, isTypeKind, isGroup, isList, rowNamed, namesRow, namedAt, rowSize, membersAt}
 use Rattle.rows.specs.Row.{bitNamesAt, followerKind, followersAt, isFollower}
+use Rattle.rows.specs.inner.Sizes.{typeRowSize}
 
 pub list-kinds : (k : ℕ) → isList k ≡ either (eqb k 14) (eqb k 15)
 unfolding isList
@@ -91,6 +92,31 @@ kind-of-row k some other =
     go false a false b false c false d false e false true f h z = absurd (false≢true (sym h))
     go false a false b false c false d false e false false true h z = absurd (false≢true (sym h))
     go false a false b false c false d false e false false false h z = absurd (z refl)
+
+pub member-or-bit : (k : ℕ) → isFollower k ≡ true → (k ≡ 16) ⊎ (k ≡ 18)
+unfolding isFollower
+member-or-bit k e = go (eqb k 16) refl (eqb k 18) refl e
+  where
+    go : (x : Bool) → eqb k 16 ≡ x → (y : Bool) → eqb k 18 ≡ y → either x y ≡ true → (k ≡ 16) ⊎ (k ≡ 18)
+    go true q y r h = inl (eqb-true k 16 q)
+    go false q true r h = inr (eqb-true k 18 r)
+    go false q false r h = absurd (false≢true h)
+
+-- the octets of a type row are those of a row of its kind; a row that follows another is none
+pub type-row-size : (k : ℕ) → isFollower k ≡ false → typeRowSize k ≡ rowSize k
+unfolding typeRowSize rowSize isFollower
+type-row-size k e = go (eqb k 16) (eqb k 18) e
+  where
+    go : (x y : Bool) → either x y ≡ false
+        → _≡_ {A = ℕ} (pick (within 1 11 k) 1 (pick (isGroup k) 2 (pick (isList k) 3 (pick (eqb k 17) 2 0))))
+        (pick (within 1 11 k) 1 (pick (isGroup k) 2 (pick (isList k) 3 (pick x 39 (pick (eqb k 17) 2 (pick y 26 0))))))
+    go true y h = absurd (false≢true (sym h))
+    go false true h = absurd (false≢true (sym h))
+    go false false h = refl
+
+pub follower-unsized : (k : ℕ) → isFollower k ≡ true → typeRowSize k ≡ 0
+unfolding typeRowSize isGroup isList
+follower-unsized k e = ⊎-elim (λ (h : k ≡ 16). rw h) (λ (h : k ≡ 18). rw h) (member-or-bit k e)
 
 -- as many members follow a group as it counts; as many names a BIT STRING with names
 pub group-followers : (t : List ℕ) (p : ℕ) → isGroup (kindAt t p) ≡ true → followersAt t p ≡ membersAt t p

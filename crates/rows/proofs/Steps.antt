@@ -14,11 +14,11 @@ use Rattle.octets.specs.Octets.{octet, two, part, every}
 use Rattle.octets.specs.Text.{within, isLower, isLetter, isAlnum, mayFollow}
 use Rattle.octets.proofs.Laws.{octet-past, rest-none, part-rest, both-true, all-at, all-is, all-more, all-bad}
 use Rattle.octets.proofs.TextLaws.{every-is, every-at}
-use Rattle.rows.specs.Row.{kindAt, nameOctetAt, defaultAt, isTypeKind, isGroup, isList, namedAt, rowSize, membersAt, bitNamesAt, followerKind}
+use Rattle.rows.specs.Row.{kindAt, nameOctetAt, defaultAt, isTypeKind, isGroup, isList, namedAt, membersAt, bitNamesAt, followerKind}
 use Rattle.rows.specs.Row.{followersAt}
 use Rattle.rows.specs.Body.{countFormed, follows, followed, nameFormed, taggingFormed, tagFormed, presenceFormed, isZero, defaultFilled, memberFormed}
 use Rattle.rows.specs.Body.{bitFormed}
-use Rattle.rows.specs.inner.Sizes.{typeSize, WholeMember}
+use Rattle.rows.specs.inner.Sizes.{typeRowSize, typeSize, WholeMember}
 use Rattle.rows.specs.Paper.{tableLimits}
 use Rattle.rows.proofs.KindLaws.{list-named, member-named}
 
@@ -56,36 +56,28 @@ type-row-whole t p r w e = number-is t p 25 (octet t (p + 25)) (octet t (p + 26)
 
 -- ---- the rows
 module _ (k : ℕ) (a : Bool) (basic : a ≡ within 1 11 k) where
-  pub size-basic : a ≡ true → 1 ≡ rowSize k
-  unfolding rowSize
+  pub size-basic : a ≡ true → 1 ≡ typeRowSize k
+  unfolding typeRowSize
   size-basic h = rw (sym basic ∙ h)
 
   module _ (h : a ≡ false) (b : Bool) (group : b ≡ isGroup k) where
-    pub size-group : b ≡ true → 2 ≡ rowSize k
-    unfolding rowSize
+    pub size-group : b ≡ true → 2 ≡ typeRowSize k
+    unfolding typeRowSize
     size-group g = rw (sym basic ∙ h, sym group ∙ g)
 
     module _ (g : b ≡ false) (c : Bool) (list : c ≡ isList k) where
-      pub size-list : c ≡ true → 3 ≡ rowSize k
-      unfolding rowSize
+      pub size-list : c ≡ true → 3 ≡ typeRowSize k
+      unfolding typeRowSize
       size-list l = rw (sym basic ∙ h, sym group ∙ g, sym list ∙ l)
 
       module _ (l : c ≡ false) where
-        pub size-member : k ≡ 16 → 39 ≡ rowSize k
-        unfolding rowSize
-        size-member e = rw (sym basic ∙ h, sym group ∙ g, sym list ∙ l, eq-eqb k 16 e)
+        pub size-named : k ≡ 17 → 2 ≡ typeRowSize k
+        unfolding typeRowSize
+        size-named e = rw (sym basic ∙ h, sym group ∙ g, sym list ∙ l, eq-eqb k 17 e)
 
-        pub size-named : k ≡ 17 → 2 ≡ rowSize k
-        unfolding rowSize
-        size-named e = rw (sym basic ∙ h, sym group ∙ g, sym list ∙ l, e)
-
-        pub size-bit : k ≡ 18 → 26 ≡ rowSize k
-        unfolding rowSize
-        size-bit e = rw (sym basic ∙ h, sym group ∙ g, sym list ∙ l, e)
-
-        pub size-none : (k ≡ 16 → ⊥) → (k ≡ 17 → ⊥) → (k ≡ 18 → ⊥) → 0 ≡ rowSize k
-        unfolding rowSize
-        size-none a b c = rw (sym basic ∙ h, sym group ∙ g, sym list ∙ l, ne-eqb k 16 a, ne-eqb k 17 b, ne-eqb k 18 c)
+        pub size-none : (k ≡ 17 → ⊥) → 0 ≡ typeRowSize k
+        unfolding typeRowSize
+        size-none n = rw (sym basic ∙ h, sym group ∙ g, sym list ∙ l, ne-eqb k 17 n)
 
 module _ (t : List ℕ) (p o : ℕ) (g : Bool) (read : o ≡ octet t p) (told : g ≡ isGroup o) where
   pub members-group : (a r : ℕ) → g ≡ true → a ≡ octet t (p + 1) → r ≡ a → r ≡ membersAt t p
@@ -105,6 +97,10 @@ module _ (k : ℕ) (a : Bool) (told : a ≡ within 1 15 k) where
   unfolding isTypeKind
   type-named h = rw (sym told ∙ h)
 
+pub follower-low : (k : ℕ) → k < 12 → 0 ≡ followerKind k
+unfolding followerKind isGroup
+follower-low k h = rw (ne-eqb k 12 (λ e. omega arith), ne-eqb k 13 (λ e. omega arith), ne-eqb k 17 (λ e. omega arith))
+
 module _ (k : ℕ) (g : Bool) (told : g ≡ isGroup k) where
   pub follower-group : g ≡ true → 16 ≡ followerKind k
   unfolding followerKind
@@ -119,14 +115,14 @@ module _ (k : ℕ) (g : Bool) (told : g ≡ isGroup k) where
     unfolding followerKind
     follower-none n = rw (sym told ∙ h, ne-eqb k 17 n)
 
-module _ (t : List ℕ) (p o f : ℕ) (read : o ≡ octet t p) (told : f ≡ followerKind o) where
+module _ (t : List ℕ) (p f : ℕ) (told : f ≡ followerKind (octet t p)) where
   pub followers-none : f ≡ 0 → 0 ≡ followersAt t p
   unfolding followersAt
-  followers-none h = rw (← read, sym told ∙ h)
+  followers-none h = rw (sym told ∙ h)
 
   pub followers-count : (a r : ℕ) → (f ≡ 0 → ⊥) → a ≡ octet t (p + 1) → r ≡ a → r ≡ followersAt t p
   unfolding followersAt
-  followers-count a r n e q = rw (← read, ← told, ne-eqb f 0 n) (q ∙ e)
+  followers-count a r n e q = rw (← told, ne-eqb f 0 n) (q ∙ e)
 
 module _ (t : List ℕ) (p o : ℕ) (read : o ≡ octet t p) where
   pub names-count : (a r : ℕ) → o ≡ 17 → a ≡ octet t (p + 1) → r ≡ a → r ≡ bitNamesAt t p
@@ -137,7 +133,7 @@ module _ (t : List ℕ) (p o : ℕ) (read : o ≡ octet t p) where
   unfolding bitNamesAt
   names-none n = rw (← read, ne-eqb o 17 n)
 
-module _ (most : ℕ) (t : List ℕ) (p size : ℕ) (sized : size ≡ rowSize (octet t p)) where
+module _ (most : ℕ) (t : List ℕ) (p size : ℕ) (sized : size ≡ typeRowSize (octet t p)) where
   pub type-short : length t - p < size → 0 ≡ typeSize most t p
   unfolding typeSize
   type-short h = rw (← sized, lt-ltb (length t - p) size h)

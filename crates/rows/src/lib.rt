@@ -9,7 +9,7 @@ ghost use Rattle.octets.specs.Octets.{octet, two, part, every, same};
 ghost use Rattle.rows.specs.Row as row;
 ghost use Rattle.rows.specs.Body as body;
 ghost use Rattle.rows.specs.inner.Numbers.{leastFirst};
-ghost use Rattle.rows.specs.inner.Sizes.{typeSize, WholeMember};
+ghost use Rattle.rows.specs.inner.Sizes.{typeRowSize, typeSize, WholeMember};
 ghost use Rattle.rows.specs.Limits.{tableFits};
 ghost use Rattle.rows.specs.Paper.{tableLimits};
 
@@ -211,8 +211,9 @@ pub fn is_list(kind: u8) -> bool
     kind == Kind::SET_OF
 }
 
-fn row_size(kind: u8) -> usize
-    ensures { λ r. ⌜ r ≡ row.rowSize kind ⌝ }
+// The octets of a type row of a kind; 0 where no type has the kind.
+fn type_row_size(kind: u8) -> usize
+    ensures { λ r. ⌜ r ≡ typeRowSize kind ⌝ }
 {
     if octets::within(Kind::BOOLEAN, Kind::GENERALIZED_TIME, kind) {
         return 1;
@@ -223,32 +224,19 @@ fn row_size(kind: u8) -> usize
     if is_list(kind) {
         return 3;
     }
-    if kind == Kind::MEMBER {
-        return Table::MEMBER_BYTES;
-    }
     if kind == Kind::NAMED_BIT_STRING {
         return 2;
     }
-    if kind == Kind::NAMED_BIT {
-        return Table::BIT_BYTES;
-    }
     0
-}
-
-// Whether rows of a kind only follow another.
-pub fn is_follower(kind: u8) -> bool
-    ensures { λ r. ⌜ r ≡ row.isFollower kind ⌝ }
-{
-    if kind == Kind::MEMBER {
-        return true;
-    }
-    kind == Kind::NAMED_BIT
 }
 
 // The kind of the rows that follow a row of a kind; 0 where none follow.
 pub fn follower_kind(kind: u8) -> u8
     ensures { λ r. ⌜ r ≡ row.followerKind kind ⌝ }
 {
+    if kind < Kind::SEQUENCE {
+        return 0;
+    }
     if is_group(kind) {
         return Kind::MEMBER;
     }
@@ -258,11 +246,12 @@ pub fn follower_kind(kind: u8) -> u8
     0
 }
 
-// How many rows follow a row.
-pub fn followers_at(t: &[u8], p: usize) -> usize
+// How many rows follow a row, given their kind.
+pub fn followers_at(t: &[u8], p: usize, follower: u8) -> usize
+    requires { ⌜ follower ≡ row.followerKind (row.kindAt (now t) p) ⌝ }
     ensures { λ r. ⌜ r ≡ row.followersAt (now (t .entry)) p ⌝ }
 {
-    if follower_kind(kind_at(t, p)) == 0 {
+    if follower == 0 {
         return 0;
     }
     octets::wide(field(t, p, 1))
@@ -485,7 +474,7 @@ pub fn type_size(t: &[u8], p: usize) -> usize
     ensures size { λ r. ⌜ r ≡ typeSize (tableLimits .members) (now (t .entry)) p ⌝ }
     ensures inside { λ r. ⌜ p + r ≤ length (now (t .entry)) ⌝ }
 {
-    let size = row_size(t[p]);
+    let size = type_row_size(t[p]);
     if t.len() - p < size {
         return 0;
     }

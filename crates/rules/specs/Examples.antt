@@ -160,11 +160,17 @@ accents : accented (hex "C3896C616E") "caseIgnoreMatch" (hex "22C3A96C616E22" �
 unfolding rulesCompute testOctets accented
 accents = refl
 
--- a soft hyphen alone conforms, and equals what is prepared to nothing: an empty string, spaces, controls
-nothing : map (λ c. testOctets (ofType (basic 8 [])) "caseIgnoreMatch" (contents 8 c) (hex "22C2AD22")) ([] ∷ hex "2020" ∷ hex "0009" ∷ bytes "a" ∷ [])
-    ≡ some true ∷ some true ∷ some true ∷ some false ∷ []
+-- a soft hyphen alone conforms, and equals what is prepared to nothing: an empty string, spaces, controls; for both rules
+abbrev againstNothing : String → List (Option Bool)
+againstNothing rule = map (λ c. testOctets (ofType (basic 8 [])) rule (contents 8 c) (hex "22C2AD22")) ([] ∷ hex "2020" ∷ hex "0009" ∷ bytes "a" ∷ [])
+
+nothing : againstNothing "caseIgnoreMatch" ≡ some true ∷ some true ∷ some true ∷ some false ∷ []
 unfolding rulesCompute testOctets
 nothing = refl
+
+nothing-exact : againstNothing "caseExactMatch" ≡ some true ∷ some true ∷ some true ∷ some false ∷ []
+unfolding rulesCompute testOctets
+nothing-exact = refl
 
 times : tests 11 "generalizedTimeMatch" (bytes "20240229120000.5Z") ("\"20240229120000.5Z\"" ∷ "\"20240229120000Z\"" ∷ "\"20240229120000.50Z\""
     ∷ "\"20230229120000Z\"" ∷ "20240229120000.5Z" ∷ "\"202402291200Z\"" ∷ [])

@@ -50,7 +50,7 @@ table =
     run 0x0000 0x0008 nothing  -- map: controls
     ∷ run 0x0009 0x000D space  -- map: tabulations and line ends
     ∷ run 0x000E 0x001F nothing  -- map: controls
-    ∷ one 0x0020 space
+    ∷ one 0x0020 space  -- map: space
     ∷ foldedRun 0x0041 0x005A 1 (above 32)  -- B.2: A to Z
     ∷ run 0x007F 0x0084 nothing  -- map: controls
     ∷ one 0x0085 space  -- map: next line

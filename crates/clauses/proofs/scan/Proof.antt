@@ -1,7 +1,7 @@
 use lib.ListN.{length}
 use Prim.Native.Nat.{_-_}
 use Rattle.clauses.proofs.PassSteps.{Passing, fails, pass-start, due-kind, due-place, pass-many, pass-missing, pass-misfit, pass-follower}
-use Rattle.clauses.proofs.PassSteps.{pass-extra, pass-unsized, pass-type, pass-due, pass-done}
+use Rattle.clauses.proofs.PassSteps.{pass-unsized, pass-type, pass-due, pass-done}
 use borrow.Author.Needs.{needs}
 use Rattle.clauses.proofs.scan.Statement.{statement}
 use Rattle.clauses.proofs.scan.Tie as tie
@@ -33,15 +33,13 @@ scan-spec =
     (λ c. search needs)  -- add-before
     (λ c. search needs)  -- loop-less
     (λ c. search pass-follower)  -- loop-again
-    (λ c κs. search needs)  -- is-follower-requires
-    (λ c. fails _ _ (search needs) (search pass-extra))  -- returns-4
     (λ c κs. search needs)  -- type-size-requires
-    (λ c. fails _ _ (search needs) (search pass-unsized))  -- returns-5
+    (λ c. fails _ _ (search needs) (search pass-unsized))  -- returns-4
     (λ c κs. search needs)  -- follower-kind-requires
     (λ c κs. search needs)  -- followers-at-requires
     (λ c. search needs)  -- add-at-2
     (λ c. search needs)  -- add-n-2
     (λ c. search needs)  -- loop-less-2
     (λ c. search pass-type)  -- loop-again-2
-    (λ c. fails _ _ (search needs) (search pass-due))  -- returns-6
-    (λ c. pass-done _ _ _ _ _ _ _ _ (c .before .before .loop .inv) (c .before .loop-test .left) (c .if7 .left)))  -- returns-7
+    (λ c. fails _ _ (search needs) (search pass-due))  -- returns-5
+    (λ c. pass-done _ _ _ _ _ _ _ _ (c .before .before .loop .inv) (c .before .loop-test .left) (c .if6 .left)))  -- returns-6

@@ -1,6 +1,6 @@
 use Prim.Native.Nat.{_-_}
 use Rattle.der.specs.Meaning.{bitsOf}
-use Rattle.digits.proofs.NamedSteps.{mask-differ, mask-done, mask-on}
+use Rattle.digits.proofs.NamedSteps.{mask-differ, mask-done, mask-last, mask-on}
 use Rattle.digits.specs.inner.Alike.{alikeNumber}
 use borrow.Author.Needs.{needs}
 use lib.ListN.{drop}
@@ -21,11 +21,14 @@ alike-mask-spec =
     Inv-loop
     μ-loop
     (λ c κs. search needs)  -- bit-count-requires
-    (λ c. refl)  -- loop-holds
+    (λ c. search needs)  -- sub-bit-at
     (λ c κs. search needs)  -- bit-at-requires
+    (λ c. search mask-last)  -- returns
+    (λ c. refl)  -- loop-holds
+    (λ c κs. search needs)  -- bit-at-requires-2
     (λ c κs. search needs)  -- wide64-requires
-    (λ c. search mask-differ)  -- returns
+    (λ c. search mask-differ)  -- returns-2
     (λ c. search needs)  -- add-i
     (λ c. search needs)  -- loop-less
     (λ c. search mask-on)  -- loop-again
-    (λ c. search mask-done))  -- returns-2
+    (λ c. search mask-done))  -- returns-3

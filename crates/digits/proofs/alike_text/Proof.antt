@@ -1,6 +1,7 @@
 use Prim.Native.Nat.{_-_}
 use Rattle.der.specs.Meaning.{bitsOf}
 use Rattle.digits.proofs.NamedSteps.{alike-differ, alike-done, alike-on, alike-start}
+use Rattle.digits.proofs.SignificantLaws.{ends-some, digits-differ}
 use Rattle.digits.specs.inner.Alike.{alike}
 use Rattle.digits.specs.inner.Answers.{bitsIn, restBits}
 use borrow.Author.Needs.{needs}
@@ -22,12 +23,16 @@ alike-text-spec =
     Inv-loop
     μ-loop
     (λ c κs. search needs)  -- bit-count-requires
+    (λ c κs. search needs)  -- ends-before-requires
+    (λ c. search ends-some)  -- sub-bit-at
+    (λ c κs. search needs)  -- bit-at-requires
+    (λ c. search digits-differ)  -- returns
     (λ c. search alike-start)  -- loop-holds
     (λ c κs. search needs)  -- draw-bit-requires
-    (λ c κs. search needs)  -- bit-at-requires
-    (λ c. search alike-differ)  -- returns
+    (λ c κs. search needs)  -- bit-at-requires-2
+    (λ c. search alike-differ)  -- returns-2
     (λ c. search needs)  -- add-i
     (λ c. search needs)  -- loop-less
     (λ c. search alike-on)  -- loop-again
     (λ c κs. search needs)  -- only-zeros-requires
-    (λ c. search alike-done))  -- returns-2
+    (λ c. search alike-done))  -- returns-3

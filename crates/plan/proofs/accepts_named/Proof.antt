@@ -10,5 +10,6 @@ accepts-named-spec =
     (λ c κs. search needs)  -- same-mask-requires
     (λ c. search named-listed)  -- returns
     (λ c κs. search needs)  -- operand-requires
+    (λ c κs. search needs)  -- part-requires
     (λ c κs. search needs)  -- same-named-bits-requires
     (λ c. search named-digits))  -- returns-2

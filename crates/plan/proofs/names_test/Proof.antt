@@ -8,9 +8,13 @@ names-test-spec =
     tie.close
     (tie.spec
     (λ c κs. search needs)  -- is-bit-text-requires
+    (λ c κs. search needs)  -- operand-requires
+    (λ c κs. search needs)  -- significant-requires
     (λ c κs. search needs)  -- named-test-requires
     (λ c. search names-binary)  -- returns
     (λ c κs. search needs)  -- is-hex-string-requires
+    (λ c κs. search needs)  -- operand-requires-2
+    (λ c κs. search needs)  -- significant-requires-2
     (λ c κs. search needs)  -- named-test-requires-2
     (λ c. search names-hexadecimal)  -- returns-2
     (λ c κs. search needs)  -- listed-bits-requires

@@ -7,7 +7,7 @@ use mathlib.Core.List.{List}
 use lib.ListN.{length}
 use lib.Dec.{ltb, leb, eqb}
 use Rattle.octets.specs.Pick.{pick, both, no, bind}
-use Rattle.octets.specs.Octets.{same, below, bytes, paired}
+use Rattle.octets.specs.Octets.{part, same, below, bytes, paired}
 use Rattle.der.specs.Time as times
 use Rattle.der.specs.Meaning.{plus, sameWhole, lessWhole, integerOf, booleanOf, arcsOf, bitsOf}
 use Rattle.der.specs.Dotted.{dottedArcs}
@@ -19,6 +19,7 @@ use Rattle.digits.specs.Asserted.{digits, isBitText, isBits}
 use Rattle.digits.specs.Named.{trimmed}
 use Rattle.digits.specs.inner.Answers.{bitsIn}
 use Rattle.digits.specs.inner.Masks.{maskBits}
+use Rattle.digits.specs.inner.Significant.{significant}
 use Rattle.strings.specs.Prepared.{prepared}
 use Rattle.strings.specs.inner.Comparing.{folded}
 use Rattle.types.specs.Types.{NamedBit}
@@ -32,7 +33,7 @@ use Rattle.plan.specs.declared.TestNumbers.{TestNumbers}
 use Rattle.plan.specs.declared.BitsTest.{BitsTest}
 
 -- any value, none; a truth; an integer equal to a bound, or less; arcs; octets equal, or less; bits of hexadecimal digits (true) or binary ones; a string,
--- folded (true) or exact; a time equal, or earlier; bits with names, of digits as above, or listed
+-- folded (true) or exact; a time equal, or earlier; bits with names, of so many digits, which are as above, or listed
 pub data Test : Type 0 where
   anyValue : Test
   noValue : Test
@@ -46,7 +47,7 @@ pub data Test : Type 0 where
   string : Bool → Test
   time : Test
   earlierTime : Test
-  namedBits : Bool → Test
+  namedBits : Bool → ℕ → Test
   listed : List ℕ → Test
 
 -- ---- what a test says of contents
@@ -67,7 +68,7 @@ accepted (bits hexed) x c = both (leb (length c) 65536) (same (bitsOf c) (bitsIn
 accepted (string fold) x c = same (prepared fold c) (folded fold x)
 accepted time x c = times.sameTime (times.timeOf c) (times.timeOf x)
 accepted earlierTime x c = times.earlier (times.timeOf c) (times.timeOf x)
-accepted (namedBits hexed) x c = both (leb (length c) 65536) (same (trimmed (bitsOf c)) (trimmed (bitsIn hexed (digits x))))
+accepted (namedBits hexed n) x c = both (leb (length c) 65536) (same (trimmed (bitsOf c)) (trimmed (bitsIn hexed (part (digits x) 0 n))))
 accepted (listed l) x c = both (leb (length c) 65536) (same (trimmed (bitsOf c)) (trimmed l))
 
 -- of a count, below 2^63
@@ -84,7 +85,7 @@ acceptedCount (bits hexed) n = false
 acceptedCount (string fold) n = false
 acceptedCount time n = false
 acceptedCount earlierTime n = false
-acceptedCount (namedBits hexed) n = false
+acceptedCount (namedBits hexed m) n = false
 acceptedCount (listed l) n = false
 
 -- ---- the test of a rule with an operand
@@ -112,7 +113,7 @@ testFor (rule.equal s) x = equalTest s x
 testFor (rule.less s) x = lessTest s x
 
 -- ---- the test of a rule of bits with a value text, by the names of bits there; none where the text doesn't conform
--- with names: of a text that is no list by its digits; an ordering rule accepts no bits
+-- with names: of a text that is no list by its digits up to the last that isn't 0; an ordering rule accepts no bits
 abbrev pub ofRule : Rule → Test → Test
 ofRule rule.present u = anyValue
 ofRule (rule.equal s) u = u
@@ -121,7 +122,7 @@ ofRule (rule.less s) u = noValue
 unfoldable pub bitsTestBy : Rule → Option (List NamedBit) → List ℕ → Option Test
 bitsTestBy r none x = pick (isBits x) (some (testFor r x)) none
 bitsTestBy r (some ns) x =
-    pick (isBits x) (some (ofRule r (namedBits (no (isBitText x)))))
+    pick (isBits x) (some (ofRule r (namedBits (no (isBitText x)) (significant (length (digits x)) (digits x)))))
     (bind (names.listedBits ns x) (λ l. some (ofRule r (listed l))))
 
 -- none where the rule isn't for what the reference leads to, too
@@ -142,7 +143,7 @@ abbrev pub textTest : ℕ → Test
 textTest a = pick (eqb a 17) time (pick (eqb a 18) earlierTime (string (eqb a 15)))
 
 abbrev pub namedTest : ℕ → ℕ → Test
-namedTest a n = pick (eqb a 21) (listed (maskBits n)) (namedBits (eqb a 19))
+namedTest a n = pick (eqb a 21) (listed (maskBits n)) (namedBits (eqb a 19) n)
 
 unfoldable pub testOf : ℕ → ℕ → Test
 testOf a n =

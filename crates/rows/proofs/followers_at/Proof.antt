@@ -7,8 +7,6 @@ pub followers-at-spec : {M : Type 1} → statement M
 followers-at-spec =
     tie.close
     (tie.spec
-    (λ c κs. search needs)  -- kind-at-requires
-    (λ c κs. search needs)  -- follower-kind-requires
     (λ c. search followers-none)  -- returns
     (λ c κs. search needs)  -- field-requires
     (λ c κs. search needs)  -- wide-requires

@@ -7,8 +7,8 @@ pub type-size-spec : {M : Type 1} → statement M
 type-size-spec =
     tie.close
     (tie.spec
-    (λ c. search needs)  -- shared-slice-read-row-size
-    (λ c κs. search needs)  -- row-size-requires
+    (λ c. search needs)  -- shared-slice-read-type-row-size
+    (λ c κs. search needs)  -- type-row-size-requires
     (λ c. search needs)  -- sub-if
     (λ c. (search type-short, search needs))  -- returns
     (λ c κs. search needs)  -- count-formed-requires

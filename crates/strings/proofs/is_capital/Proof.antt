@@ -1,12 +1,14 @@
-use Rattle.strings.proofs.ShapeSteps.{capital-1, capital-2, capital-3, capital-last}
+use Rattle.octets.proofs.Tests.{tests}
+use Rattle.strings.specs.inner.Shapes.{isCapital}
 use Rattle.strings.proofs.is_capital.Statement.{statement}
 use Rattle.strings.proofs.is_capital.Tie as tie
 
 pub is-capital-spec : {M : Type 1} → statement M
+unfolding isCapital
 is-capital-spec =
     tie.close
     (tie.spec
-    (λ c. search capital-1)  -- returns
-    (λ c. search capital-2)  -- returns-2
-    (λ c. search capital-3)  -- returns-3
-    (λ c. search capital-last))  -- returns-4
+    (λ c. search tests)  -- returns
+    (λ c. search tests)  -- returns-2
+    (λ c. search tests)  -- returns-3
+    (λ c. search tests))  -- returns-4
