@@ -311,7 +311,7 @@ static void mutate(long calls, uint64_t seed)
     question made = {.table.start = memory[0], .value.start = memory[1], .filter.start = memory[2]};
     long kinds[32] = {0};
 
-    state = seed | 1;
+    state = seed * 2 + 1;
     for (long call = 0; call < calls; call++) {
         make_changed(&made);
         tezqulom_answer engine = ask_engine(&made), other = ask_independent(&made);
