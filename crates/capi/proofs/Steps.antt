@@ -17,11 +17,13 @@ use Rattle.value.specs.Part.{PartReport, refusedPart, partReport}
 use Rattle.value.specs.declared.ValueCheck.{ValueCheck}
 use Rattle.quote.specs.declared.Quoted.{Quoted}
 use Rattle.quote.specs.Quote.{Quoting, quoting}
+use Rattle.escape.specs.declared.Escaped.{Escaped}
+use Rattle.escape.specs.Escape.{Escaping, escaping}
 use Rattle.engine.specs.Answer as answer
 use Rattle.engine.specs.Listing as listing
 use Rattle.engine.specs.declared.Answer.{Answer}
 use Rattle.engine.specs.declared.Listed.{Listed}
-use Rattle.capi.specs.Numbers.{numbers, ofTable, ofValue, CPart, ofPart, partSeen, ofListed, ofListing, writtenSeen, ofQuoted, ofQuoting, ofReport}
+use Rattle.capi.specs.Numbers.{numbers, ofTable, ofValue, CPart, ofPart, partSeen, ofListed, ofListing, writtenSeen, ofQuoted, ofQuoting, ofEscaped, ofEscaping, ofReport}
 use Rattle.capi.specs.declared.CAnswer.{CAnswer}
 
 -- ---- each kind of answer as two numbers
@@ -44,6 +46,9 @@ module _ (r : CAnswer) where
 
     pub quoted-written : (a : Quoted) → a ≡ Quoted.Written n → r ≡ numbers 0 n → r ≡ ofQuoted a
     quoted-written a e q = rw e q
+
+    pub escaped-written : (a : Escaped) → a ≡ Escaped.Written n → r ≡ numbers 0 n → r ≡ ofEscaped a
+    escaped-written a e q = rw e q
 
     pub answer-false : (a : Answer) → a ≡ Answer.False n → r ≡ numbers 16 n → r ≡ ofReport (answer.report a)
     answer-false a e q = rw e q
@@ -69,6 +74,12 @@ module _ (r : CAnswer) where
   pub quoted-little : (a : Quoted) → a ≡ Quoted.TooLittleRoom → r ≡ numbers 34 0 → r ≡ ofQuoted a
   quoted-little a e q = rw e q
 
+  pub escaped-other : (a : Escaped) → a ≡ Escaped.NotUtf8 → r ≡ numbers 33 0 → r ≡ ofEscaped a
+  escaped-other a e q = rw e q
+
+  pub escaped-little : (a : Escaped) → a ≡ Escaped.TooLittleRoom → r ≡ numbers 34 0 → r ≡ ofEscaped a
+  escaped-little a e q = rw e q
+
   -- ---- what is said of an entry's report is said of the two numbers
   pub list-numbers : (a : Listed) (memory : List ℕ) (l : listing.Listing) → r ≡ ofListed (listing.report a) → listing.listing a memory ≡ l
       → writtenSeen r memory ≡ ofListing l
@@ -76,6 +87,9 @@ module _ (r : CAnswer) where
 
   pub quote-numbers : (a : Quoted) (memory : List ℕ) (l : Quoting) → r ≡ ofQuoted a → quoting a memory ≡ l → writtenSeen r memory ≡ ofQuoting l
   quote-numbers a memory l e q = ap (λ (x : CAnswer). writtenSeen x memory) e ∙ ap ofQuoting q
+
+  pub escape-numbers : (a : Escaped) (memory : List ℕ) (l : Escaping) → r ≡ ofEscaped a → escaping a memory ≡ l → writtenSeen r memory ≡ ofEscaping l
+  escape-numbers a memory l e q = ap (λ (x : CAnswer). writtenSeen x memory) e ∙ ap ofEscaping q
 
 pub as-numbers : {A : Type 0} (of : A → CAnswer) (r : CAnswer) (x y : A) → r ≡ of x → x ≡ y → r ≡ of y
 as-numbers of r x y e q = e ∙ ap of q

@@ -1,5 +1,5 @@
 -- An answer as two numbers: what it is, and a count, which is 0 with a refusal. The first is 0 for done, a refusal's number, a truth's: 16 FALSE,
--- 17 TRUE, 18 Undefined, or why nothing was quoted: 32 an empty text, 33 not UTF-8, 34 too little room.
+-- 17 TRUE, 18 Undefined, or why nothing was quoted or escaped: 32 an empty text, 33 not UTF-8, 34 too little room.
 use Prim.Native.Nat.{ℕ}
 use mathlib.Core.Bool.{Bool, not}
 use mathlib.Core.Option.{Option, none, some}
@@ -12,6 +12,8 @@ use Rattle.value.specs.Check.{ValueReport}
 use Rattle.value.specs.Part.{PartReport}
 use Rattle.quote.specs.declared.Quoted.{Quoted}
 use Rattle.quote.specs.Quote.{Quoting}
+use Rattle.escape.specs.declared.Escaped.{Escaped}
+use Rattle.escape.specs.Escape.{Escaping}
 use Rattle.evaluation.specs.Truth.{Truth, TRUE, FALSE, UNDEFINED}
 use Rattle.engine.specs.Answer.{Report}
 use Rattle.engine.specs.Listing.{ListReport, Listing}
@@ -69,6 +71,15 @@ ofQuoted Quoted.TooLittleRoom = numbers 34 0
 
 abbrev pub ofQuoting : Quoting → CWritten
 ofQuoting q = writtenSeen (ofQuoted (q .answer)) (q .memory)
+
+-- a value escaped for a name: the count is the octets written
+abbrev pub ofEscaped : Escaped → CAnswer
+ofEscaped (Escaped.Written n) = numbers 0 n
+ofEscaped Escaped.NotUtf8 = numbers 33 0
+ofEscaped Escaped.TooLittleRoom = numbers 34 0
+
+abbrev pub ofEscaping : Escaping → CWritten
+ofEscaping e = writtenSeen (ofEscaped (e .answer)) (e .memory)
 
 -- ---- the answer to a filter: the count is the tests made
 abbrev pub truthNumber : ℕ → Option Truth → ℕ

@@ -1,6 +1,7 @@
-// The five entries and `quote` for programs in other languages, as include/tezqulom.h declares them. A slice is a pointer and a length.
+// The five entries, `quote` and `escape` for programs in other languages, as include/tezqulom.h declares them. A slice is a pointer and a length.
 use engine::Answer;
 use engine::Listed;
+use escape::Escaped;
 use quote::Quoted;
 use table::TableCheck;
 use value::ValueCheck;
@@ -11,13 +12,15 @@ ghost use Rattle.value.specs.Check as values;
 ghost use Rattle.value.specs.Part.{partReport};
 ghost use Rattle.rules.specs.Rule.{knownRules};
 ghost use Rattle.quote.specs.Quote.{quotedReport};
+ghost use Rattle.escape.specs.Escape.{escapedReport};
 ghost use Rattle.engine.specs.Answer as answer;
 ghost use Rattle.engine.specs.Listing as listing;
 ghost use Rattle.engine.specs.Paper.{limits};
-ghost use Rattle.capi.specs.Numbers.{isSet, numbers, ofTable, ofValue, ofPart, partSeen, ofListed, ofListing, writtenSeen, ofQuoted, ofQuoting, ofReport};
+ghost use Rattle.capi.specs.Numbers.{isSet, numbers, ofTable, ofValue, ofPart, partSeen, ofListed, ofListing, writtenSeen, ofQuoted, ofQuoting};
+ghost use Rattle.capi.specs.Numbers.{ofEscaped, ofEscaping, ofReport};
 
-// An answer as two numbers: what it is (0 done, a refusal by its number, 16 FALSE, 17 TRUE, 18 Undefined, 32 to 34 nothing quoted), and a count, which
-// is 0 with a refusal and where nothing is quoted.
+// An answer as two numbers: what it is (0 done, a refusal by its number, 16 FALSE, 17 TRUE, 18 Undefined, 32 to 34 nothing quoted or escaped), and a count,
+// which is 0 with a refusal and where nothing is quoted or escaped.
 #[repr(C)]
 pub struct CAnswer {
     pub number: u64,
@@ -68,6 +71,16 @@ fn of_quoted(a: Quoted) -> CAnswer
         Quoted::Empty => CAnswer::of(32, 0),
         Quoted::NotUtf8 => CAnswer::of(33, 0),
         Quoted::TooLittleRoom => CAnswer::of(34, 0),
+    }
+}
+
+fn of_escaped(a: Escaped) -> CAnswer
+    ensures { λ r. ⌜ r ≡ ofEscaped a ⌝ }
+{
+    match a {
+        Escaped::Written(n) => CAnswer::of(0, n as u64),
+        Escaped::NotUtf8 => CAnswer::of(33, 0),
+        Escaped::TooLittleRoom => CAnswer::of(34, 0),
     }
 }
 
@@ -135,4 +148,11 @@ pub extern "C" fn tezqulom_quote(text: &[u8], room: &mut [u8]) -> CAnswer
     ensures { λ r. ⌜ writtenSeen r (now (room .exit)) ≡ ofQuoting (quotedReport (now (text .entry)) (now (room .entry))) ⌝ }
 {
     of_quoted(quote::quote(text, room))
+}
+
+#[no_mangle]
+pub extern "C" fn tezqulom_escape(text: &[u8], room: &mut [u8]) -> CAnswer
+    ensures { λ r. ⌜ writtenSeen r (now (room .exit)) ≡ ofEscaping (escapedReport (now (text .entry)) (now (room .entry))) ⌝ }
+{
+    of_escaped(escape::escape(text, room))
 }

@@ -5,7 +5,7 @@ use mathlib.Core.List.{List, _∷_}
 use Prim.Native.Nat.{ℕ, _≤_, _<_, _+_, _-_, _*_}
 use borrow.Author.Tests.{not-true, not-false}
 use Rattle.octets.specs.Text.{within}
-use Rattle.der.specs.Contents.{legal}
+use Rattle.der.specs.Legal.{legal}
 use Rattle.clauses.specs.Clauses.{defaultAllowed}
 
 pub allowed-not : (k : ℕ) (c : List ℕ) (r : Bool) → r ≡ within 1 3 k → not r ≡ true → false ≡ defaultAllowed k c

@@ -8,7 +8,7 @@ use Rattle.octets.specs.Pick.{pick, both, either, no, all}
 use Rattle.octets.specs.Octets.{same}
 use Rattle.octets.specs.Text.{within}
 use Rattle.der.specs.Kind as kind
-use Rattle.der.specs.Contents.{legal}
+use Rattle.der.specs.Legal.{legal}
 use Rattle.rows.specs.Row.{nameAt, kindAt, modeAt, presenceAt, defaultLengthAt, defaultAt, bitNumberAt, isTypeKind, namesRow, namedAt, rowAt}
 use Rattle.rows.specs.Row.{membersAt, bitNamesAt, followerKind, followersAt}
 use Rattle.rows.specs.Body.{rowFormed}

@@ -5,3 +5,4 @@ pub mod Determined
 pub mod Demand3
 pub mod Prepared
 pub mod NamedBits
+pub mod Names

@@ -21,7 +21,9 @@ use Rattle.octets.proofs.TextLaws.{larger-least, larger-most}
 use Rattle.der.specs.Time.{legalTime}
 use Rattle.der.specs.Contents.{legalBoolean, shortest, legalInteger, legalBits, legalNamedBits, isSign, isMark, isPrintable, isIa5, legalNull, legalOid}
 use Rattle.der.specs.Contents.{legalPrintable}
-use Rattle.der.specs.Contents.{legalIa5, legalText, legal}
+use Rattle.der.specs.Contents.{legalIa5, legalText}
+use Rattle.der.specs.Names.{legalRdnSequence, legalRdn}
+use Rattle.der.specs.Legal.{legal}
 use Rattle.der.specs.inner.Answers.{fourPrintable}
 
 -- ---- BOOLEAN
@@ -259,6 +261,26 @@ unfolding legalIa5
 ia5-is c most e = ap (λ (x : ℕ). ltb x 128) e ∙ ia5-from 0 c
 
 -- ---- by kind
+pub kind-none : (k : ℕ) (c : List ℕ) → 12 ≤ k → (k ≡ 17 → ⊥) → (k ≡ 19 → ⊥) → (k ≡ 20 → ⊥) → false ≡ legal k c
+unfolding legal legalText
+kind-none k c h n17 n19 n20 =
+    rw (
+      ne-eqb k 1 (λ z. omega arith),
+      ne-eqb k 2 (λ z. omega arith),
+      ne-eqb k 3 (λ z. omega arith),
+      ne-eqb k 4 (λ z. omega arith),
+      ne-eqb k 5 (λ z. omega arith),
+      ne-eqb k 6 (λ z. omega arith),
+      ne-eqb k 7 (λ z. omega arith),
+      ne-eqb k 17 n17,
+      ne-eqb k 19 n19,
+      ne-eqb k 20 n20,
+      ne-eqb k 8 (λ z. omega arith),
+      ne-eqb k 9 (λ z. omega arith),
+      ne-eqb k 10 (λ z. omega arith),
+      ne-eqb k 11 (λ z. omega arith),
+    )
+
 pub kind-octets : (k : ℕ) (c : List ℕ) → (k ≡ 1 → ⊥) → (k ≡ 2 → ⊥) → (k ≡ 3 → ⊥) → (k ≡ 4 → ⊥) → (k ≡ 5 → ⊥) → k ≡ 6 → true ≡ legal k c
 unfolding legal
 kind-octets k c n1 n2 n3 n4 n5 e = rw (ne-eqb k 1 n1, ne-eqb k 2 n2, ne-eqb k 3 n3, ne-eqb k 4 n4, ne-eqb k 5 n5, eq-eqb k 6 e)
@@ -292,11 +314,30 @@ module _ (k : ℕ) (c : List ℕ) (r : Bool) where
   unfolding legal
   kind-named e q = rw e q
 
-  pub kind-text : (k ≡ 1 → ⊥) → (k ≡ 2 → ⊥) → (k ≡ 3 → ⊥) → (k ≡ 4 → ⊥) → (k ≡ 5 → ⊥) → (k ≡ 6 → ⊥) → (k ≡ 7 → ⊥) → (k ≡ 17 → ⊥)
+  pub kind-rdn-sequence : k ≡ 19 → r ≡ legalRdnSequence c → r ≡ legal k c
+  unfolding legal
+  kind-rdn-sequence e q = rw e q
+
+  pub kind-rdn : k ≡ 20 → r ≡ legalRdn c → r ≡ legal k c
+  unfolding legal
+  kind-rdn e q = rw e q
+
+  pub kind-text : (k ≡ 1 → ⊥) → (k ≡ 2 → ⊥) → (k ≡ 3 → ⊥) → (k ≡ 4 → ⊥) → (k ≡ 5 → ⊥) → (k ≡ 6 → ⊥) → (k ≡ 7 → ⊥) → k < 12
       → r ≡ legalText k c → r ≡ legal k c
   unfolding legal
-  kind-text n1 n2 n3 n4 n5 n6 n7 n8 q =
-      rw (ne-eqb k 1 n1, ne-eqb k 2 n2, ne-eqb k 3 n3, ne-eqb k 4 n4, ne-eqb k 5 n5, ne-eqb k 6 n6, ne-eqb k 7 n7, ne-eqb k 17 n8) q
+  kind-text n1 n2 n3 n4 n5 n6 n7 h q =
+      rw (
+        ne-eqb k 1 n1,
+        ne-eqb k 2 n2,
+        ne-eqb k 3 n3,
+        ne-eqb k 4 n4,
+        ne-eqb k 5 n5,
+        ne-eqb k 6 n6,
+        ne-eqb k 7 n7,
+        ne-eqb k 17 (λ z. omega arith),
+        ne-eqb k 19 (λ z. omega arith),
+        ne-eqb k 20 (λ z. omega arith),
+      ) q
 
   -- the kinds that are looked at first
   pub direct-integer : k ≡ 2 → r ≡ legalInteger c → r ≡ legal k c

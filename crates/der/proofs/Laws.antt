@@ -13,7 +13,8 @@ use Rattle.octets.proofs.Laws.{pick-cases, both-true}
 use Rattle.der.specs.Tag.{class, number, tagOf, universalText, universal}
 use Rattle.der.specs.Header.{longLength, lengthAt, sized, headerAt, tagged, insideAt, anyTag}
 use Rattle.der.specs.Kind as kind
-use Rattle.der.specs.Contents.{legalBoolean, legalInteger, legal}
+use Rattle.der.specs.Contents.{legalBoolean, legalInteger}
+use Rattle.der.specs.Legal.{legal}
 use Rattle.der.specs.Time.{legalTime}
 use Rattle.der.specs.declared.Header.{Header}
 use Rattle.der.specs.declared.Inside.{Inside}
@@ -41,7 +42,8 @@ universal-most k =
     (low (eqb k 5) 6 _ (omega arith) (low (eqb k 6) 4 _ (omega arith) (low (eqb k 7) 3 _ (omega arith) (low (eqb k 17) 3 _ (omega arith)
     (low (eqb k 8) 12 _ (omega arith)
     (low (eqb k 9) 19 _ (omega arith) (low (eqb k 10) 22 _ (omega arith) (low (eqb k 11) 24 _ (omega arith) (low (eqb k 12) 16 _ (omega arith)
-    (low (eqb k 14) 16 _ (omega arith) (low (eqb k 15) 17 0 (omega arith) (omega arith)))))))))))))))
+    (low (eqb k 14) 16 _ (omega arith) (low (eqb k 15) 17 _ (omega arith) (low (eqb k 19) 16 _ (omega arith) (low (eqb k 20) 17 0 (omega arith)
+    (omega arith)))))))))))))))))
   where
     low : (x : Bool) (a b : ℕ) → a ≤ 24 → b ≤ 24 → pick x a b ≤ 24
     low true a b p q = p

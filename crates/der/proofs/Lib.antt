@@ -7,3 +7,5 @@ pub mod ContentsSteps
 pub mod SubSteps
 pub mod TimeSteps
 pub mod MeaningSteps
+pub mod NameLaws
+pub mod NameSteps

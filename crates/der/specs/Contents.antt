@@ -9,7 +9,6 @@ use Rattle.octets.specs.Pick.{pick, both, either, no, consed}
 use Rattle.octets.specs.Octets.{octet, same, every}
 use Rattle.octets.specs.Text.{within, isAlnum}
 use Rattle.octets.specs.Utf8.{utf8}
-use Rattle.der.specs.Kind.{boolean, integer, enumerated, null, objectIdentifier, octetString, bitString, namedBitString}
 use Rattle.der.specs.Kind.{utf8String, printableString, ia5String, generalizedTime}
 use Rattle.der.specs.Time.{legalTime}
 
@@ -84,7 +83,7 @@ isIa5 b = leb b 127
 unfoldable pub legalIa5 : List ℕ → Bool
 legalIa5 c = every isIa5 c
 
--- legal contents of a basic kind
+-- strings and times, by kind
 unfoldable pub legalText : ℕ → List ℕ → Bool
 legalText k c =
     pick (eqb k utf8String) (utf8 c)
@@ -92,15 +91,3 @@ legalText k c =
     (pick (eqb k ia5String) (legalIa5 c)
     (pick (eqb k generalizedTime) (legalTime c)
     false)))
-
-unfoldable pub legal : ℕ → List ℕ → Bool
-legal k c =
-    pick (eqb k boolean) (legalBoolean c)
-    (pick (eqb k integer) (legalInteger c)
-    (pick (eqb k enumerated) (legalInteger c)
-    (pick (eqb k null) (legalNull c)
-    (pick (eqb k objectIdentifier) (legalOid c)
-    (pick (eqb k octetString) true
-    (pick (eqb k bitString) (legalBits c)
-    (pick (eqb k namedBitString) (legalNamedBits c)
-    (legalText k c))))))))

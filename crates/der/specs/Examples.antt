@@ -1,18 +1,19 @@
 -- Computed examples: boundary cases.
 use mathlib.Core.Path.{_≡_, refl}
 use mathlib.Core.Bool.{Bool, true, false}
-use mathlib.Core.List.{[], _∷_, _++_, map}
-use Prim.Native.Nat.{ℕ}
+use mathlib.Core.List.{List, [], _∷_, _++_, map}
+use Prim.Native.Nat.{ℕ, zero, suc}
 use Prim.Native.String.{String}
 use lib.ListN.{length, replicate}
 use Rattle.octets.specs.Octets.{bytes, hex}
 use Rattle.der.specs.Kind as kind
-use Rattle.der.specs.Tag.{class, constructed, number, tagOf, ownOctet}
+use Rattle.der.specs.Tag.{class, constructed, number, tagOf, ownOctet, implicitOctet}
 use Rattle.der.specs.Header.{headerAt, insideAt}
 use Rattle.der.specs.declared.Header.{Header}
 use Rattle.der.specs.declared.Header.the-variants.{Found, Misfit}
 use Rattle.der.specs.declared.Inside.{Inside}
-use Rattle.der.specs.Contents.{legal}
+use Rattle.der.specs.Names.{pairOf, nameOf}
+use Rattle.der.specs.Legal.{legal}
 use Rattle.der.specs.Time.{timeOf, sameTime, earlier}
 use Rattle.der.specs.Meaning.{plus, integerOf, arcsOf, bitsOf}
 use Rattle.der.specs.Dotted.{isDotted, dottedArcs}
@@ -24,11 +25,16 @@ tags : map class (hex "30A09E") ++ map constructed (hex "30A09E") ++ map number 
 unfolding derComputes
 tags = refl
 
--- the tag octets of the kinds 1..12, 14, 15, 17; a CHOICE, a member, a named bit and what is no kind have none
-octets-of-kinds : map ownOctet (1 ∷ 2 ∷ 3 ∷ 4 ∷ 5 ∷ 6 ∷ 7 ∷ 8 ∷ 9 ∷ 10 ∷ 11 ∷ 12 ∷ 14 ∷ 15 ∷ 17 ∷ 13 ∷ 16 ∷ 18 ∷ 0 ∷ 19 ∷ [])
-    ≡ hex "01020A050604030C131618303031030000000000"
+-- the tag octets of the kinds 1..12, 14, 15, 17, 19, 20; a CHOICE, a member, a named bit and what is no kind have none
+octets-of-kinds : map ownOctet (1 ∷ 2 ∷ 3 ∷ 4 ∷ 5 ∷ 6 ∷ 7 ∷ 8 ∷ 9 ∷ 10 ∷ 11 ∷ 12 ∷ 14 ∷ 15 ∷ 17 ∷ 19 ∷ 20 ∷ 13 ∷ 16 ∷ 18 ∷ 0 ∷ 21 ∷ [])
+    ≡ hex "01020A050604030C1316183030310330310000000000"
 unfolding derComputes
 octets-of-kinds = refl
+
+-- with an implicit tag 1 a BOOLEAN, a SEQUENCE OF, an RDNSequence and an RDN
+implicit-octets : map (implicitOctet 1) (kind.boolean ∷ kind.sequenceOf ∷ kind.rdnSequence ∷ kind.rdn ∷ []) ≡ hex "81A1A1A1"
+unfolding derComputes
+implicit-octets = refl
 
 -- the header of octets that n more follow
 headerOf : String → ℕ → Header
@@ -141,3 +147,74 @@ dotted = refl
 bits : bitsOf (hex "04A0") ∷ bitsOf (hex "00") ∷ bitsOf (hex "0780") ∷ [] ≡ (1 ∷ 0 ∷ 1 ∷ 0 ∷ []) ∷ [] ∷ (1 ∷ []) ∷ []
 unfolding derComputes
 bits = refl
+
+-- ---- stored names
+-- an element of fewer than 128 octets
+element : ℕ → List ℕ → List ℕ
+element o c = o ∷ length c ∷ c
+
+repeated : ℕ → List ℕ → List ℕ
+repeated zero c = []
+repeated (suc n) c = c ++ repeated n c
+
+-- the contents of an RDN with one pair
+onePair : String → List ℕ
+onePair s = element 48 (hex s)
+
+-- a pair is legal where the RDN with it alone is
+legalPairIn : String → Bool
+legalPairIn s = legal kind.rdn (onePair s)
+
+-- values that are a UTF8String, a PrintableString, an IA5String; a BMPString, a TeletexString, a constructed UTF8String, context tags 0 and 12
+values : map legalPairIn ("06012A0C00" ∷ "06012A130141" ∷ "06012A16017F" ∷ "06012A1E020041" ∷ "06012A1400" ∷ "06012A2C00" ∷ "06012A8000" ∷ "06012A8C00" ∷ [])
+    ≡ true ∷ true ∷ true ∷ false ∷ false ∷ false ∷ false ∷ false ∷ []
+unfolding derComputes element onePair legalPairIn
+values = refl
+
+-- contents of values: UTF-8 of two octets, and cut; a star in a PrintableString; 80 in an IA5String
+value-contents : map legalPairIn ("06012A0C02C3A9" ∷ "06012A0C01C3" ∷ "06012A13012A" ∷ "06012A160180" ∷ []) ≡ true ∷ false ∷ false ∷ false ∷ []
+unfolding derComputes element onePair legalPairIn
+value-contents = refl
+
+-- attribute types: 2.5.4.3; a subidentifier that starts with 80, none, another tag, one that is constructed
+attribute-types : map legalPairIn ("06035504030C00" ∷ "060280010C00" ∷ "06000C00" ∷ "0D012A0C00" ∷ "26012A0C00" ∷ [])
+    ≡ true ∷ false ∷ false ∷ false ∷ false ∷ []
+unfolding derComputes element onePair legalPairIn
+attribute-types = refl
+
+-- a pair of nothing, of a type alone, of three elements, with an octet after it; lengths that are not shortest
+pairs : map legalPairIn ("" ∷ "06012A" ∷ "06012A0C000C00" ∷ "06012A0C0000" ∷ "06012A0C8100" ∷ "0681012A0C00" ∷ [])
+    ≡ false ∷ false ∷ false ∷ false ∷ false ∷ false ∷ []
+unfolding derComputes element onePair legalPairIn
+pairs = refl
+
+-- an RDN of no pair, of 1, 4 and 5 equal ones; of two in order, out of order; with an octet after it; its pair a SET, or with a length that is not shortest
+rdns : map (legal kind.rdn) ([] ∷ onePair "06012A0C00" ∷ repeated 4 (onePair "06012A0C00") ∷ repeated 5 (onePair "06012A0C00")
+    ∷ (onePair "06012A0C0141" ++ onePair "06012A0C0142") ∷ (onePair "06012A0C0142" ++ onePair "06012A0C0141") ∷ (onePair "06012A0C00" ++ hex "00")
+    ∷ element 49 (hex "06012A0C00") ∷ hex "30810506012A0C00" ∷ [])
+    ≡ false ∷ true ∷ true ∷ false ∷ true ∷ false ∷ false ∷ false ∷ false ∷ []
+unfolding derComputes element repeated onePair
+rdns = refl
+
+-- an RDN of one pair
+oneRdn : List ℕ
+oneRdn = element 49 (onePair "06012A0C00")
+
+-- a name of 0, 1, 16 and 17 RDNs; of an RDN without pairs; with an octet after it; its RDN a SEQUENCE, or with a length that is not shortest; the second RDN
+-- out of order
+names : map (legal kind.rdnSequence) ([] ∷ oneRdn ∷ repeated 16 oneRdn ∷ repeated 17 oneRdn ∷ hex "3100" ∷ (oneRdn ++ hex "00")
+    ∷ element 48 (onePair "06012A0C00") ∷ hex "318107300506012A0C00" ∷ (oneRdn ++ element 49 (onePair "06012A0C0142" ++ onePair "06012A0C0141")) ∷ [])
+    ≡ true ∷ true ∷ true ∷ false ∷ false ∷ false ∷ false ∷ false ∷ false ∷ []
+unfolding derComputes element repeated onePair oneRdn
+names = refl
+
+-- c=AU, then o=A and o=B; a pair without a value, and one that is no pair
+name-meaning : nameOf (element 49 (onePair "060355040613024155") ++ element 49 (onePair "060355040A0C0141" ++ onePair "060355040A130142"))
+    ≡ (record { type = hex "550406"; value = bytes "AU" } ∷ [])
+    ∷ (record { type = hex "55040A"; value = bytes "A" } ∷ record { type = hex "55040A"; value = bytes "B" } ∷ []) ∷ []
+unfolding derComputes element onePair
+name-meaning = refl
+
+pair-meaning : map pairOf (hex "06012A" ∷ hex "0C00" ∷ []) ≡ record { type = hex "2A"; value = [] } ∷ record { type = []; value = [] } ∷ []
+unfolding derComputes
+pair-meaning = refl

@@ -60,10 +60,17 @@ namedBitString = 17
 abbrev pub namedBit : ℕ
 namedBit = 18
 
+-- document 02, Q-3: an RDNSequence, and a RelativeDistinguishedName (RDN)
+abbrev pub rdnSequence : ℕ
+rdnSequence = 19
+
+abbrev pub rdn : ℕ
+rdn = 20
+
 -- the string kinds
 unfoldable pub isString : ℕ → Bool
 isString k = within utf8String ia5String k
 
 -- kinds whose tag octet has the constructed bit
 unfoldable pub isConstructed : ℕ → Bool
-isConstructed k = either (eqb k sequence) (either (eqb k sequenceOf) (eqb k setOf))
+isConstructed k = either (eqb k sequence) (either (eqb k sequenceOf) (either (eqb k setOf) (either (eqb k rdnSequence) (eqb k rdn))))

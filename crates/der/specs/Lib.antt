@@ -6,6 +6,8 @@ pub mod Time
 pub mod Meaning
 pub mod Dotted
 pub mod Order
+pub mod Names
+pub mod Legal
 pub mod inner
 pub mod Computing
 pub mod Examples

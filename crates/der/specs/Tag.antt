@@ -3,7 +3,7 @@ use Prim.Native.Nat.{ℕ, _+_, _/_, _%_}
 use lib.Dec.{eqb}
 use Rattle.octets.specs.Pick.{pick}
 use Rattle.der.specs.Kind.{boolean, integer, enumerated, null, objectIdentifier, octetString, bitString, namedBitString, isConstructed}
-use Rattle.der.specs.Kind.{utf8String, printableString, ia5String, generalizedTime, sequence, sequenceOf, setOf}
+use Rattle.der.specs.Kind.{utf8String, printableString, ia5String, generalizedTime, sequence, sequenceOf, setOf, rdnSequence, rdn}
 use Rattle.der.specs.declared.Tag.{Tag}
 
 -- 0 universal, 1 application, 2 context, 3 private
@@ -29,8 +29,8 @@ tagOf o =
     pick (eqb (class o) 0) (number o)
     (pick (eqb (class o) 2) (context (number o)) 31)
 
--- the universal tag of a kind (X.680); 16 for SEQUENCE and SEQUENCE OF, 17 for SET OF. A CHOICE has none of its own, and a number that is no
--- type's kind has none: 0, which X.690 keeps for no type
+-- the universal tag of a kind (X.680); 16 for SEQUENCE, SEQUENCE OF and RDNSequence, 17 for SET OF and RDN. A CHOICE has none of its own, and a number that
+-- is no type's kind has none: 0, which X.690 keeps for no type
 unfoldable pub universalText : ℕ → ℕ
 universalText k =
     pick (eqb k utf8String) 12
@@ -40,7 +40,9 @@ universalText k =
     (pick (eqb k sequence) 16
     (pick (eqb k sequenceOf) 16
     (pick (eqb k setOf) 17
-    0))))))
+    (pick (eqb k rdnSequence) 16
+    (pick (eqb k rdn) 17
+    0))))))))
 
 unfoldable pub universal : ℕ → ℕ
 universal k =

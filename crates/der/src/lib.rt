@@ -13,7 +13,9 @@ ghost use Rattle.der.specs.Contents as contents;
 ghost use Rattle.der.specs.Time as time;
 ghost use Rattle.der.specs.Meaning as meaning;
 ghost use Rattle.der.specs.Order.{notAbove};
-ghost use Rattle.der.specs.inner.Answers.{reportInteger, reportSub, Forward, behind, fourPrintable};
+ghost use Rattle.der.specs.Names as names;
+ghost use Rattle.der.specs.Legal.{legal};
+ghost use Rattle.der.specs.inner.Answers.{reportInteger, reportSub, Forward, behind, fourPrintable, legalAfter, Placed};
 
 // A tag octet in parts: its class, whether it is constructed (1 or 0), its number.
 struct Tag {
@@ -98,6 +100,33 @@ impl Kind {
     pub const NAMED_BIT_STRING: u8 = 17;
 
     pub const NAMED_BIT: u8 = 18;
+
+    pub const RDN_SEQUENCE: u8 = 19;
+
+    pub const RDN: u8 = 20;
+}
+
+// A distinguished name: how many RDNs it has at most, and one RDN pairs; the tag octets of an RDN, of a pair and of a pair's attribute type.
+pub struct Name;
+
+impl Name {
+    pub const MAX_RDNS: usize = 16;
+
+    pub const MAX_PAIRS: usize = 4;
+
+    pub const RDN_TAG: usize = 49;
+
+    pub const PAIR_TAG: usize = 48;
+
+    pub const TYPE_TAG: usize = 6;
+}
+
+// Where the contents of a pair's attribute type and of its value lie.
+pub struct PairParts {
+    pub type_start: usize,
+    pub type_end: usize,
+    pub value_start: usize,
+    pub value_end: usize,
 }
 
 // ---- tags
@@ -150,6 +179,12 @@ fn universal_text(kind: u8) -> u8
     if kind == Kind::SET_OF {
         return 17;
     }
+    if kind == Kind::RDN_SEQUENCE {
+        return 16;
+    }
+    if kind == Kind::RDN {
+        return 17;
+    }
     0
 }
 
@@ -195,6 +230,12 @@ fn form(kind: u8) -> u8
         return 32;
     }
     if kind == Kind::SET_OF {
+        return 32;
+    }
+    if kind == Kind::RDN_SEQUENCE {
+        return 32;
+    }
+    if kind == Kind::RDN {
         return 32;
     }
     0
@@ -748,10 +789,148 @@ pub fn earlier(a: Time, b: Time) -> bool
     a.stamp < b.stamp
 }
 
+// ---- stored names
+// The tag octets of the three kinds of string that a value may be of.
+const UTF8_TAG: u8 = 12;
+
+const PRINTABLE_TAG: u8 = 19;
+
+const IA5_TAG: u8 = 22;
+
+// Whether contents are legal for the kind of string with a tag octet.
+fn legal_string(tag: u8, c: &[u8]) -> bool
+    ensures { λ r. ⌜ r ≡ names.legalString tag (now (c .entry)) ⌝ }
+{
+    if tag == UTF8_TAG {
+        return octets::utf8(c);
+    }
+    if tag == PRINTABLE_TAG {
+        return legal_printable(c);
+    }
+    if tag == IA5_TAG {
+        return legal_ia5(c);
+    }
+    false
+}
+
+// Whether a legal value stands at a place of a pair and ends with it.
+fn legal_value(c: &[u8], at: usize) -> bool
+    ensures { λ r. ⌜ r ≡ names.legalValue (now (c .entry)) (header.headerAt (now (c .entry)) at (length (now (c .entry)))) ⌝ }
+{
+    let Header::Found(tag, start, n) = read_header(c, at, c.len()) else {
+        return false;
+    };
+    if c.len() - start != n {
+        return false;
+    }
+    legal_string(tag, octets::part(c, start, n))
+}
+
+// Whether the contents of a pair are legal: an attribute type, then a value.
+fn legal_pair(c: &[u8]) -> bool
+    ensures { λ r. ⌜ r ≡ names.legalPair (now (c .entry)) ⌝ }
+{
+    let Inside::Of(start, n) = open_within(Name::TYPE_TAG, c, 0, c.len()) else {
+        return false;
+    };
+    if !legal_oid(octets::part(c, start, n)) {
+        return false;
+    }
+    legal_value(c, start + n)
+}
+
+// Whether a pair, from place at up to end with its contents from start on, is legal and not below the one from place `before` up to it.
+fn legal_after(c: &[u8], before: usize, at: usize, start: usize, end: usize) -> bool
+    ensures { λ r. ⌜ r ≡ legalAfter (now (c .entry)) before at start end ⌝ }
+{
+    if !not_above(octets::between(c, before, at), octets::between(c, at, end)) {
+        return false;
+    }
+    legal_pair(octets::between(c, start, end))
+}
+
+// Whether the contents of an RDN are legal: 1 to 4 pairs, none below the one before.
+fn legal_rdn(c: &[u8]) -> bool
+    ensures { λ r. ⌜ r ≡ names.legalRdn (now (c .entry)) ⌝ }
+{
+    let mut n: usize = 0;
+    let mut before: usize = 0;
+    let mut at: usize = 0;
+    while at < c.len() {
+        if n == Name::MAX_PAIRS {
+            return false;
+        }
+        let Inside::Of(start, len) = open_within(Name::PAIR_TAG, c, at, c.len()) else {
+            return false;
+        };
+        let end = start + len;
+        if !legal_after(c, before, at, start, end) {
+            return false;
+        }
+        n += 1;
+        before = at;
+        at = end;
+    }
+    0 < n
+}
+
+// Whether the contents of an RDNSequence are legal: up to 16 RDNs.
+fn legal_rdn_sequence(c: &[u8]) -> bool
+    ensures { λ r. ⌜ r ≡ names.legalRdnSequence (now (c .entry)) ⌝ }
+{
+    let mut n: usize = 0;
+    let mut at: usize = 0;
+    while at < c.len() {
+        if n == Name::MAX_RDNS {
+            return false;
+        }
+        let Inside::Of(start, len) = open_within(Name::RDN_TAG, c, at, c.len()) else {
+            return false;
+        };
+        if !legal_rdn(octets::part(c, start, len)) {
+            return false;
+        }
+        n += 1;
+        at = start + len;
+    }
+    true
+}
+
+// Where the parts of a pair lie in its contents: 0 for a part that doesn't fit, and for both where the attribute type doesn't.
+pub fn pair_parts(c: &[u8]) -> PairParts
+    ensures type_is { λ r. ⌜ between (now (c .entry)) (r .«type_start») (r .«type_end») ≡ names.pairOf (now (c .entry)) .type ⌝ }
+    ensures value_is { λ r. ⌜ between (now (c .entry)) (r .«value_start») (r .«value_end») ≡ names.pairOf (now (c .entry)) .value ⌝ }
+    ensures placed { λ r. ⌜ Placed (now (c .entry)) r ⌝ }
+{
+    let Inside::Of(type_start, n) = open_within(Name::TYPE_TAG, c, 0, c.len()) else {
+        return PairParts {
+            type_start: 0,
+            type_end: 0,
+            value_start: 0,
+            value_end: 0,
+        };
+    };
+    let type_end = type_start + n;
+    let Header::Found(_, value_start, m) = read_header(c, type_end, c.len()) else {
+        return PairParts {
+            type_start,
+            type_end,
+            value_start: 0,
+            value_end: 0,
+        };
+    };
+    PairParts {
+        type_start,
+        type_end,
+        value_start,
+        value_end: value_start + m,
+    }
+}
+
 // ---- contents by kind
 // Whether contents are legal for a basic kind.
 pub fn legal_contents(kind: u8, c: &[u8]) -> bool
-    ensures { λ r. ⌜ r ≡ contents.legal kind (now (c .entry)) ⌝ }
+    ensures { λ r. ⌜ r ≡ legal kind (now (c .entry)) ⌝ }
 {
     if kind == Kind::BOOLEAN {
         return legal_boolean(c);
@@ -774,10 +953,19 @@ pub fn legal_contents(kind: u8, c: &[u8]) -> bool
     if kind == Kind::BIT_STRING {
         return legal_bits(c);
     }
+    if kind < Kind::SEQUENCE {
+        return legal_text(kind, c);
+    }
     if kind == Kind::NAMED_BIT_STRING {
         return legal_named_bits(c);
     }
-    legal_text(kind, c)
+    if kind == Kind::RDN_SEQUENCE {
+        return legal_rdn_sequence(c);
+    }
+    if kind == Kind::RDN {
+        return legal_rdn(c);
+    }
+    false
 }
 
 fn legal_text(kind: u8, c: &[u8]) -> bool
@@ -802,7 +990,7 @@ fn legal_text(kind: u8, c: &[u8]) -> bool
 pub fn legal(kind: u8, s: &[u8], start: usize, end: usize) -> bool
     requires ordered { ⌜ start ≤ end ⌝ }
     requires within { ⌜ end ≤ length (now s) ⌝ }
-    ensures { λ r. ⌜ r ≡ contents.legal kind (between (now (s .entry)) start end) ⌝ }
+    ensures { λ r. ⌜ r ≡ legal kind (between (now (s .entry)) start end) ⌝ }
 {
     let c = &s[start..end];
     if kind == Kind::INTEGER {

@@ -8,9 +8,8 @@ use native.Mathlib.Omega.{arith}
 use borrow.Author.Tests.{not-true, not-false, le-leb}
 use Rattle.octets.specs.Pick.{pick, both, bind, isSome}
 use Rattle.octets.specs.Octets.{part as part-of}
-use Rattle.octets.specs.Quoted.{characters, undoubled}
+use Rattle.octets.specs.Quoted.{characters}
 use Rattle.octets.proofs.Laws.{never, rest-length}
-use Rattle.strings.specs.Prepared.{prepared}
 use lib.ListN.{length, length-take, drop}
 use Rattle.types.specs.Types.{Ty}
 use Rattle.table.specs.inner.Rows.{typeAt}
@@ -33,8 +32,8 @@ use Rattle.rules.specs.declared.Rule.{Rule}
 use Rattle.rules.specs.declared.Named.{Named}
 use Rattle.rules.proofs.Laws.{rule-for-none, rule-for-known, rule-for-is}
 use Rattle.plan.specs.inner.Test.{testFor}
-use Rattle.plan.specs.inner.Operand.{operandOf, Part, stands, folds}
-use Rattle.plan.proofs.Accepting.{operand-stands, operand-prepared}
+use Rattle.plan.specs.inner.Operand.{operandOf, Part, stands}
+use Rattle.plan.proofs.Accepting.{operand-stands}
 use Rattle.plan.specs.inner.Task as task
 use Rattle.plan.specs.inner.Task.{Task, taskOf, passes}
 use Rattle.plan.specs.inner.Resolve.{Lands, Resolves}
@@ -251,9 +250,11 @@ module _ (f : List ℕ) (p : Parts) (r : Rule) (text part : List ℕ) (value : t
   pub part-brief : (t w v : List ℕ) → Ready t w v f → length part ≤ length text → length part ≤ 2048
   part-brief t w v ready l = omega (arith, ready .brief, l, ap length value, length-take (p .«value_end» - p .value) (drop (p .value) f), rest-length f (p .value))
 
-  pub prepared-stands : (b fold : Bool) (m x : List ℕ) (n : ℕ) → Part (meant r) text part → b ≡ stands (meant r) part → b ≡ false → fold ≡ folds (meant r) → part-of m 0 n ≡ prepared fold (undoubled part) → x ≡ part-of m 0 n
-      → x ≡ operandOf (meant r) (itemOf f p .value)
-  prepared-stands b fold m x n w e h k q u = u ∙ q ∙ ap (λ (y : Bool). prepared y (undoubled part)) k ∙ operand-prepared text part (meant r) w (sym e ∙ h) ∙ ap (operandOf (meant r)) value
+  pub part-other : (b : Bool) → b ≡ stands (meant r) part → b ≡ false → stands (meant r) part ≡ false
+  part-other b e h = sym e ∙ h
+
+  pub written-stands : (m x : List ℕ) (n : ℕ) → part-of m 0 n ≡ operandOf (meant r) text → x ≡ part-of m 0 n → x ≡ operandOf (meant r) (itemOf f p .value)
+  written-stands m x n q u = u ∙ q ∙ ap (operandOf (meant r)) value
 
 pub ruled-conforms : (r : Rule) (text : List ℕ) (b : Bool) → b ≡ conforms (meant r) text → not b ≡ false → conforms (meant r) text ≡ true
 ruled-conforms r text b e q = sym e ∙ not-false b q

@@ -12,7 +12,8 @@ use Rattle.octets.specs.Octets.{same}
 use Rattle.octets.specs.Text.{within}
 use Rattle.octets.proofs.TextLaws.{same-is}
 use Rattle.octets.proofs.Laws.{both-true}
-use Rattle.der.specs.Contents.{legal, legalBoolean}
+use Rattle.der.specs.Contents.{legalBoolean}
+use Rattle.der.specs.Legal.{legal}
 use Rattle.der.proofs.Laws.{integer-octets, legal-boolean, legal-integer, legal-enumerated}
 use Rattle.rows.specs.Paper.{tableLimits}
 use Rattle.rows.specs.Row.{nameAt, kindAt, namedAt, presenceAt, defaultLengthAt, defaultAt, rowAt, membersAt}

@@ -209,7 +209,7 @@ fn judge_conforming(
         return judge_operand(t, w, v, f, p, rule, part, tests);
     }
     let mut memory = [0u8; 5120];
-    let n = strings::prepare(part, plan::folds(rule), &mut memory);
+    let n = plan::write_operand(rule, text, part, &mut memory);
     judge_operand(t, w, v, f, p, rule, octets::part(&memory, 0, n), tests)
 }
 

@@ -14,7 +14,7 @@ use Rattle.octets.specs.Pick.{pick}
 use Rattle.octets.specs.Octets.{octet, part, every, larger, same}
 use Rattle.octets.specs.inner.Answers.{between}
 use Rattle.octets.specs.inner.Answers.{highestFrom, highest}
-use Rattle.octets.specs.Text.{isDigit, isAlnum, mayFollow, isNumber, starts, lead, skip, decimalFrom, decimal}
+use Rattle.octets.specs.Text.{within, isDigit, isAlnum, isHex, hexValue, mayFollow, isNumber, starts, lead, skip, decimalFrom, decimal}
 use Rattle.octets.specs.Utf8.{afterFirst, after, utf8From, utf8, mayEnd, awaits}
 use Rattle.octets.specs.Quoted.{closing, closingAt}
 use Rattle.octets.specs.inner.Answers.{clip, growOf, reportPlace}
@@ -300,3 +300,22 @@ same-lengths (a ∷ l) (b ∷ bs) n = go (eqb a b) (same-lengths l bs (λ e. n (
     go : (t : Bool) → false ≡ same l bs → false ≡ pick t (same l bs) false
     go true h = h
     go false h = refl
+
+-- ---- hexadecimal digits
+module _ (b : ℕ) (u : Bool) (digit : u ≡ isDigit b) where
+  pub hex-digit : u ≡ true → true ≡ isHex b
+  unfolding isHex
+  hex-digit h = rw (sym digit ∙ h)
+
+  module _ (h : u ≡ false) (v : Bool) (upper : v ≡ within 65 70 b) where
+    pub hex-upper : v ≡ true → true ≡ isHex b
+    unfolding isHex
+    hex-upper g = rw (sym digit ∙ h, sym upper ∙ g)
+
+    pub hex-lower : (w : Bool) → v ≡ false → w ≡ within 97 102 b → w ≡ isHex b
+    unfolding isHex
+    hex-lower w g e = rw (sym digit ∙ h, sym upper ∙ g) e
+
+pub hex-value-low : (b : ℕ) → b < 48 → 0 ≡ hexValue b
+unfolding hexValue
+hex-value-low b h = let e : b - 48 ≡ 0 = omega arith in rw (lt-ltb b 65 (omega arith)) (sym e)

@@ -3,7 +3,7 @@ use Prim.Native.Nat.{ℕ, suc, _+_, _-_, _*_}
 use mathlib.Core.Bool.{Bool, true, false}
 use mathlib.Core.List.{List, [], _∷_}
 use lib.ListN.{length, drop}
-use lib.Dec.{leb, eqb}
+use lib.Dec.{ltb, leb, eqb}
 use Rattle.octets.specs.Pick.{pick, both, either, no}
 use Rattle.octets.specs.Octets.{every}
 
@@ -25,6 +25,13 @@ isLetter b = either (isLower b) (isUpper b)
 
 unfoldable pub isAlnum : ℕ → Bool
 isAlnum b = either (isLetter b) (isDigit b)
+
+-- a hexadecimal digit in either case, and its value
+unfoldable pub isHex : ℕ → Bool
+isHex b = either (isDigit b) (either (within 65 70 b) (within 97 102 b))
+
+unfoldable pub hexValue : ℕ → ℕ
+hexValue b = pick (ltb b 65) (b - 48) (pick (ltb b 97) (b - 55) (b - 87))
 
 -- "A name is a lowercase letter, then letters, digits and single hyphens, no hyphen last": octet b may stand after octet a in one
 unfoldable pub mayFollow : ℕ → ℕ → Bool

@@ -124,6 +124,35 @@ pub fn is_digit(b: u8) -> bool
     b <= 57
 }
 
+// A hexadecimal digit in either case.
+pub fn is_hex(b: u8) -> bool
+    ensures { λ r. ⌜ r ≡ text.isHex b ⌝ }
+{
+    if is_digit(b) {
+        return true;
+    }
+    if within(65, 70, b) {
+        return true;
+    }
+    within(97, 102, b)
+}
+
+// Its value.
+pub fn hex_value(b: u8) -> u8
+    ensures { λ r. ⌜ r ≡ text.hexValue b ⌝ }
+{
+    if b < 48 {
+        return 0;
+    }
+    if b < 65 {
+        return b - 48;
+    }
+    if b < 97 {
+        return b - 55;
+    }
+    b - 87
+}
+
 pub fn is_lower(b: u8) -> bool
     ensures { λ r. ⌜ r ≡ text.isLower b ⌝ }
 {
@@ -325,7 +354,7 @@ fn after_first(b: u8) -> Awaiting
     Awaiting::Broken
 }
 
-fn after(a: Awaiting, b: u8) -> Awaiting
+pub fn after(a: Awaiting, b: u8) -> Awaiting
     ensures { λ r. ⌜ r ≡ unicode.after a b ⌝ }
 {
     let Awaiting::Tails(n, least, most) = a else {
@@ -343,7 +372,7 @@ fn after(a: Awaiting, b: u8) -> Awaiting
     Awaiting::Tails(n - 1, 128, 191)
 }
 
-fn may_end(a: Awaiting) -> bool
+pub fn may_end(a: Awaiting) -> bool
     ensures { λ r. ⌜ r ≡ unicode.mayEnd a ⌝ }
 {
     let Awaiting::Tails(n, _, _) = a else {

@@ -2,16 +2,19 @@
 -- rule is for, and counts.
 use mathlib.Core.Path.{_≡_, refl, sym, ap, _∙_, subst}
 use mathlib.Core.Bool.{Bool, true, false, false≢true}
-use mathlib.Core.List.{List}
+use mathlib.Core.Option.{Option, none, some}
+use mathlib.Core.List.{List, map}
 use Prim.Native.Nat.{ℕ, _≤_, _<_}
+use native.Mathlib.Omega.{arith}
 use borrow.Author.Tests.{eqb-true, le-leb, lt-ltb}
 use lib.ListN.{length}
-use Rattle.octets.specs.Pick.{pick, no, isSome}
+use Rattle.octets.specs.Pick.{pick, no, bind, isSome}
 use Rattle.octets.specs.Octets.{same, bytes}
-use Rattle.octets.specs.Quoted.{undoubled}
+use Rattle.octets.specs.Quoted.{undoubled, unquoted}
 use Rattle.octets.proofs.Laws.{both-true}
 use Rattle.der.specs.Kind as kind
-use Rattle.der.specs.Contents.{legal, legalOid}
+use Rattle.der.specs.Contents.{legalOid}
+use Rattle.der.specs.Legal.{legal}
 use Rattle.der.specs.Meaning.{plus, sameWhole, lessWhole, integerOf, booleanOf, arcsOf, bitsOf}
 use Rattle.der.specs.Dotted.{dottedArcs}
 use Rattle.der.proofs.Laws.{integer-octets, legal-integer}
@@ -23,20 +26,24 @@ use Rattle.integers.specs.inner.Bounds.{fits, lifted, boundOf, sameBound, lessB
 use Rattle.integers.proofs.Bounds.{same-lifted, less-lifted, count-fits}
 use Rattle.digits.specs.Asserted.{digits, isBitText, hexBits, textBits, assertedOctets, assertedBits}
 use Rattle.digits.specs.inner.Answers.{bitsIn}
-use Rattle.strings.specs.Asserted.{assertedText}
+use Rattle.strings.specs.Asserted.{textOr, assertedText}
 use Rattle.strings.specs.Prepared.{prepared}
 use Rattle.strings.specs.inner.Comparing.{folded, isPlain}
 use Rattle.strings.proofs.Preparing.{folded-prepared, plain-folds, plain-same, not-plain}
 use Rattle.times.specs.Asserted.{assertedTime}
 use Rattle.times.proofs.Laws.{time-asserted, time-part}
+use Rattle.names.specs.Rfc4514.{Attribute, distinguishedName, relativeDistinguishedName}
+use Rattle.names.specs.Compared.{Compared, asserted, sameRdn, sameName, storedRdn, storedName, turned, mapped, assertedName, assertedRdn}
+use Rattle.names.specs.inner.Operand.{rdnOctets, nameOctets, orNone, operandRdn, operandName}
+use Rattle.names.proofs.OperandLaws.{few-asserted, rdn-by-operand, name-by-operand}
 use Rattle.types.specs.Types.{NamedBit, Ty, basic, sequence, choice, listOf, Members}
 use Rattle.reference.specs.Allowed.{ofType, ofCount}
-use Rattle.rules.specs.Rule.{Syntax, booleans, integers, objectIdentifiers, octetStrings, bitStrings, strings, times, Rule, present, equal, less}
+use Rattle.rules.specs.Rule.{Syntax, booleans, integers, objectIdentifiers, octetStrings, bitStrings, strings, times, names, rdns, Rule, present, equal, less}
 use Rattle.rules.specs.Suits.{suitsKind, allStrings, suitsTarget, suits}
 use Rattle.rules.specs.Accepts.{isEqual, isLess, acceptsContents, acceptsCount}
-use Rattle.rules.specs.inner.Answers.{conformsTo, conforms, saidIn, said}
+use Rattle.rules.specs.inner.Answers.{conformsTo, conforms, nameOr, rdnOr, saidIn, said}
 use Rattle.plan.specs.inner.Test.{Test, integerIs, accepted, acceptedCount, equalTest, lessTest, testFor}
-use Rattle.plan.specs.inner.Operand.{syntaxForm, formOf, preparedOperand, operandIn, operandOf, PartIn, Part, standsIn, stands, foldsIn, folds}
+use Rattle.plan.specs.inner.Operand.{syntaxForm, formOf, preparedOperand, operandIn, operandOf, PartIn, Part, standsIn, stands}
 use Rattle.plan.specs.declared.Form.{Form}
 
 -- ---- the operand of strings
@@ -57,6 +64,24 @@ operand-folds fold s = go (isPlain true s) refl
     go false e = folded-prepared fold s
 
 -- ---- the operand
+is-mapped : {A B : Type 0} (f : A → B) (o : Option A) → isSome (mapped f o) ≡ isSome o
+is-mapped f none = refl
+is-mapped f (some a) = refl
+
+abbrev isName : Form → Bool
+isName Form.Whole = false
+isName Form.Quoted = false
+isName (Form.Prepared fold) = false
+isName Form.Name = true
+isName Form.Rdn = false
+
+abbrev isRdn : Form → Bool
+isRdn Form.Whole = false
+isRdn Form.Quoted = false
+isRdn (Form.Prepared fold) = false
+isRdn Form.Name = false
+isRdn Form.Rdn = true
+
 module _ (t p : List ℕ) where
   stands-in : (s : Syntax) → conformsTo s t ≡ true → PartIn (syntaxForm s) t p → standsIn (syntaxForm s) p ≡ true → p ≡ operandIn (syntaxForm s) t
   unfolding conformsTo
@@ -67,6 +92,8 @@ module _ (t p : List ℕ) where
   stands-in bitStrings h w e = w
   stands-in (strings fold) h w e = plain-operand fold p (assertedText t) e (sym (plain-same p e) ∙ w)
   stands-in times h w e = time-part t p w h
+  stands-in names h w e = absurd (false≢true e)
+  stands-in rdns h w e = absurd (false≢true e)
 
   -- the part of a conforming text, where it is the operand as it stands
   pub operand-stands : (r : Rule) → conforms r t ≡ true → Part r t p → stands r p ≡ true → p ≡ operandOf r t
@@ -75,15 +102,88 @@ module _ (t p : List ℕ) where
   operand-stands (equal s) h w e = stands-in s h w e
   operand-stands (less s) h w e = stands-in s h w e
 
-  prepared-in : (f : Form) → PartIn f t p → standsIn f p ≡ false → prepared (foldsIn f) (undoubled p) ≡ operandIn f t
-  prepared-in Form.Whole w e = absurd (false≢true (sym e))
-  prepared-in Form.Quoted w e = absurd (false≢true (sym e))
-  prepared-in (Form.Prepared fold) w e = other-operand fold p (assertedText t) e w
+  -- and where it isn't: f is the form of its operand
+  module _ (r : Rule) (f : Form) (told : f ≡ formOf r) where
+    pub stands-whole-not : (x : List ℕ) → f ≡ Form.Whole → stands r p ≡ false → x ≡ operandOf r t
+    unfolding stands
+    stands-whole-not x h e = absurd (false≢true (sym e ∙ ap (λ (y : Form). standsIn y p) (sym told ∙ h)))
 
-  -- and where it isn't
-  pub operand-prepared : (r : Rule) → Part r t p → stands r p ≡ false → prepared (folds r) (undoubled p) ≡ operandOf r t
-  unfolding Part stands operandOf folds
-  operand-prepared r w e = prepared-in (formOf r) w e
+    pub stands-quoted-not : (x : List ℕ) → f ≡ Form.Quoted → stands r p ≡ false → x ≡ operandOf r t
+    unfolding stands
+    stands-quoted-not x h e = absurd (false≢true (sym e ∙ ap (λ (y : Form). standsIn y p) (sym told ∙ h)))
+
+    pub operand-prepared : (fold : Bool) (x : List ℕ) → f ≡ Form.Prepared fold → Part r t p → stands r p ≡ false → x ≡ prepared fold (undoubled p) → x ≡ operandOf r t
+    unfolding Part stands operandOf
+    operand-prepared fold x h w e q =
+        q ∙ other-operand fold p (assertedText t) (ap (λ (y : Form). standsIn y p) (sym h ∙ told) ∙ e) (subst (λ (y : Form). PartIn y t p) (sym told ∙ h) w)
+        ∙ ap (λ (y : Form). operandIn y t) (sym h ∙ told)
+
+    pub operand-named : (x : List ℕ) → f ≡ Form.Name → Part r t p → x ≡ nameOctets (orNone (distinguishedName (undoubled p))) → x ≡ operandOf r t
+    unfolding Part operandOf
+    operand-named x h w q =
+        q ∙ ap (λ (s : List ℕ). nameOctets (orNone (distinguishedName s))) (subst (λ (y : Form). PartIn y t p) (sym told ∙ h) w)
+        ∙ ap (λ (y : Form). operandIn y t) (sym h ∙ told)
+
+    pub operand-single : (x : List ℕ) → f ≡ Form.Rdn → Part r t p → x ≡ rdnOctets (orNone (relativeDistinguishedName (undoubled p))) → x ≡ operandOf r t
+    unfolding Part operandOf
+    operand-single x h w q =
+        q ∙ ap (λ (s : List ℕ). rdnOctets (orNone (relativeDistinguishedName s))) (subst (λ (y : Form). PartIn y t p) (sym told ∙ h) w)
+        ∙ ap (λ (y : Form). operandIn y t) (sym h ∙ told)
+
+  -- a conforming text of a rule of names is one that is read
+  name-read : (o : Option (List ℕ)) → isSome (bind o assertedName) ≡ true → undoubled p ≡ textOr o → isSome (distinguishedName (undoubled p)) ≡ true
+  unfolding assertedName
+  name-read none h w = absurd (false≢true h)
+  name-read (some s) h w = ap (λ (y : List ℕ). isSome (distinguishedName y)) w ∙ sym (is-mapped (λ rs. turned (map (map asserted) rs)) (distinguishedName s)) ∙ h
+
+  rdn-read : (o : Option (List ℕ)) → isSome (bind o assertedRdn) ≡ true → undoubled p ≡ textOr o → isSome (relativeDistinguishedName (undoubled p)) ≡ true
+  unfolding assertedRdn
+  rdn-read none h w = absurd (false≢true h)
+  rdn-read (some s) h w = ap (λ (y : List ℕ). isSome (relativeDistinguishedName y)) w ∙ sym (is-mapped (map asserted) (relativeDistinguishedName s)) ∙ h
+
+  read-in : (s : Syntax) → isName (syntaxForm s) ≡ true → conformsTo s t ≡ true → undoubled p ≡ assertedText t → isSome (distinguishedName (undoubled p)) ≡ true
+  unfolding conformsTo assertedText
+  read-in booleans h c w = absurd (false≢true h)
+  read-in integers h c w = absurd (false≢true h)
+  read-in objectIdentifiers h c w = absurd (false≢true h)
+  read-in octetStrings h c w = absurd (false≢true h)
+  read-in bitStrings h c w = absurd (false≢true h)
+  read-in (strings fold) h c w = absurd (false≢true h)
+  read-in times h c w = absurd (false≢true h)
+  read-in names h c w = name-read (unquoted t) c w
+  read-in rdns h c w = absurd (false≢true h)
+
+  single-in : (s : Syntax) → isRdn (syntaxForm s) ≡ true → conformsTo s t ≡ true → undoubled p ≡ assertedText t
+      → isSome (relativeDistinguishedName (undoubled p)) ≡ true
+  unfolding conformsTo assertedText
+  single-in booleans h c w = absurd (false≢true h)
+  single-in integers h c w = absurd (false≢true h)
+  single-in objectIdentifiers h c w = absurd (false≢true h)
+  single-in octetStrings h c w = absurd (false≢true h)
+  single-in bitStrings h c w = absurd (false≢true h)
+  single-in (strings fold) h c w = absurd (false≢true h)
+  single-in times h c w = absurd (false≢true h)
+  single-in names h c w = absurd (false≢true h)
+  single-in rdns h c w = rdn-read (unquoted t) c w
+
+  module _ (r : Rule) (f : Form) (told : f ≡ formOf r) (conforming : conforms r t ≡ true) (w : Part r t p) where
+    pub name-conforms : f ≡ Form.Name → isSome (distinguishedName (undoubled p)) ≡ true
+    unfolding Part conforms
+    name-conforms h = go r (ap isName (sym told ∙ h)) conforming (subst (λ (y : Form). PartIn y t p) (sym told ∙ h) w)
+      where
+        go : (q : Rule) → isName (formOf q) ≡ true → conforms q t ≡ true → undoubled p ≡ assertedText t → isSome (distinguishedName (undoubled p)) ≡ true
+        go present n c u = absurd (false≢true n)
+        go (equal s) n c u = read-in s n c u
+        go (less s) n c u = read-in s n c u
+
+    pub rdn-conforms : f ≡ Form.Rdn → isSome (relativeDistinguishedName (undoubled p)) ≡ true
+    unfolding Part conforms
+    rdn-conforms h = go r (ap isRdn (sym told ∙ h)) conforming (subst (λ (y : Form). PartIn y t p) (sym told ∙ h) w)
+      where
+        go : (q : Rule) → isRdn (formOf q) ≡ true → conforms q t ≡ true → undoubled p ≡ assertedText t → isSome (relativeDistinguishedName (undoubled p)) ≡ true
+        go present n c u = absurd (false≢true n)
+        go (equal s) n c u = single-in s n c u
+        go (less s) n c u = single-in s n c u
 
 -- ---- contents
 module _ (t c : List ℕ) where
@@ -151,6 +251,37 @@ module _ (t c : List ℕ) where
   unfolding accepted lessTest isLess saidIn
   time-less h = rw (time-asserted t h)
 
+  -- names and RDNs, as they are read of their operands
+  name-same : isSome (bind (unquoted t) assertedName) ≡ true
+      → accepted (equalTest names (operandIn Form.Name t)) (operandIn Form.Name t) c ≡ isEqual (saidIn names t) c
+  unfolding accepted equalTest isEqual saidIn assertedText assertedName
+  name-same = quoted (unquoted t)
+    where
+      read : (o : Option (List (List Attribute))) → ((rs : List (List Attribute)) → o ≡ some rs → length rs ≤ 16)
+          → isSome (mapped (λ rs. turned (map (map asserted) rs)) o) ≡ true
+          → sameName (storedName c) (operandName (nameOctets (orNone o))) ≡ isEqual (nameOr (mapped (λ rs. turned (map (map asserted) rs)) o)) c
+      read none few h = absurd (false≢true h)
+      read (some rs) few h = name-by-operand (storedName c) rs (omega (arith, few rs refl))
+
+      quoted : (o : Option (List ℕ)) → isSome (bind o assertedName) ≡ true
+          → sameName (storedName c) (operandName (nameOctets (orNone (distinguishedName (textOr o))))) ≡ isEqual (nameOr (bind o assertedName)) c
+      quoted none h = absurd (false≢true h)
+      quoted (some s) h = read (distinguishedName s) (few-asserted s) h
+
+  rdn-same : isSome (bind (unquoted t) assertedRdn) ≡ true → accepted (equalTest rdns (operandIn Form.Rdn t)) (operandIn Form.Rdn t) c ≡ isEqual (saidIn rdns t) c
+  unfolding accepted equalTest isEqual saidIn assertedText assertedRdn
+  rdn-same = quoted (unquoted t)
+    where
+      read : (o : Option (List Attribute)) → isSome (mapped (map asserted) o) ≡ true
+          → sameRdn (storedRdn c) (operandRdn (rdnOctets (orNone o))) ≡ isEqual (rdnOr (mapped (map asserted) o)) c
+      read none h = absurd (false≢true h)
+      read (some l) h = rdn-by-operand (storedRdn c) l
+
+      quoted : (o : Option (List ℕ)) → isSome (bind o assertedRdn) ≡ true
+          → sameRdn (storedRdn c) (operandRdn (rdnOctets (orNone (relativeDistinguishedName (textOr o))))) ≡ isEqual (rdnOr (bind o assertedRdn)) c
+      quoted none h = absurd (false≢true h)
+      quoted (some s) h = read (relativeDistinguishedName s) h
+
   octets-same : accepted (equalTest octetStrings t) t c ≡ isEqual (saidIn octetStrings t) c
   unfolding accepted equalTest isEqual saidIn assertedOctets
   octets-same = refl
@@ -169,6 +300,8 @@ module _ (t c : List ℕ) where
   basic-same bitStrings k h f l n = bits-same n
   basic-same (strings fold) k h f l n = string-same fold (preparedOperand fold (assertedText t)) refl
   basic-same times k h f l n = time-same f
+  basic-same names k h f l n = name-same f
+  basic-same rdns k h f l n = rdn-same f
 
   basic-less : (s : Syntax) (k : ℕ) → suitsKind s k ≡ true → conformsTo s t ≡ true → legal k c ≡ true
       → accepted (lessTest s (operandIn (syntaxForm s) t)) (operandIn (syntaxForm s) t) c ≡ isLess (saidIn s t) c
@@ -180,15 +313,25 @@ module _ (t c : List ℕ) where
   basic-less bitStrings k h f l = refl
   basic-less (strings fold) k h f l = refl
   basic-less times k h f l = time-less f
+  basic-less names k h f l = go (bind (unquoted t) assertedName)
+    where
+      go : (o : Option (List (List Compared))) → false ≡ isLess (nameOr o) c
+      go none = refl
+      go (some n) = refl
+  basic-less rdns k h f l = go (bind (unquoted t) assertedRdn)
+    where
+      go : (o : Option (List Compared)) → false ≡ isLess (rdnOr o) c
+      go none = refl
+      go (some n) = refl
 
   -- of a basic type that the rule is for
-  pub basic-passes : (r : Rule) (k : ℕ) (names : List NamedBit) → suits r (ofType (basic k names)) ≡ true → conforms r t ≡ true → legal k c ≡ true
+  pub basic-passes : (r : Rule) (k : ℕ) (ns : List NamedBit) → suits r (ofType (basic k ns)) ≡ true → conforms r t ≡ true → legal k c ≡ true
       → length c ≤ 65536
       → accepted (testFor r (operandOf r t)) (operandOf r t) c ≡ acceptsContents r (said r t) c
   unfolding suits suitsTarget conforms testFor operandOf acceptsContents said accepted
-  basic-passes present k names h f l n = refl
-  basic-passes (equal s) k names h f l n = basic-same s k h f l n
-  basic-passes (less s) k names h f l n = basic-less s k h f l
+  basic-passes present k ns h f l n = refl
+  basic-passes (equal s) k ns h f l n = basic-same s k h f l n
+  basic-passes (less s) k ns h f l n = basic-less s k h f l
 
   choice-same : (s : Syntax) → suitsKind s kind.utf8String ≡ true → accepted (equalTest s (operandIn (syntaxForm s) t)) (operandIn (syntaxForm s) t) c ≡ isEqual (saidIn s t) c
   choice-same booleans h = absurd (false≢true h)
@@ -198,6 +341,8 @@ module _ (t c : List ℕ) where
   choice-same bitStrings h = absurd (false≢true h)
   choice-same (strings fold) h = string-same fold (preparedOperand fold (assertedText t)) refl
   choice-same times h = absurd (false≢true h)
+  choice-same names h = absurd (false≢true h)
+  choice-same rdns h = absurd (false≢true h)
 
   choice-less : (s : Syntax) → suitsKind s kind.utf8String ≡ true → accepted (lessTest s (operandIn (syntaxForm s) t)) (operandIn (syntaxForm s) t) c ≡ isLess (saidIn s t) c
   unfolding accepted lessTest isLess saidIn
@@ -208,6 +353,8 @@ module _ (t c : List ℕ) where
   choice-less bitStrings h = absurd (false≢true h)
   choice-less (strings fold) h = refl
   choice-less times h = absurd (false≢true h)
+  choice-less names h = absurd (false≢true h)
+  choice-less rdns h = absurd (false≢true h)
 
   -- of any other type: a CHOICE of strings; presentMatch alone is for a SEQUENCE and for a list
   pub choice-passes : (r : Rule) (ms : Members) → suits r (ofType (choice ms)) ≡ true → accepted (testFor r (operandOf r t)) (operandOf r t) c ≡ acceptsContents r (said r t) c
@@ -240,6 +387,8 @@ module _ (t : List ℕ) (n : ℕ) (small : n < 9223372036854775808) where
   count-same bitStrings h f = absurd (false≢true h)
   count-same (strings fold) h f = absurd (false≢true (sym (string-kinds kind.integer) ∙ h))
   count-same times h f = absurd (false≢true h)
+  count-same names h f = absurd (false≢true h)
+  count-same rdns h f = absurd (false≢true h)
 
   count-less : (s : Syntax) → suitsKind s kind.integer ≡ true → acceptedCount (lessTest s (operandIn (syntaxForm s) t)) n ≡ acceptsCount (less s) (saidIn s t) n
   unfolding acceptedCount lessTest acceptsCount saidIn
@@ -251,6 +400,8 @@ module _ (t : List ℕ) (n : ℕ) (small : n < 9223372036854775808) where
   count-less bitStrings h = absurd (false≢true h)
   count-less (strings fold) h = absurd (false≢true (sym (string-kinds kind.integer) ∙ h))
   count-less times h = absurd (false≢true h)
+  count-less names h = absurd (false≢true h)
+  count-less rdns h = absurd (false≢true h)
 
   pub count-passes : (r : Rule) → suits r ofCount ≡ true → conforms r t ≡ true → acceptedCount (testFor r (operandOf r t)) n ≡ acceptsCount r (said r t) n
   unfolding suits suitsTarget conforms testFor operandOf acceptedCount acceptsCount said

@@ -18,8 +18,8 @@ use Rattle.digits.specs.inner.Significant.{significant}
 use Rattle.digits.proofs.SignificantLaws.{significant-bits}
 use Rattle.types.specs.Types.{NamedBit, Ty, basic, sequence, choice, listOf, Members}
 use Rattle.reference.specs.Allowed.{Target, ofType, ofCount}
-use Rattle.bitnames.specs.Names as names
-use Rattle.rules.specs.Rule.{booleans, integers, objectIdentifiers, octetStrings, bitStrings, strings, times, Rule, present, equal, less}
+use Rattle.bitnames.specs.Names as bitnames
+use Rattle.rules.specs.Rule.{booleans, integers, objectIdentifiers, octetStrings, bitStrings, strings, times, names, rdns, Rule, present, equal, less}
 use Rattle.rules.specs.Suits.{suitsTarget, suits}
 use Rattle.rules.specs.Asserted.{Asserted, bits, namedBits, assertedBitsBy}
 use Rattle.rules.specs.Accepts.{isEqual, isLess, acceptsContents}
@@ -37,6 +37,8 @@ both-rules P e l (equal octetStrings) h = absurd (false≢true h)
 both-rules P e l (equal bitStrings) h = e
 both-rules P e l (equal (strings fold)) h = absurd (false≢true h)
 both-rules P e l (equal times) h = absurd (false≢true h)
+both-rules P e l (equal names) h = absurd (false≢true h)
+both-rules P e l (equal rdns) h = absurd (false≢true h)
 both-rules P e l (less booleans) h = absurd (false≢true h)
 both-rules P e l (less integers) h = absurd (false≢true h)
 both-rules P e l (less objectIdentifiers) h = absurd (false≢true h)
@@ -44,6 +46,8 @@ both-rules P e l (less octetStrings) h = absurd (false≢true h)
 both-rules P e l (less bitStrings) h = l
 both-rules P e l (less (strings fold)) h = absurd (false≢true h)
 both-rules P e l (less times) h = absurd (false≢true h)
+both-rules P e l (less names) h = absurd (false≢true h)
+both-rules P e l (less rdns) h = absurd (false≢true h)
 
 -- they are for BIT STRING alone, with names or without
 bits-suit : (g : Target) → suitsTarget bitStrings g ≡ false → (r : Rule) → readByTarget r ≡ true → suits r g ≡ false
@@ -67,9 +71,9 @@ unfolding suitsTarget
 bits-no-count r h = bits-suit ofCount refl r h
 
 -- nor for the types that have defaults
-pub bits-no-default : (r : Rule) → readByTarget r ≡ true → (k : ℕ) (names : List NamedBit) → k ≤ 3 → suits r (ofType (basic k names)) ≡ false
+pub bits-no-default : (r : Rule) → readByTarget r ≡ true → (k : ℕ) (ns : List NamedBit) → k ≤ 3 → suits r (ofType (basic k ns)) ≡ false
 unfolding suitsTarget
-bits-no-default r h k names l = bits-suit (ofType (basic k names)) (rw (ne-eqb k 7 (λ z. omega arith), ne-eqb k 17 (λ z. omega arith))) r h
+bits-no-default r h k ns l = bits-suit (ofType (basic k ns)) (rw (ne-eqb k 7 (λ z. omega arith), ne-eqb k 17 (λ z. omega arith))) r h
 
 -- a test with an operand accepts the contents that a rule accepts with what is asserted
 pub record Accepting (r : Rule) (x : List ℕ) (test : Test) (a : Asserted) : Type 0 where
@@ -138,9 +142,9 @@ module _ (x : List ℕ) where
   unfolding bitsTestBy assertedBitsBy
   named-agree ns = both-rules
       (λ (r : Rule). Agree r x (pick (isBits x) (some (ofRule r (Test.namedBits (no (isBitText x)) count)))
-      (bind (names.listedBits ns x) (λ l. some (ofRule r (Test.listed l)))))
-      (pick (isBits x) (some (namedBits (assertedBits x))) (bind (names.listedBits ns x) (λ l. some (namedBits l)))))
-      (go (isBits x) (names.listedBits ns x)) (go-less (isBits x) (names.listedBits ns x))
+      (bind (bitnames.listedBits ns x) (λ l. some (ofRule r (Test.listed l)))))
+      (pick (isBits x) (some (namedBits (assertedBits x))) (bind (bitnames.listedBits ns x) (λ l. some (namedBits l)))))
+      (go (isBits x) (bitnames.listedBits ns x)) (go-less (isBits x) (bitnames.listedBits ns x))
     where
       go : (u : Bool) (o : Option (List ℕ))
           → Agree (equal bitStrings) x (pick u (some (Test.namedBits (no (isBitText x)) count)) (bind o (λ l. some (Test.listed l))))

@@ -22,7 +22,9 @@ use Rattle.digits.specs.inner.Answers.{bitsIn}
 use Rattle.digits.specs.inner.Masks.{maskBits}
 use Rattle.strings.specs.Prepared.{prepared}
 use Rattle.strings.specs.inner.Comparing.{folded}
-use Rattle.plan.specs.inner.Test.{Test, integerIs, accepted, acceptedCount, boundNumbered, plainTest, digitTest, textTest, namedTest, testOf}
+use Rattle.names.specs.Compared.{sameRdn, sameName, storedRdn, storedName}
+use Rattle.names.specs.inner.Operand.{operandRdn, operandName}
+use Rattle.plan.specs.inner.Test.{Test, integerIs, accepted, acceptedCount, boundNumbered, plainTest, digitTest, textTest, namedTest, nameTest, testOf}
 use Rattle.plan.specs.inner.Task.{Task, testing, taskOf, passesContents, passesCount}
 use Rattle.plan.proofs.TaskLaws.{is-counting, is-listing, is-testing}
 
@@ -95,6 +97,15 @@ module _ (k : ℕ) (x c : List ℕ) where
     unfolding accepted
     text-string a b h = rw (ne-eqb k 17 a, ne-eqb k 18 b) h
 
+    -- ---- names
+    pub name-whole : k ≡ 22 → r ≡ sameName (storedName c) (operandName x) → r ≡ accepted (nameTest k) x c
+    unfolding accepted
+    name-whole e h = rw (eq-eqb k 22 e) h
+
+    pub name-single : (k ≡ 22 → ⊥) → r ≡ sameRdn (storedRdn c) (operandRdn x) → r ≡ accepted (nameTest k) x c
+    unfolding accepted
+    name-single n h = rw (ne-eqb k 22 n) h
+
     -- ---- bits with names
     pub named-listed : k ≡ 21 → (n : ℕ) → r ≡ both (leb (length c) 65536) (same (trimmed (bitsOf c)) (trimmed (maskBits n))) → r ≡ accepted (namedTest k n) x c
     unfolding accepted
@@ -150,9 +161,14 @@ module _ (k n : ℕ) (x c : List ℕ) (r : Bool) where
           unfolding testOf
           accepts-text l e = rw (le-ltb k 4 a, le-ltb k 7 b, le-ltb k 10 d, le-ltb k 15 h, lt-ltb k 19 l) e
 
-          pub accepts-named : 19 ≤ k → r ≡ accepted (namedTest k n) x c → r ≡ accepted (testOf k n) x c
-          unfolding testOf
-          accepts-named l e = rw (le-ltb k 4 a, le-ltb k 7 b, le-ltb k 10 d, le-ltb k 15 h, le-ltb k 19 l) e
+          module _ (l : 19 ≤ k) where
+            pub accepts-named : k < 22 → r ≡ accepted (namedTest k n) x c → r ≡ accepted (testOf k n) x c
+            unfolding testOf
+            accepts-named m e = rw (le-ltb k 4 a, le-ltb k 7 b, le-ltb k 10 d, le-ltb k 15 h, le-ltb k 19 l, lt-ltb k 22 m) e
+
+            pub accepts-name : 22 ≤ k → r ≡ accepted (nameTest k) x c → r ≡ accepted (testOf k n) x c
+            unfolding testOf
+            accepts-name m e = rw (le-ltb k 4 a, le-ltb k 7 b, le-ltb k 10 d, le-ltb k 15 h, le-ltb k 19 l, le-ltb k 22 m) e
 
 module _ (k n m : ℕ) where
   pub count-plain : k < 4 → eqb k 0 ≡ acceptedCount (testOf k n) m
@@ -177,7 +193,8 @@ module _ (k n m : ℕ) where
       pub count-other : 10 ≤ k → false ≡ acceptedCount (testOf k n) m
       unfolding testOf acceptedCount
       count-other d = rw (le-ltb k 4 a, le-ltb k 7 b, le-ltb k 10 d) (go (ltb k 15) (digitTest k) _ (digit (eqb k 10) (eqb k 11) (eqb k 12))
-          (go (ltb k 19) (textTest k) (namedTest k n) (text (eqb k 17) (eqb k 18)) (named (eqb k 21))))
+          (go (ltb k 19) (textTest k) _ (text (eqb k 17) (eqb k 18))
+          (go (ltb k 22) (namedTest k n) (nameTest k) (named (eqb k 21)) (name (eqb k 22)))))
         where
           go : (u : Bool) (v w : Test) → false ≡ acceptedCount v m → false ≡ acceptedCount w m → false ≡ acceptedCount (pick u v w) m
           go true v w p q = p
@@ -197,6 +214,10 @@ module _ (k n m : ℕ) where
           named : (a : Bool) → false ≡ acceptedCount (pick a (Test.listed (maskBits n)) (Test.namedBits (eqb k 19) n)) m
           named true = refl
           named false = refl
+
+          name : (a : Bool) → false ≡ acceptedCount (pick a Test.name Test.rdn) m
+          name true = refl
+          name false = refl
 
 -- ---- the task
 module _ (q : List ℕ) (task : ℕ) (read : task ≡ getD q 0 0) where

@@ -18,7 +18,7 @@ use Rattle.rules.specs.inner.Answers.{syntaxOf, meant}
 use Rattle.rules.specs.declared.Syntax.{Syntax}
 use Rattle.rules.specs.declared.Rule.{Rule}
 use Rattle.plan.specs.inner.Test.{truth, sameInteger, lessInteger, string, equalTest, lessTest, testFor, testOf, reportTest}
-use Rattle.plan.specs.inner.Operand.{syntaxForm, formOf, Part, stands, folds}
+use Rattle.plan.specs.inner.Operand.{syntaxForm, formOf, Part, stands}
 use Rattle.plan.specs.declared.Form.{Form}
 use Rattle.plan.specs.declared.TestNumbers.{TestNumbers}
 
@@ -41,6 +41,14 @@ module _ (rule : Rule) (f : Form) (told : f ≡ formOf (meant rule)) where
       unfolding Part
       part-prepared fold e = rw (sym told ∙ e) is
 
+      pub part-name : f ≡ Form.Name → Part (meant rule) t p
+      unfolding Part
+      part-name e = rw (sym told ∙ e) is
+
+      pub part-rdn : f ≡ Form.Rdn → Part (meant rule) t p
+      unfolding Part
+      part-rdn e = rw (sym told ∙ e) is
+
   module _ (p : List ℕ) where
     pub stands-whole : f ≡ Form.Whole → true ≡ stands (meant rule) p
     unfolding stands
@@ -54,17 +62,13 @@ module _ (rule : Rule) (f : Form) (told : f ≡ formOf (meant rule)) where
     unfolding stands
     stands-prepared r fold e h = rw (sym told ∙ e) h
 
-  pub folds-whole : f ≡ Form.Whole → false ≡ folds (meant rule)
-  unfolding folds
-  folds-whole e = rw (sym told ∙ e)
+    pub stands-name : f ≡ Form.Name → false ≡ stands (meant rule) p
+    unfolding stands
+    stands-name e = rw (sym told ∙ e)
 
-  pub folds-quoted : f ≡ Form.Quoted → false ≡ folds (meant rule)
-  unfolding folds
-  folds-quoted e = rw (sym told ∙ e)
-
-  pub folds-prepared : (fold : Bool) → f ≡ Form.Prepared fold → fold ≡ folds (meant rule)
-  unfolding folds
-  folds-prepared fold e = rw (sym told ∙ e)
+    pub stands-rdn : f ≡ Form.Rdn → false ≡ stands (meant rule) p
+    unfolding stands
+    stands-rdn e = rw (sym told ∙ e)
 
 -- ---- tests as numbers
 abbrev numbers : ℕ → ℕ → TestNumbers
@@ -160,6 +164,14 @@ module _ (syntax : Syntax) (r : TestNumbers) (x : List ℕ) where
   unfolding testOf equalTest
   equal-times h e = rw h (ap reportTest e)
 
+  pub equal-names : syntax ≡ Syntax.Names → r ≡ numbers 22 0 → reportTest r ≡ equalTest (syntaxOf syntax) x
+  unfolding testOf equalTest
+  equal-names h e = rw h (ap reportTest e)
+
+  pub equal-rdns : syntax ≡ Syntax.Rdns → r ≡ numbers 23 0 → reportTest r ≡ equalTest (syntaxOf syntax) x
+  unfolding testOf equalTest
+  equal-rdns h e = rw h (ap reportTest e)
+
   pub less-booleans : syntax ≡ Syntax.Booleans → r ≡ numbers 1 0 → reportTest r ≡ lessTest (syntaxOf syntax) x
   unfolding testOf lessTest
   less-booleans h e = rw h (ap reportTest e)
@@ -187,6 +199,14 @@ module _ (syntax : Syntax) (r : TestNumbers) (x : List ℕ) where
   pub less-times : syntax ≡ Syntax.Times → r ≡ numbers 18 0 → reportTest r ≡ lessTest (syntaxOf syntax) x
   unfolding testOf lessTest
   less-times h e = rw h (ap reportTest e)
+
+  pub less-names : syntax ≡ Syntax.Names → r ≡ numbers 1 0 → reportTest r ≡ lessTest (syntaxOf syntax) x
+  unfolding testOf lessTest
+  less-names h e = rw h (ap reportTest e)
+
+  pub less-rdns : syntax ≡ Syntax.Rdns → r ≡ numbers 1 0 → reportTest r ≡ lessTest (syntaxOf syntax) x
+  unfolding testOf lessTest
+  less-rdns h e = rw h (ap reportTest e)
 
 module _ (rule : Rule) (r : TestNumbers) (x : List ℕ) where
   pub test-present : rule ≡ Rule.Present → r ≡ numbers 0 0 → reportTest r ≡ testFor (meant rule) x

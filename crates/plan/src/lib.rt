@@ -7,13 +7,14 @@ use reference::Target;
 use rules::Rule;
 use rules::Syntax;
 ghost use mathlib.Core.Path.{_≡_};
-ghost use mathlib.Core.Bool.{true};
+ghost use mathlib.Core.Bool.{true, false};
 ghost use mathlib.Core.Option.{none, some};
 ghost use mathlib.Core.List.{[]};
 ghost use Prim.Native.Nat.{_≤_, _<_, _+_, _*_};
 ghost use lib.ListN.{length, getD, set};
 ghost use lib.Dec.{ltb};
 ghost use Rattle.octets.specs.Pick.{both};
+ghost use Rattle.octets.specs.Octets.{part as octets-part};
 ghost use Rattle.octets.specs.inner.Answers.{between};
 ghost use Rattle.rows.specs.Paper.{tableLimits};
 ghost use Rattle.rows.specs.Row.{membersAt};
@@ -24,7 +25,7 @@ ghost use Rattle.reference.specs.Allowed.{ofType};
 ghost use Rattle.reference.specs.inner.Work as reference;
 ghost use Rattle.bitnames.specs.inner.Sets.{namesAfter};
 ghost use Rattle.rules.specs.Rule as rule;
-ghost use Rattle.rules.specs.inner.Answers.{syntaxOf, meant};
+ghost use Rattle.rules.specs.inner.Answers.{syntaxOf, meant, conforms};
 ghost use Rattle.plan.specs.inner.Test as tests;
 ghost use Rattle.plan.specs.inner.Operand as operands;
 ghost use Rattle.plan.specs.inner.Task as tasks;
@@ -52,7 +53,8 @@ impl Sort {
 }
 
 // The comparisons of a test: any value, none, a truth; an integer equal to one, to one below or above all that can be stored, or less; arcs; octets equal or
-// less; bits of hexadecimal or binary digits; a string, folded or exact; a time equal or earlier; bits with names, of hexadecimal or binary digits, or listed.
+// less; bits of hexadecimal or binary digits; a string, folded or exact; a time equal or earlier; bits with names, of hexadecimal or binary digits, or listed; a
+// distinguished name; an RDN.
 pub struct Comparison;
 
 impl Comparison {
@@ -99,6 +101,10 @@ impl Comparison {
     pub const NAMED_BINARY: usize = 20;
 
     pub const LISTED: usize = 21;
+
+    pub const NAME: usize = 22;
+
+    pub const RDN: usize = 23;
 }
 
 // A test: its comparison, and the number that it is with.
@@ -113,11 +119,13 @@ pub enum BitsTest {
     No,
 }
 
-// How a value text makes an operand: as it stands; what stands between its quotes; the same as prepared, folded or not.
+// How a value text makes an operand: as it stands; what stands between its quotes; the same as prepared, folded or not; the same read as a name, or as an RDN.
 pub enum Form {
     Whole,
     Quoted,
     Prepared(bool),
+    Name,
+    Rdn,
 }
 
 // ---- the numbers of step k
@@ -193,6 +201,8 @@ fn syntax_form(syntax: Syntax) -> Form
         Syntax::BitStrings => Form::Whole,
         Syntax::Strings(fold) => Form::Prepared(fold),
         Syntax::Times => Form::Quoted,
+        Syntax::Names => Form::Name,
+        Syntax::Rdns => Form::Rdn,
     }
 }
 
@@ -215,17 +225,8 @@ pub fn operand_part(rule: Rule, text: &[u8]) -> &[u8]
         Form::Whole => text,
         Form::Quoted => strings::quoted_part(text),
         Form::Prepared(_) => strings::quoted_part(text),
-    }
-}
-
-// Whether its operand is prepared with letters folded.
-pub fn folds(rule: Rule) -> bool
-    ensures { λ r. ⌜ r ≡ operands.folds (meant rule) ⌝ }
-{
-    match rule_form(rule) {
-        Form::Whole => false,
-        Form::Quoted => false,
-        Form::Prepared(fold) => fold,
+        Form::Name => strings::quoted_part(text),
+        Form::Rdn => strings::quoted_part(text),
     }
 }
 
@@ -237,6 +238,27 @@ pub fn is_operand(rule: Rule, part: &[u8]) -> bool
         Form::Whole => true,
         Form::Quoted => true,
         Form::Prepared(_) => strings::is_plain(part),
+        Form::Name => false,
+        Form::Rdn => false,
+    }
+}
+
+// Writes the operand of a conforming text, of the part that it is made of, where that isn't the operand as it stands; how many octets it has.
+pub fn write_operand(rule: Rule, text: &[u8], part: &[u8], memory: &mut [u8; 5120]) -> usize
+    requires room { ⌜ length (now memory) ≡ 5120 ⌝ }
+    requires short { ⌜ length (now part) ≤ 2048 ⌝ }
+    requires conforming { ⌜ conforms (meant rule) (now text) ≡ true ⌝ }
+    requires part { ⌜ operands.Part (meant rule) (now text) (now part) ⌝ }
+    requires other { ⌜ operands.stands (meant rule) (now part) ≡ false ⌝ }
+    ensures written { λ n. ⌜ octets-part (now (memory .exit)) 0 n ≡ operands.operandOf (meant rule) (now (text .entry)) ⌝ }
+    ensures room { λ n. ⌜ length (now (memory .exit)) ≡ 5120 ⌝ }
+{
+    match rule_form(rule) {
+        Form::Whole => 0,
+        Form::Quoted => 0,
+        Form::Prepared(fold) => strings::prepare(part, fold, memory),
+        Form::Name => nameoperand::write_name(part, memory),
+        Form::Rdn => nameoperand::write_rdn(part, memory),
     }
 }
 
@@ -324,6 +346,8 @@ fn equal_test(syntax: Syntax, x: &[u8]) -> TestNumbers
         Syntax::BitStrings => bits_test(x),
         Syntax::Strings(fold) => string_test(fold),
         Syntax::Times => alone(Comparison::TIME),
+        Syntax::Names => alone(Comparison::NAME),
+        Syntax::Rdns => alone(Comparison::RDN),
     }
 }
 
@@ -338,6 +362,8 @@ fn ordering_test(syntax: Syntax, x: &[u8]) -> TestNumbers
         Syntax::BitStrings => alone(Comparison::NONE),
         Syntax::Strings(_) => alone(Comparison::NONE),
         Syntax::Times => alone(Comparison::EARLIER),
+        Syntax::Names => alone(Comparison::NONE),
+        Syntax::Rdns => alone(Comparison::NONE),
     }
 }
 
@@ -512,6 +538,16 @@ fn accepts_named(comparison: usize, n: usize, x: &[u8], c: &[u8]) -> bool
     )
 }
 
+// Distinguished names, RDNs.
+fn accepts_name(comparison: usize, x: &[u8], c: &[u8]) -> bool
+    ensures { λ r. ⌜ r ≡ tests.accepted (tests.nameTest comparison) (now (x .entry)) (now (c .entry)) ⌝ }
+{
+    if comparison == Comparison::NAME {
+        return namematch::same_name(c, x);
+    }
+    namematch::same_single(c, x)
+}
+
 // Times, strings.
 fn accepts_text(comparison: usize, x: &[u8], c: &[u8]) -> bool
     ensures { λ r. ⌜ r ≡ tests.accepted (tests.textTest comparison) (now (x .entry)) (now (c .entry)) ⌝ }
@@ -543,7 +579,10 @@ fn accepts(comparison: usize, n: usize, x: &[u8], c: &[u8]) -> bool
     if comparison < Comparison::NAMED_HEXADECIMAL {
         return accepts_text(comparison, x, c);
     }
-    accepts_named(comparison, n, x, c)
+    if comparison < Comparison::NAME {
+        return accepts_named(comparison, n, x, c);
+    }
+    accepts_name(comparison, x, c)
 }
 
 // Whether the task lets contents pass: a test by its comparison with the operand.

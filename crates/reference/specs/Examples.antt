@@ -2,14 +2,14 @@
 use mathlib.Core.Path.{_≡_, refl}
 use mathlib.Core.Bool.{Bool, true, false}
 use mathlib.Core.Option.{Option, none, some}
-use mathlib.Core.List.{List, [], _∷_, map}
+use mathlib.Core.List.{List, [], _∷_, _++_, map}
 use Prim.Native.Nat.{ℕ}
 use Prim.Native.String.{String}
 use Rattle.octets.specs.Pick.{bind}
 use Rattle.octets.specs.Octets.{bytes, hex}
 use Rattle.types.specs.Types.{Ty, typeAt, basic}
 use Rattle.rows.specs.Paper.{tableLimits}
-use Rattle.types.specs.Paper.{licence}
+use Rattle.types.specs.Paper.{memberRow, licence}
 use Rattle.value.specs.Decode.{storedValue}
 use Rattle.value.specs.Value.{Value}
 use Rattle.value.specs.Paper.{licenceRecord}
@@ -44,11 +44,11 @@ malformed = refl
 abbrev licenceType : Ty
 licenceType = typeAt tableLimits licence 0
 
-abbrev leadsTo : Option (List Id) → Option Target
-leadsTo is = bind is (λ l. allowed l licenceType)
+abbrev leadsTo : Ty → Option (List Id) → Option Target
+leadsTo ty is = bind is (λ l. allowed l ty)
 
 allows : String → Option Target
-allows s = leadsTo (read s)
+allows s = leadsTo licenceType (read s)
 
 -- the count is an INTEGER of its own; nothing is below a count or a basic type; no position on a SEQUENCE, no name on a list, no unknown name
 allowances : map allows ("event" ∷ "parts.0" ∷ "parts.*.copies" ∷ "parts.-7.name" ∷ [])
@@ -60,6 +60,18 @@ refusals : map allows ("parts.0.1" ∷ "event.1" ∷ "1" ∷ "0" ∷ "parts.copi
     ≡ none ∷ none ∷ none ∷ none ∷ none ∷ none ∷ none ∷ none ∷ none ∷ []
 unfolding referenceComputes read allows
 refusals = refl
+
+-- document 02, Q-3: no reference goes inside an RDNSequence or an RDN; a SEQUENCE OF RDN is a list
+abbrev holding : Ty
+holding = typeAt tableLimits (12 ∷ 2 ∷ memberRow "holder" 3 0 0 0 [] ++ memberRow "rdns" 4 0 0 0 [] ++ 19 ∷ 14 ∷ 0 ∷ 5 ∷ 20 ∷ []) 0
+
+holdingAllows : String → Option Target
+holdingAllows s = leadsTo holding (read s)
+
+in-names : map holdingAllows ("holder" ∷ "rdns.-1" ∷ "rdns.0" ∷ "holder.-1" ∷ "holder.0" ∷ "holder.*" ∷ "holder.content" ∷ "rdns.1.1" ∷ "rdns.*.0" ∷ [])
+    ≡ some (ofType (basic 19 [])) ∷ some (ofType (basic 20 [])) ∷ some ofCount ∷ none ∷ none ∷ none ∷ none ∷ none ∷ none ∷ []
+unfolding referenceComputes read holdingAllows
+in-names = refl
 
 -- ---- the three numbers of what a reference names in a record
 abbrev listed : Bool → Option (List Id) → Option Value → List ℕ

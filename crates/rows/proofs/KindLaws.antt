@@ -70,7 +70,8 @@ group-type k e = ⊎-elim (λ (h : k ≡ 12). rw h) (λ (h : k ≡ 13). rw h) (g
 pub kind-of-row : (k : ℕ) → (rowSize k ≡ 0 → ⊥) → isFollower k ≡ false → isTypeKind k ≡ true
 unfolding rowSize isGroup isList isFollower isTypeKind
 kind-of-row k some other =
-    go (within 1 11 k) refl (eqb k 12) refl (eqb k 13) refl (eqb k 14) refl (eqb k 15) refl (eqb k 17) (eqb k 16) (eqb k 18) other some
+    go (within 1 11 k) refl (eqb k 12) refl (eqb k 13) refl (eqb k 14) refl (eqb k 15) refl (eqb k 17) (within 19 20 k) (eqb k 16) (eqb k 18)
+    other some
   where
     in-range : 1 ≤ k → k ≤ 15 → either (within 1 15 k) false ≡ true
     in-range a b = rw (le-leb 1 k a, le-leb k 15 b)
@@ -80,18 +81,20 @@ kind-of-row k some other =
     either-true false = refl
 
     go : (a : Bool) → within 1 11 k ≡ a → (b : Bool) → eqb k 12 ≡ b → (c : Bool) → eqb k 13 ≡ c → (d : Bool) → eqb k 14 ≡ d → (e : Bool) → eqb k 15 ≡ e
-        → (n m f : Bool) → either m f ≡ false
-        → (_≡_ {A = ℕ} (pick a 1 (pick (either b c) 2 (pick (either d e) 3 (pick m 39 (pick n 2 (pick f 26 0)))))) 0 → ⊥) → either (within 1 15 k) n ≡ true
-    go a p b q c r d s e u true m f h z = either-true (within 1 15 k)
-    go true a b _ c _ d _ e _ false m f h z =
+        → (n g m f : Bool) → either m f ≡ false
+        → (_≡_ {A = ℕ} (pick a 1 (pick (either b c) 2 (pick (either d e) 3 (pick m 39 (pick n 2 (pick f 26 (pick g 1 0))))))) 0 → ⊥)
+        → either (within 1 15 k) (either n g) ≡ true
+    go a p b q c r d s e u true g m f h z = either-true (within 1 15 k)
+    go a p b q c r d s e u false true m f h z = either-true (within 1 15 k)
+    go true a b _ c _ d _ e _ false false m f h z =
         let w = both-true (leb 1 k) (leb k 11) a in let l = leb-true 1 k (w .0) in let m = leb-true k 11 (w .1) in in-range (omega arith) (omega arith)
-    go false a true b c _ d _ e _ false m f h z = let q = eqb-true k 12 b in in-range (omega arith) (omega arith)
-    go false a false b true c d _ e _ false m f h z = let q = eqb-true k 13 c in in-range (omega arith) (omega arith)
-    go false a false b false c true d e _ false m f h z = let q = eqb-true k 14 d in in-range (omega arith) (omega arith)
-    go false a false b false c false d true e false m f h z = let q = eqb-true k 15 e in in-range (omega arith) (omega arith)
-    go false a false b false c false d false e false true f h z = absurd (false≢true (sym h))
-    go false a false b false c false d false e false false true h z = absurd (false≢true (sym h))
-    go false a false b false c false d false e false false false h z = absurd (z refl)
+    go false a true b c _ d _ e _ false false m f h z = let q = eqb-true k 12 b in in-range (omega arith) (omega arith)
+    go false a false b true c d _ e _ false false m f h z = let q = eqb-true k 13 c in in-range (omega arith) (omega arith)
+    go false a false b false c true d e _ false false m f h z = let q = eqb-true k 14 d in in-range (omega arith) (omega arith)
+    go false a false b false c false d true e false false m f h z = let q = eqb-true k 15 e in in-range (omega arith) (omega arith)
+    go false a false b false c false d false e false false true f h z = absurd (false≢true (sym h))
+    go false a false b false c false d false e false false false true h z = absurd (false≢true (sym h))
+    go false a false b false c false d false e false false false false h z = absurd (z refl)
 
 pub member-or-bit : (k : ℕ) → isFollower k ≡ true → (k ≡ 16) ⊎ (k ≡ 18)
 unfolding isFollower
@@ -108,8 +111,8 @@ unfolding typeRowSize rowSize isFollower
 type-row-size k e = go (eqb k 16) (eqb k 18) e
   where
     go : (x y : Bool) → either x y ≡ false
-        → _≡_ {A = ℕ} (pick (within 1 11 k) 1 (pick (isGroup k) 2 (pick (isList k) 3 (pick (eqb k 17) 2 0))))
-        (pick (within 1 11 k) 1 (pick (isGroup k) 2 (pick (isList k) 3 (pick x 39 (pick (eqb k 17) 2 (pick y 26 0))))))
+        → _≡_ {A = ℕ} (pick (within 1 11 k) 1 (pick (isGroup k) 2 (pick (isList k) 3 (pick (eqb k 17) 2 (pick (within 19 20 k) 1 0)))))
+        (pick (within 1 11 k) 1 (pick (isGroup k) 2 (pick (isList k) 3 (pick x 39 (pick (eqb k 17) 2 (pick y 26 (pick (within 19 20 k) 1 0)))))))
     go true y h = absurd (false≢true (sym h))
     go false true h = absurd (false≢true (sym h))
     go false false h = refl

@@ -75,9 +75,14 @@ module _ (k : ℕ) (a : Bool) (basic : a ≡ within 1 11 k) where
         unfolding typeRowSize
         size-named e = rw (sym basic ∙ h, sym group ∙ g, sym list ∙ l, eq-eqb k 17 e)
 
-        pub size-none : (k ≡ 17 → ⊥) → 0 ≡ typeRowSize k
-        unfolding typeRowSize
-        size-none n = rw (sym basic ∙ h, sym group ∙ g, sym list ∙ l, ne-eqb k 17 n)
+        module _ (n : k ≡ 17 → ⊥) (d : Bool) (name : d ≡ within 19 20 k) where
+          pub size-name : d ≡ true → 1 ≡ typeRowSize k
+          unfolding typeRowSize
+          size-name m = rw (sym basic ∙ h, sym group ∙ g, sym list ∙ l, ne-eqb k 17 n, sym name ∙ m)
+
+          pub size-none : d ≡ false → 0 ≡ typeRowSize k
+          unfolding typeRowSize
+          size-none m = rw (sym basic ∙ h, sym group ∙ g, sym list ∙ l, ne-eqb k 17 n, sym name ∙ m)
 
 module _ (t : List ℕ) (p o : ℕ) (g : Bool) (read : o ≡ octet t p) (told : g ≡ isGroup o) where
   pub members-group : (a r : ℕ) → g ≡ true → a ≡ octet t (p + 1) → r ≡ a → r ≡ membersAt t p
@@ -93,9 +98,14 @@ module _ (k : ℕ) (a : Bool) (told : a ≡ within 1 15 k) where
   unfolding isTypeKind
   type-plain h = rw (sym told ∙ h)
 
-  pub type-named : a ≡ false → eqb k 17 ≡ isTypeKind k
-  unfolding isTypeKind
-  type-named h = rw (sym told ∙ h)
+  module _ (h : a ≡ false) where
+    pub type-named : k ≡ 17 → true ≡ isTypeKind k
+    unfolding isTypeKind
+    type-named e = rw (sym told ∙ h, eq-eqb k 17 e)
+
+    pub type-name : (r : Bool) → (k ≡ 17 → ⊥) → r ≡ within 19 20 k → r ≡ isTypeKind k
+    unfolding isTypeKind
+    type-name r n e = rw (sym told ∙ h, ne-eqb k 17 n) e
 
 pub follower-low : (k : ℕ) → k < 12 → 0 ≡ followerKind k
 unfolding followerKind isGroup

@@ -65,9 +65,9 @@ abbrev pub bitSize : ℕ
 bitSize = nameWidth + 2
 
 -- ---- the rows
--- kinds of types: BOOLEAN to SET OF, and BIT STRING with names
+-- kinds of types: BOOLEAN to SET OF, BIT STRING with names, RDNSequence and RDN
 unfoldable pub isTypeKind : ℕ → Bool
-isTypeKind k = either (within kind.boolean kind.setOf k) (eqb k kind.namedBitString)
+isTypeKind k = either (within kind.boolean kind.setOf k) (either (eqb k kind.namedBitString) (within kind.rdnSequence kind.rdn k))
 
 -- kinds with members, and kinds with an element
 unfoldable pub isGroup : ℕ → Bool
@@ -103,7 +103,8 @@ rowSize k =
     (pick (eqb k kind.member) memberSize
     (pick (eqb k kind.namedBitString) 2
     (pick (eqb k kind.namedBit) bitSize
-    0)))))
+    (pick (within kind.rdnSequence kind.rdn k) 1
+    0))))))
 
 -- the rows from a place on: whole ones, at most n of them
 unfoldable pub rowsFrom : ℕ → List ℕ → ℕ → Option (List ℕ)

@@ -190,7 +190,10 @@ pub fn is_type_kind(kind: u8) -> bool
     if octets::within(Kind::BOOLEAN, Kind::SET_OF, kind) {
         return true;
     }
-    kind == Kind::NAMED_BIT_STRING
+    if kind == Kind::NAMED_BIT_STRING {
+        return true;
+    }
+    octets::within(Kind::RDN_SEQUENCE, Kind::RDN, kind)
 }
 
 pub fn is_group(kind: u8) -> bool
@@ -226,6 +229,9 @@ fn type_row_size(kind: u8) -> usize
     }
     if kind == Kind::NAMED_BIT_STRING {
         return 2;
+    }
+    if octets::within(Kind::RDN_SEQUENCE, Kind::RDN, kind) {
+        return 1;
     }
     0
 }

@@ -10,6 +10,7 @@ use borrow.Author.Tests.{ne-eqb, eqb-true}
 use lib.Dec.{eqb}
 use lib.ListN.{length}
 use Rattle.octets.specs.Pick.{pick, both, either, all, bind, isSome}
+use Rattle.octets.specs.Quoted.{unquoted}
 use Rattle.octets.proofs.Laws.{all-none}
 use Rattle.octets.proofs.TextLaws.{all-suc}
 use Rattle.der.specs.Kind.{isString}
@@ -22,13 +23,15 @@ use Rattle.types.proofs.TypeCases.{tagging-cases, member-tagging, members-none,
 use Rattle.table.specs.inner.Rows.{tableRows, placeAt, typeAt, membersAfter, memberKindAt}
 use Rattle.table.specs.inner.Words.{Worded}
 use Rattle.reference.specs.Allowed.{Target, ofType}
-use Rattle.rules.specs.Rule.{Syntax, booleans, integers, objectIdentifiers, octetStrings, bitStrings, strings, times, Rule, present, equal, less, Known, ruleOf}
+use Rattle.rules.specs.Rule.{Syntax, booleans, integers, objectIdentifiers, octetStrings, bitStrings, strings, times, names, rdns, Rule, present, equal, less, Known}
+use Rattle.rules.specs.Rule.{ruleOf}
 use Rattle.rules.specs.Suits.{suitsKind, isUntagged, isStringType, allStrings, suitsTarget, suits}
 use Rattle.times.specs.Asserted.{assertedTime}
+use Rattle.names.specs.Compared.{Compared, assertedName, assertedRdn}
 use Rattle.der.specs.declared.Time.{Time}
-use Rattle.rules.specs.Asserted.{Asserted, time, namesAt, assertedBitsBy, assertedIn, assertedOf}
+use Rattle.rules.specs.Asserted.{Asserted, time, name, rdn, namesAt, assertedBitsBy, assertedIn, assertedOf}
 use Rattle.rules.specs.RuleFor.{comparison, ifFor, ruleFor}
-use Rattle.rules.specs.inner.Answers.{ofBits, readByTarget, conformsTo, conforms, timeOr, saidIn, said, stringRow}
+use Rattle.rules.specs.inner.Answers.{ofBits, readByTarget, conformsTo, conforms, timeOr, nameOr, rdnOr, saidIn, said, stringRow}
 
 -- ---- tests in a row, from the first and from the last
 front : (ℕ → Bool) → ℕ → ℕ → Bool
@@ -87,6 +90,8 @@ suits-12 octetStrings = refl
 suits-12 bitStrings = refl
 suits-12 (strings fold) = no-string-12
 suits-12 times = refl
+suits-12 names = refl
+suits-12 rdns = refl
 
 suits-14 : (x : Syntax) → suitsKind x 14 ≡ false
 suits-14 booleans = refl
@@ -96,6 +101,8 @@ suits-14 octetStrings = refl
 suits-14 bitStrings = refl
 suits-14 (strings fold) = no-string-14
 suits-14 times = refl
+suits-14 names = refl
+suits-14 rdns = refl
 
 suits-15 : (x : Syntax) → suitsKind x 15 ≡ false
 suits-15 booleans = refl
@@ -105,6 +112,8 @@ suits-15 octetStrings = refl
 suits-15 bitStrings = refl
 suits-15 (strings fold) = no-string-15
 suits-15 times = refl
+suits-15 names = refl
+suits-15 rdns = refl
 
 typed-suits : (x : Syntax) (t s : List ℕ) (i : ℕ) (e : Ty) (ms : Members)
     → suitsTarget x (ofType (typed t s i e ms)) ≡ pick (eqb (kindAt t (rowAt s i)) 13) (both (suitsKind x 8) (allStrings ms)) (suitsKind x (kindAt t (rowAt s i)))
@@ -170,6 +179,16 @@ asserted-in times g t n = go (assertedTime t)
     go : (o : Option Time) → bind o (λ u. some (time u)) ≡ pick (isSome o) (some (timeOr o)) none
     go none = refl
     go (some u) = refl
+asserted-in names g t n = go (bind (unquoted t) assertedName)
+  where
+    go : (o : Option (List (List Compared))) → bind o (λ m. some (name m)) ≡ pick (isSome o) (some (nameOr o)) none
+    go none = refl
+    go (some m) = refl
+asserted-in rdns g t n = go (bind (unquoted t) assertedRdn)
+  where
+    go : (o : Option (List Compared)) → bind o (λ l. some (rdn l)) ≡ pick (isSome o) (some (rdnOr o)) none
+    go none = refl
+    go (some l) = refl
 
 pub asserted-is : (r : Rule) (g : Target) (t : List ℕ) → readByTarget r ≡ false → assertedOf r g t ≡ pick (conforms r t) (some (said r t)) none
 unfolding assertedOf conforms said readByTarget
@@ -187,6 +206,8 @@ asserted-bits octetStrings g t b = absurd (false≢true b)
 asserted-bits bitStrings g t b = refl
 asserted-bits (strings fold) g t b = absurd (false≢true b)
 asserted-bits times g t b = absurd (false≢true b)
+asserted-bits names g t b = absurd (false≢true b)
+asserted-bits rdns g t b = absurd (false≢true b)
 
 pub asserted-by-names : (r : Rule) (g : Target) (t : List ℕ) → readByTarget r ≡ true → assertedOf r g t ≡ assertedBitsBy (namesAt g) t
 unfolding assertedOf readByTarget

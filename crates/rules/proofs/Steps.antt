@@ -1,20 +1,24 @@
 -- One lemma for each case of a syntax or a rule.
-use mathlib.Core.Path.{_≡_, sym, ap, _∙_}
-use mathlib.Core.Bool.{Bool, true, false, not}
-use mathlib.Core.List.{List, [], _∷_}
+use mathlib.Core.Path.{_≡_, refl, sym, ap, _∙_}
+use mathlib.Core.Bool.{Bool, true, false, not, false≢true}
+use mathlib.Core.Option.{Option, none, some}
+use mathlib.Core.List.{List, [], _∷_, map}
 use Prim.Native.Nat.{ℕ, _<_, _+_}
 use borrow.Author.Tests.{eq-eqb, ne-eqb, not-true, not-false}
 use lib.Dec.{leb, eqb}
 use lib.ListN.{length}
-use Rattle.octets.specs.Pick.{pick, both, all, isSome}
+use Rattle.octets.specs.Pick.{pick, both, all, bind, isSome}
 use Rattle.octets.specs.Octets.{same, bytes}
+use Rattle.octets.specs.Quoted.{undoubled, unquoted}
 use Rattle.der.specs.Kind.{isString}
 use Rattle.der.specs.Dotted.{isDotted}
 use Rattle.der.proofs.MeaningLaws.{string-kinds}
 use Rattle.integers.specs.Asserted.{isInteger}
 use Rattle.digits.specs.Asserted.{isOctets, isBits}
-use Rattle.strings.specs.Asserted.{isText}
+use Rattle.strings.specs.Asserted.{isText, textOr, assertedText}
 use Rattle.times.specs.Asserted.{assertedTime}
+use Rattle.names.specs.Rfc4514.{distinguishedName, relativeDistinguishedName}
+use Rattle.names.specs.Compared.{asserted, turned, mapped, assertedName, assertedRdn}
 use Rattle.rows.specs.Row.{kindAt, modeAt, membersAt}
 use Rattle.table.specs.inner.Rows.{tableRows, placeAt, typeAt, memberKindAt}
 use Rattle.table.specs.inner.Words.{Worded}
@@ -65,6 +69,45 @@ module _ (x : syntax.Syntax) (t : List ℕ) (r : Bool) where
   pub conform-times : x ≡ syntax.Syntax.Times → r ≡ isSome (assertedTime t) → r ≡ conformsTo (syntaxOf x) t
   unfolding conformsTo
   conform-times e h = rw e h
+
+  pub conform-names : x ≡ syntax.Syntax.Names → r ≡ isSome (bind (unquoted t) assertedName) → r ≡ conformsTo (syntaxOf x) t
+  unfolding conformsTo
+  conform-names e h = rw e h
+
+  pub conform-rdns : x ≡ syntax.Syntax.Rdns → r ≡ isSome (bind (unquoted t) assertedRdn) → r ≡ conformsTo (syntaxOf x) t
+  unfolding conformsTo
+  conform-rdns e h = rw e h
+
+-- a quoted name, and a quoted RDN
+module _ {A : Type 0} (t : List ℕ) (f : List ℕ → Option A) (u : Bool) (told : u ≡ isSome (unquoted t)) where
+  pub name-unquoted : not u ≡ true → false ≡ isSome (bind (unquoted t) f)
+  name-unquoted h = go (unquoted t) (sym told ∙ not-true u h)
+    where
+      go : (o : Option (List ℕ)) → isSome o ≡ false → false ≡ isSome (bind o f)
+      go none e = refl
+      go (some s) e = absurd (false≢true (sym e))
+
+  name-quoted : (p : List ℕ) (r : Bool) → not u ≡ false → undoubled p ≡ assertedText t → r ≡ isSome (f (undoubled p)) → r ≡ isSome (bind (unquoted t) f)
+  unfolding assertedText
+  name-quoted p r h e q = go (unquoted t) (sym told ∙ not-false u h) e
+    where
+      go : (o : Option (List ℕ)) → isSome o ≡ true → undoubled p ≡ textOr o → r ≡ isSome (bind o f)
+      go none n w = absurd (false≢true n)
+      go (some s) n w = q ∙ ap (λ (y : List ℕ). isSome (f y)) w
+
+is-mapped : {A B : Type 0} (f : A → B) (o : Option A) → isSome (mapped f o) ≡ isSome o
+is-mapped f none = refl
+is-mapped f (some a) = refl
+
+module _ (t : List ℕ) (u : Bool) (told : u ≡ isSome (unquoted t)) (p : List ℕ) (r : Bool) (h : not u ≡ false) (e : undoubled p ≡ assertedText t) where
+  pub name-is : r ≡ isSome (distinguishedName (undoubled p)) → r ≡ isSome (bind (unquoted t) assertedName)
+  unfolding assertedName
+  name-is q = name-quoted t assertedName u told p r h e
+      (q ∙ sym (is-mapped (λ rs. turned (map (map asserted) rs)) (distinguishedName (undoubled p))))
+
+  pub rdn-is : r ≡ isSome (relativeDistinguishedName (undoubled p)) → r ≡ isSome (bind (unquoted t) assertedRdn)
+  unfolding assertedRdn
+  rdn-is q = name-quoted t assertedRdn u told p r h e (q ∙ sym (is-mapped (map asserted) (relativeDistinguishedName (undoubled p))))
 
 module _ (x : rule.Rule) (t : List ℕ) (r : Bool) where
   pub conform-present : x ≡ rule.Rule.Present → r ≡ same t (bytes "NULL") → r ≡ conforms (meant x) t
@@ -117,6 +160,12 @@ module _ (x : syntax.Syntax) (k : ℕ) where
 
   pub kind-times : x ≡ syntax.Syntax.Times → eqb k 11 ≡ suitsKind (syntaxOf x) k
   kind-times e = rw e
+
+  pub kind-names : x ≡ syntax.Syntax.Names → eqb k 19 ≡ suitsKind (syntaxOf x) k
+  kind-names e = rw e
+
+  pub kind-rdns : x ≡ syntax.Syntax.Rdns → eqb k 20 ≡ suitsKind (syntaxOf x) k
+  kind-rdns e = rw e
 
 module _ (t : List ℕ) (i j p m : ℕ) (place : p ≡ placeAt t (i + 1 + j)) (mode : m ≡ modeAt t p) where
   tag : m ≡ modeAt t (placeAt t (i + 1 + j))

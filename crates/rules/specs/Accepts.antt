@@ -9,13 +9,15 @@ use Rattle.der.specs.Time.{timeOf, sameTime, earlier}
 use Rattle.der.specs.Meaning.{Whole, plus, sameWhole, lessWhole, integerOf, booleanOf, arcsOf, bitsOf}
 use Rattle.digits.specs.Named.{trimmed}
 use Rattle.strings.specs.Prepared.{prepared}
+use Rattle.names.specs.Compared.{sameRdn, sameName, storedRdn, storedName}
 use Rattle.value.specs.Value.{spotOf}
 use Rattle.reference.specs.Named.{Held, value, defaultValue, countValue}
 use Rattle.reference.specs.Numbers.{Component, stored, byDefault, byCount, contentsOf}
 use Rattle.rules.specs.Rule.{Rule, present, equal, less}
-use Rattle.rules.specs.Asserted.{Asserted, anyValue, truth, integer, arcs, octets, bits, namedBits, text, time}
+use Rattle.rules.specs.Asserted.{Asserted, anyValue, truth, integer, arcs, octets, bits, namedBits, text, time, name, rdn}
 
--- an equal one; bits "equal in number and bit by bit", with names without their trailing zeros (document 02, Q-2)
+-- an equal one; bits "equal in number and bit by bit", with names without their trailing zeros (document 02, Q-2);
+-- distinguished names RDN by RDN (document 02, Q-3)
 unfoldable pub isEqual : Asserted → List ℕ → Bool
 isEqual anyValue c = true
 isEqual (truth b) c = pick (booleanOf c) b (no b)
@@ -26,6 +28,8 @@ isEqual (bits l) c = same (bitsOf c) l
 isEqual (namedBits l) c = same (trimmed (bitsOf c)) (trimmed l)
 isEqual (text fold l) c = same (prepared fold c) (prepared fold l)
 isEqual (time u) c = sameTime (timeOf c) u
+isEqual (name n) c = sameName (storedName c) n
+isEqual (rdn l) c = sameRdn (storedRdn c) l
 
 -- "Ordering is TRUE if the stored value is less"; of integers, octets and times
 unfoldable pub isLess : Asserted → List ℕ → Bool
@@ -38,6 +42,8 @@ isLess (bits l) c = false
 isLess (namedBits l) c = false
 isLess (text fold l) c = false
 isLess (time u) c = earlier (timeOf c) u
+isLess (name n) c = false
+isLess (rdn l) c = false
 
 unfoldable pub acceptsContents : Rule → Asserted → List ℕ → Bool
 acceptsContents present a c = true
@@ -55,6 +61,8 @@ ofInteger test (bits l) = false
 ofInteger test (namedBits l) = false
 ofInteger test (text fold l) = false
 ofInteger test (time u) = false
+ofInteger test (name n) = false
+ofInteger test (rdn l) = false
 
 -- a count is an INTEGER
 unfoldable pub acceptsCount : Rule → Asserted → ℕ → Bool

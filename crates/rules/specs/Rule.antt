@@ -8,7 +8,8 @@ use Rattle.octets.specs.Pick.{pick, either}
 use Rattle.octets.specs.Octets.{same, bytes}
 use Rattle.octets.specs.Text.{lower}
 
--- what a rule compares; strings with letters folded, for caseIgnoreMatch (true), or as they are, for caseExactMatch
+-- what a rule compares; strings with letters folded, for caseIgnoreMatch (true), or as they are, for caseExactMatch; distinguished names and RDNs
+-- (document 02, Q-3)
 pub data Syntax : Type 0 where
   booleans : Syntax
   integers : Syntax
@@ -17,6 +18,8 @@ pub data Syntax : Type 0 where
   bitStrings : Syntax
   strings : Bool → Syntax
   times : Syntax
+  names : Syntax
+  rdns : Syntax
 
 -- presentMatch accepts any value, an equality rule an equal one, an ordering rule one less than the asserted
 pub data Rule : Type 0 where
@@ -46,6 +49,8 @@ knownRules =
     ∷ known "caseExactMatch" "2.5.13.5" (equal (strings false))
     ∷ known "generalizedTimeMatch" "2.5.13.27" (equal times)
     ∷ known "generalizedTimeOrderingMatch" "2.5.13.28" (less times)
+    ∷ known "distinguishedNameMatch" "2.5.13.1" (equal names)
+    ∷ known "rdnMatch" "1.2.36.79672281.1.13.3" (equal rdns)
     ∷ []
 
 -- names are compared without regard to case (RFC 4512), in ASCII

@@ -4,9 +4,11 @@ ghost use mathlib.Core.Path.{_≡_};
 ghost use Prim.Native.Nat.{_<_};
 ghost use lib.Dec.{eqb};
 ghost use lib.ListN.{length, drop};
-ghost use Rattle.octets.specs.Pick.{all};
+ghost use Rattle.octets.specs.Pick.{all, bind, isSome};
 ghost use Rattle.octets.specs.Text.{lower};
+ghost use Rattle.octets.specs.Quoted.{unquoted};
 ghost use Rattle.der.specs.Kind.{isString};
+ghost use Rattle.names.specs.Compared.{assertedName, assertedRdn};
 ghost use Rattle.rows.specs.Row.{membersAt};
 ghost use Rattle.table.specs.inner.Rows.{tableRows, placeAt, typeAt};
 ghost use Rattle.table.specs.inner.Words.{Worded};
@@ -25,6 +27,8 @@ pub enum Syntax {
     BitStrings,
     Strings(bool),
     Times,
+    Names,
+    Rdns,
 }
 
 // presentMatch, an equality rule, an ordering rule.
@@ -76,7 +80,20 @@ fn is_called(t: &[u8], name: &[u8], oid: &[u8]) -> bool
     octets::same(t, oid)
 }
 
-// The rule of a name or dotted OID, from a row of the table on: here from the 11th.
+// The rule of a name or dotted OID, from a row of the table on: here from the 13th.
+fn name_rule(t: &[u8]) -> Named
+    ensures { λ r. ⌜ answers.reportRule r ≡ ruleOf (drop 12 knownRules) (now (t .entry)) ⌝ }
+{
+    if is_called(t, b"distinguishedNameMatch", b"2.5.13.1") {
+        return Named::Known(Rule::Equal(Syntax::Names));
+    }
+    if is_called(t, b"rdnMatch", b"1.2.36.79672281.1.13.3") {
+        return Named::Known(Rule::Equal(Syntax::Rdns));
+    }
+    Named::Unknown
+}
+
+// From the 11th row on.
 fn time_rule(t: &[u8]) -> Named
     ensures { λ r. ⌜ answers.reportRule r ≡ ruleOf (drop 10 knownRules) (now (t .entry)) ⌝ }
 {
@@ -86,7 +103,7 @@ fn time_rule(t: &[u8]) -> Named
     if is_called(t, b"generalizedTimeOrderingMatch", b"2.5.13.28") {
         return Named::Known(Rule::Less(Syntax::Times));
     }
-    Named::Unknown
+    name_rule(t)
 }
 
 // From the 8th row on.
@@ -152,6 +169,8 @@ fn is_of_bits(x: Syntax) -> bool
         Syntax::BitStrings => true,
         Syntax::Strings(_) => false,
         Syntax::Times => false,
+        Syntax::Names => false,
+        Syntax::Rdns => false,
     }
 }
 
@@ -175,6 +194,25 @@ fn is_truth(t: &[u8]) -> bool
     octets::same(t, b"FALSE")
 }
 
+// Whether a value text is a quoted name, and a quoted RDN.
+fn is_name(t: &[u8]) -> bool
+    ensures { λ r. ⌜ r ≡ isSome (bind (unquoted (now (t .entry))) assertedName) ⌝ }
+{
+    if !strings::is_quoted(t) {
+        return false;
+    }
+    names::is_name(strings::quoted_part(t))
+}
+
+fn is_rdn(t: &[u8]) -> bool
+    ensures { λ r. ⌜ r ≡ isSome (bind (unquoted (now (t .entry))) assertedRdn) ⌝ }
+{
+    if !strings::is_quoted(t) {
+        return false;
+    }
+    names::is_rdn(strings::quoted_part(t))
+}
+
 fn conforms_to(x: Syntax, t: &[u8]) -> bool
     ensures { λ r. ⌜ r ≡ answers.conformsTo (answers.syntaxOf x) (now (t .entry)) ⌝ }
 {
@@ -186,6 +224,8 @@ fn conforms_to(x: Syntax, t: &[u8]) -> bool
         Syntax::BitStrings => digits::is_bits(t),
         Syntax::Strings(_) => strings::is_text(t),
         Syntax::Times => times::is_time(t),
+        Syntax::Names => is_name(t),
+        Syntax::Rdns => is_rdn(t),
     }
 }
 
@@ -227,6 +267,8 @@ fn suits_kind(x: Syntax, k: u8) -> bool
         Syntax::BitStrings => is_bit_kind(k),
         Syntax::Strings(_) => is_string(k),
         Syntax::Times => k == Kind::GENERALIZED_TIME,
+        Syntax::Names => k == Kind::RDN_SEQUENCE,
+        Syntax::Rdns => k == Kind::RDN,
     }
 }
 

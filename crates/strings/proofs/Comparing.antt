@@ -18,6 +18,7 @@ use Rattle.strings.specs.Prepared.{images, spaced, joined, prepared}
 use Rattle.strings.specs.inner.Shapes.{unpacked, foldOctet}
 use Rattle.strings.specs.inner.Comparing.{folded, lettersAt, imagesAt, restAt, gap, reportFound, Further, isGraphicNext, isKept, beforeAt, afterFirst, sameFrom}
 use Rattle.strings.specs.inner.Comparing.{ahead, beside, reportTurn, weight, Less}
+use Rattle.strings.specs.declared.Form.{Form}
 use Rattle.strings.specs.declared.Before.{Before}
 use Rattle.strings.specs.declared.Octets.{Octets}
 use Rattle.strings.specs.declared.Found.{Found}
@@ -61,39 +62,39 @@ kept-joined fold i b s e = go (within 33 126 b) refl (eqb b 32) refl (eqb i 0) e
     go false p false q z h = absurd (false≢true h)
 
 -- ---- an octet beside the first of others
-letters-none : (fold : Bool) (x : List ℕ) (i : ℕ) → length x ≤ i → lettersAt fold false x i ≡ []
+letters-none : (fold : Bool) (x : List ℕ) (i : ℕ) → length x ≤ i → lettersAt fold Form.Stored x i ≡ []
 unfolding lettersAt
 letters-none fold x i h = ap (folded fold) (rest-none x i h) ∙ folded-nil fold
 
-letters-more : (fold : Bool) (x : List ℕ) (i : ℕ) → i < length x → lettersAt fold false x i ≡ foldOctet fold (octet x i) ∷ lettersAt fold false x (i + 1)
+letters-more : (fold : Bool) (x : List ℕ) (i : ℕ) → i < length x → lettersAt fold Form.Stored x i ≡ foldOctet fold (octet x i) ∷ lettersAt fold Form.Stored x (i + 1)
 unfolding lettersAt
 letters-more fold x i h = ap (folded fold) (rest-cons x i h) ∙ folded-cons fold (octet x i) (drop (i + 1) x)
 
 abbrev matched : Bool → List ℕ → List ℕ → Place → Bool
 matched fold x l Place.Nowhere = false
-matched fold x l (Place.At n) = same l (lettersAt fold false x n)
+matched fold x l (Place.At n) = same l (lettersAt fold Form.Stored x n)
 
-octet-matched : (fold : Bool) (x : List ℕ) (i b : ℕ) (l : List ℕ) → matched fold x l (afterFirst fold b i (drop i x)) ≡ same (b ∷ l) (lettersAt fold false x i)
+octet-matched : (fold : Bool) (x : List ℕ) (i b : ℕ) (l : List ℕ) → matched fold x l (afterFirst fold b i (drop i x)) ≡ same (b ∷ l) (lettersAt fold Form.Stored x i)
 octet-matched fold x i b l = go (leb (length x) i) refl
   where
-    picked : (u : Bool) → matched fold x l (pick u (Place.At (i + 1)) Place.Nowhere) ≡ both u (same l (lettersAt fold false x (i + 1)))
+    picked : (u : Bool) → matched fold x l (pick u (Place.At (i + 1)) Place.Nowhere) ≡ both u (same l (lettersAt fold Form.Stored x (i + 1)))
     picked true = refl
     picked false = refl
 
-    go : (u : Bool) → leb (length x) i ≡ u → matched fold x l (afterFirst fold b i (drop i x)) ≡ same (b ∷ l) (lettersAt fold false x i)
+    go : (u : Bool) → leb (length x) i ≡ u → matched fold x l (afterFirst fold b i (drop i x)) ≡ same (b ∷ l) (lettersAt fold Form.Stored x i)
     go true e =
         let none = leb-true (length x) i e in
         rw (rest-none x i none, letters-none fold x i none) (sym (same-longer b l))
     go false e =
         let more = leb-false (length x) i e in
         rw (rest-cons x i more, letters-more fold x i more) (picked (eqb b (foldOctet fold (octet x i)))
-        ∙ sym (same-cons b (foldOctet fold (octet x i)) l (lettersAt fold false x (i + 1))))
+        ∙ sym (same-cons b (foldOctet fold (octet x i)) l (lettersAt fold Form.Stored x (i + 1))))
 
 module _ (fold : Bool) (x : List ℕ) (i b : ℕ) (l : List ℕ) (r : Place) (told : r ≡ afterFirst fold b i (drop i x)) where
-  octet-differs : r ≡ Place.Nowhere → false ≡ same (b ∷ l) (lettersAt fold false x i)
+  octet-differs : r ≡ Place.Nowhere → false ≡ same (b ∷ l) (lettersAt fold Form.Stored x i)
   octet-differs e = ap (matched fold x l) (sym e ∙ told) ∙ octet-matched fold x i b l
 
-  octet-on : (n : ℕ) → r ≡ Place.At n → same l (lettersAt fold false x n) ≡ same (b ∷ l) (lettersAt fold false x i)
+  octet-on : (n : ℕ) → r ≡ Place.At n → same l (lettersAt fold Form.Stored x n) ≡ same (b ∷ l) (lettersAt fold Form.Stored x i)
   octet-on n e = ap (matched fold x l) (sym e ∙ told) ∙ octet-matched fold x i b l
 
 abbrev placeOf : Place → ℕ
@@ -112,12 +113,12 @@ after-place fold b x i n e = go (drop i x) e
     go [] q = absurd (let z : _≡_ {A = ℕ} 0 1 = cc in omega arith)
     go (y ∷ l) q = pick-at (eqb b (foldOctet fold y)) q
 
-none-left : (fold : Bool) (x : List ℕ) (i : ℕ) → leb (length x) i ≡ same [] (lettersAt fold false x i)
+none-left : (fold : Bool) (x : List ℕ) (i : ℕ) → leb (length x) i ≡ same [] (lettersAt fold Form.Stored x i)
 none-left fold x i = go (leb (length x) i) refl
   where
-    go : (u : Bool) → leb (length x) i ≡ u → u ≡ same [] (lettersAt fold false x i)
+    go : (u : Bool) → leb (length x) i ≡ u → u ≡ same [] (lettersAt fold Form.Stored x i)
     go true e = rw (letters-none fold x i (leb-true (length x) i e)) (sym same-nil)
-    go false e = rw (letters-more fold x i (leb-false (length x) i e)) (sym (same-shorter (foldOctet fold (octet x i)) (lettersAt fold false x (i + 1))))
+    go false e = rw (letters-more fold x i (leb-false (length x) i e)) (sym (same-shorter (foldOctet fold (octet x i)) (lettersAt fold Form.Stored x (i + 1))))
 
 -- ---- after_octet, is_kept, before_at
 module _ (fold : Bool) (b : ℕ) (x : List ℕ) (i : ℕ) where
@@ -166,12 +167,12 @@ module _ (i : ℕ) where
 
 -- ---- what is left of a stored string at a place behind kept octets
 module _ (fold : Bool) (c : List ℕ) (i : ℕ) where
-  rest-none-left : length c ≤ i → restAt fold false c i (beforeAt i) ≡ []
+  rest-none-left : length c ≤ i → restAt fold Form.Stored c i (beforeAt i) ≡ []
   unfolding restAt imagesAt images joined
   rest-none-left h = ap (λ (y : List ℕ). joined (beforeAt i) (images fold y)) (rest-none c i h)
 
   rest-kept : i < length c → isKept i (drop i c) ≡ true
-      → restAt fold false c i (beforeAt i) ≡ foldOctet fold (octet c i) ∷ restAt fold false c (i + 1) (beforeAt (i + 1))
+      → restAt fold Form.Stored c i (beforeAt i) ≡ foldOctet fold (octet c i) ∷ restAt fold Form.Stored c (i + 1) (beforeAt (i + 1))
   unfolding restAt imagesAt
   rest-kept h e =
       ap (λ (y : List ℕ). joined (beforeAt i) (images fold y)) (rest-cons c i h)
@@ -186,101 +187,101 @@ module _ (fold : Bool) (c x : List ℕ) (s : Sides) where
   -- an octet of an image
   module _ (h : 0 < s .count) where
     octet-ahead : ahead fold c s ≡ s .word % 256 ∷ ahead fold c (record { at = s .at; i = s .i; word = s .word / 256; count = s .count - 1 })
-    octet-ahead = ap (λ (l : List ℕ). l ++ restAt fold false c (s .at) (beforeAt (s .at))) (unpacked-more (s .word) (s .count) h)
+    octet-ahead = ap (λ (l : List ℕ). l ++ restAt fold Form.Stored c (s .at) (beforeAt (s .at))) (unpacked-more (s .word) (s .count) h)
 
     module _ (r : Place) (told : r ≡ afterFirst fold (s .word % 256) (s .i) (drop (s .i) x)) where
       pub turn-differs : r ≡ Place.Nowhere → false ≡ beside fold c x s
       unfolding beside
       turn-differs e =
           octet-differs fold x (s .i) (s .word % 256) (ahead fold c (record { at = s .at; i = s .i; word = s .word / 256; count = s .count - 1 })) r told e
-          ∙ ap (λ (l : List ℕ). same l (lettersAt fold false x (s .i))) (sym octet-ahead)
+          ∙ ap (λ (l : List ℕ). same l (lettersAt fold Form.Stored x (s .i))) (sym octet-ahead)
 
       pub turn-octet : (n : ℕ) → r ≡ Place.At n → beside fold c x (record { at = s .at; i = n; word = s .word / 256; count = s .count - 1 }) ≡ beside fold c x s
       unfolding beside
       turn-octet n e =
           octet-on fold x (s .i) (s .word % 256) (ahead fold c (record { at = s .at; i = s .i; word = s .word / 256; count = s .count - 1 })) r told n e
-          ∙ ap (λ (l : List ℕ). same l (lettersAt fold false x (s .i))) (sym octet-ahead)
+          ∙ ap (λ (l : List ℕ). same l (lettersAt fold Form.Stored x (s .i))) (sym octet-ahead)
 
     pub turn-octet-less : (n : ℕ) → weight fold c (record { at = s .at; i = n; word = s .word / 256; count = s .count - 1 }) < weight fold c s
     unfolding weight
     turn-octet-less n = omega (arith, ap length octet-ahead)
 
   module _ (none : s .count ≤ 0) where
-    ahead-rest : ahead fold c s ≡ restAt fold false c (s .at) (beforeAt (s .at))
+    ahead-rest : ahead fold c s ≡ restAt fold Form.Stored c (s .at) (beforeAt (s .at))
     unfolding unpacked
-    ahead-rest = let z : s .count ≡ 0 = omega arith in ap (λ (k : ℕ). unpacked (s .word) k ++ restAt fold false c (s .at) (beforeAt (s .at))) z
+    ahead-rest = let z : s .count ≡ 0 = omega arith in ap (λ (k : ℕ). unpacked (s .word) k ++ restAt fold Form.Stored c (s .at) (beforeAt (s .at))) z
 
     pub turn-end : length c ≤ s .at → leb (length x) (s .i) ≡ beside fold c x s
     unfolding beside
-    turn-end h = none-left fold x (s .i) ∙ ap (λ (l : List ℕ). same l (lettersAt fold false x (s .i))) (sym (ahead-rest ∙ rest-none-left fold c (s .at) h))
+    turn-end h = none-left fold x (s .i) ∙ ap (λ (l : List ℕ). same l (lettersAt fold Form.Stored x (s .i))) (sym (ahead-rest ∙ rest-none-left fold c (s .at) h))
 
     -- an octet that is kept
     module _ (h : s .at < length c) (kept : isKept (s .at) (drop (s .at) c) ≡ true) where
-      kept-ahead : ahead fold c s ≡ foldOctet fold (octet c (s .at)) ∷ restAt fold false c (s .at + 1) (beforeAt (s .at + 1))
+      kept-ahead : ahead fold c s ≡ foldOctet fold (octet c (s .at)) ∷ restAt fold Form.Stored c (s .at + 1) (beforeAt (s .at + 1))
       kept-ahead = ahead-rest ∙ rest-kept fold c (s .at) h kept
 
       module _ (b : ℕ) (folds : b ≡ foldOctet fold (octet c (s .at))) (r : Place) (told : r ≡ afterFirst fold b (s .i) (drop (s .i) x)) where
-        kept-sides : same (b ∷ restAt fold false c (s .at + 1) (beforeAt (s .at + 1))) (lettersAt fold false x (s .i)) ≡ beside fold c x s
+        kept-sides : same (b ∷ restAt fold Form.Stored c (s .at + 1) (beforeAt (s .at + 1))) (lettersAt fold Form.Stored x (s .i)) ≡ beside fold c x s
         unfolding beside
-        kept-sides = ap (λ (l : List ℕ). same l (lettersAt fold false x (s .i)))
-            (ap (λ (y : ℕ). y ∷ restAt fold false c (s .at + 1) (beforeAt (s .at + 1))) folds ∙ sym kept-ahead)
+        kept-sides = ap (λ (l : List ℕ). same l (lettersAt fold Form.Stored x (s .i)))
+            (ap (λ (y : ℕ). y ∷ restAt fold Form.Stored c (s .at + 1) (beforeAt (s .at + 1))) folds ∙ sym kept-ahead)
 
         pub turn-other : r ≡ Place.Nowhere → false ≡ beside fold c x s
-        turn-other e = octet-differs fold x (s .i) b (restAt fold false c (s .at + 1) (beforeAt (s .at + 1))) r told e ∙ kept-sides
+        turn-other e = octet-differs fold x (s .i) b (restAt fold Form.Stored c (s .at + 1) (beforeAt (s .at + 1))) r told e ∙ kept-sides
 
         pub turn-kept : (n : ℕ) → r ≡ Place.At n → beside fold c x (record { at = s .at + 1; i = n; word = 0; count = 0 }) ≡ beside fold c x s
         unfolding beside unpacked
-        turn-kept n e = octet-on fold x (s .i) b (restAt fold false c (s .at + 1) (beforeAt (s .at + 1))) r told n e ∙ kept-sides
+        turn-kept n e = octet-on fold x (s .i) b (restAt fold Form.Stored c (s .at + 1) (beforeAt (s .at + 1))) r told n e ∙ kept-sides
 
       pub turn-kept-less : (n : ℕ) → weight fold c (record { at = s .at + 1; i = n; word = 0; count = 0 }) < weight fold c s
       unfolding weight unpacked
       turn-kept-less n = omega (arith, ap length kept-ahead, h, rest-length c (s .at), rest-length c (s .at + 1))
 
     -- the next image
-    module _ (p : Before) (behind : p ≡ beforeAt (s .at)) (f : Found) (told : reportFound fold false c f ≡ restAt fold false c (s .at) p) where
-      found-ahead : reportFound fold false c f ≡ ahead fold c s
-      found-ahead = told ∙ ap (restAt fold false c (s .at)) behind ∙ sym ahead-rest
+    module _ (p : Before) (behind : p ≡ beforeAt (s .at)) (f : Found) (told : reportFound fold Form.Stored c f ≡ restAt fold Form.Stored c (s .at) p) where
+      found-ahead : reportFound fold Form.Stored c f ≡ ahead fold c s
+      found-ahead = told ∙ ap (restAt fold Form.Stored c (s .at)) behind ∙ sym ahead-rest
 
       pub turn-last : f ≡ Found.End → leb (length x) (s .i) ≡ beside fold c x s
       unfolding beside
-      turn-last e = none-left fold x (s .i) ∙ ap (λ (l : List ℕ). same l (lettersAt fold false x (s .i))) (ap (reportFound fold false c) (sym e) ∙ found-ahead)
+      turn-last e = none-left fold x (s .i) ∙ ap (λ (l : List ℕ). same l (lettersAt fold Form.Stored x (s .i))) (ap (reportFound fold Form.Stored c) (sym e) ∙ found-ahead)
 
-      module _ (u : Bool) (o : Octets) (after : ℕ) (e : f ≡ Found.At u o after) (further : Further false c (s .at) f) where
+      module _ (u : Bool) (o : Octets) (after : ℕ) (e : f ≡ Found.At u o after) (further : Further Form.Stored c (s .at) f) where
         beyond : s .at < after
         beyond = go f e further
           where
-            go : (y : Found) → y ≡ Found.At u o after → Further false c (s .at) y → s .at < after
+            go : (y : Found) → y ≡ Found.At u o after → Further Form.Stored c (s .at) y → s .at < after
             go Found.End q g = absurd (let z : _≡_ {A = ℕ} 0 1 = cc in omega arith)
             go (Found.At v w k) q g = let z : k ≡ after = cc in omega (arith, g, z, rest-length c k, rest-length c (s .at))
 
         short : length (drop after c) < length (drop (s .at) c)
         short = go f e further
           where
-            go : (y : Found) → y ≡ Found.At u o after → Further false c (s .at) y → length (drop after c) < length (drop (s .at) c)
+            go : (y : Found) → y ≡ Found.At u o after → Further Form.Stored c (s .at) y → length (drop after c) < length (drop (s .at) c)
             go Found.End q g = absurd (let z : _≡_ {A = ℕ} 0 1 = cc in omega arith)
             go (Found.At v w k) q g = let z : k ≡ after = cc in omega (arith, g, ap (λ (y : ℕ). length (drop y c)) z)
 
-        image-ahead : gap u (unpacked (o .word) (o .count) ++ restAt fold false c after (beforeAt after)) ≡ ahead fold c s
+        image-ahead : gap u (unpacked (o .word) (o .count) ++ restAt fold Form.Stored c after (beforeAt after)) ≡ ahead fold c s
         image-ahead =
-            ap (λ (y : Before). gap u (unpacked (o .word) (o .count) ++ restAt fold false c after y)) (sym (before-other after (λ z. omega (arith, beyond))))
-            ∙ ap (reportFound fold false c) (sym e) ∙ found-ahead
+            ap (λ (y : Before). gap u (unpacked (o .word) (o .count) ++ restAt fold Form.Stored c after y)) (sym (before-other after (λ z. omega (arith, beyond))))
+            ∙ ap (reportFound fold Form.Stored c) (sym e) ∙ found-ahead
 
         module _ (q : not u ≡ true) where
-          joined-ahead : unpacked (o .word) (o .count) ++ restAt fold false c after (beforeAt after) ≡ ahead fold c s
-          joined-ahead = ap (λ (y : Bool). gap y (unpacked (o .word) (o .count) ++ restAt fold false c after (beforeAt after))) (sym (not-true u q))
+          joined-ahead : unpacked (o .word) (o .count) ++ restAt fold Form.Stored c after (beforeAt after) ≡ ahead fold c s
+          joined-ahead = ap (λ (y : Bool). gap y (unpacked (o .word) (o .count) ++ restAt fold Form.Stored c after (beforeAt after))) (sym (not-true u q))
               ∙ image-ahead
 
           pub turn-image : beside fold c x (record { at = after; i = s .i; word = o .word; count = o .count }) ≡ beside fold c x s
           unfolding beside
-          turn-image = ap (λ (l : List ℕ). same l (lettersAt fold false x (s .i))) joined-ahead
+          turn-image = ap (λ (l : List ℕ). same l (lettersAt fold Form.Stored x (s .i))) joined-ahead
 
           pub turn-image-less : weight fold c (record { at = after; i = s .i; word = o .word; count = o .count }) < weight fold c s
           unfolding weight
           turn-image-less = omega (arith, ap length joined-ahead, short)
 
         module _ (q : not u ≡ false) where
-          spaced-ahead : 32 ∷ (unpacked (o .word) (o .count) ++ restAt fold false c after (beforeAt after)) ≡ ahead fold c s
-          spaced-ahead = ap (λ (y : Bool). gap y (unpacked (o .word) (o .count) ++ restAt fold false c after (beforeAt after))) (sym (not-false u q))
+          spaced-ahead : 32 ∷ (unpacked (o .word) (o .count) ++ restAt fold Form.Stored c after (beforeAt after)) ≡ ahead fold c s
+          spaced-ahead = ap (λ (y : Bool). gap y (unpacked (o .word) (o .count) ++ restAt fold Form.Stored c after (beforeAt after))) (sym (not-false u q))
               ∙ image-ahead
 
           pub turn-space-less : (n : ℕ) → weight fold c (record { at = after; i = n; word = o .word; count = o .count }) < weight fold c s
@@ -288,18 +289,18 @@ module _ (fold : Bool) (c x : List ℕ) (s : Sides) where
           turn-space-less n = omega (arith, ap length spaced-ahead, short)
 
           module _ (r : Place) (answers : r ≡ afterFirst fold 32 (s .i) (drop (s .i) x)) where
-            spaced-sides : same (32 ∷ (unpacked (o .word) (o .count) ++ restAt fold false c after (beforeAt after))) (lettersAt fold false x (s .i))
+            spaced-sides : same (32 ∷ (unpacked (o .word) (o .count) ++ restAt fold Form.Stored c after (beforeAt after))) (lettersAt fold Form.Stored x (s .i))
                 ≡ beside fold c x s
             unfolding beside
-            spaced-sides = ap (λ (l : List ℕ). same l (lettersAt fold false x (s .i))) spaced-ahead
+            spaced-sides = ap (λ (l : List ℕ). same l (lettersAt fold Form.Stored x (s .i))) spaced-ahead
 
             pub turn-no-space : r ≡ Place.Nowhere → false ≡ beside fold c x s
-            turn-no-space g = octet-differs fold x (s .i) 32 (unpacked (o .word) (o .count) ++ restAt fold false c after (beforeAt after)) r answers g
+            turn-no-space g = octet-differs fold x (s .i) 32 (unpacked (o .word) (o .count) ++ restAt fold Form.Stored c after (beforeAt after)) r answers g
                 ∙ spaced-sides
 
             pub turn-space : (n : ℕ) → r ≡ Place.At n → beside fold c x (record { at = after; i = n; word = o .word; count = o .count }) ≡ beside fold c x s
             unfolding beside
-            turn-space n g = octet-on fold x (s .i) 32 (unpacked (o .word) (o .count) ++ restAt fold false c after (beforeAt after)) r answers n g
+            turn-space n g = octet-on fold x (s .i) 32 (unpacked (o .word) (o .count) ++ restAt fold Form.Stored c after (beforeAt after)) r answers n g
                 ∙ spaced-sides
 
 -- ---- same_from
@@ -329,14 +330,14 @@ module _ (fold : Bool) (c x : List ℕ) (i : ℕ) (m : Bool) (inv : sameFrom fol
 
   pub from-end : length c ≤ i → leb (length x) i ≡ m
   unfolding sameFrom
-  from-end h = none-left fold x i ∙ ap (λ (l : List ℕ). same l (lettersAt fold false x i)) (sym (rest-none-left fold c i h)) ∙ inv
+  from-end h = none-left fold x i ∙ ap (λ (l : List ℕ). same l (lettersAt fold Form.Stored x i)) (sym (rest-none-left fold c i h)) ∙ inv
 
   module _ (h : i < length c) (u : Bool) (told : u ≡ isKept i (drop i c)) (e : not u ≡ false) (b : ℕ) (folds : b ≡ foldOctet fold (octet c i))
       (r : Place) (answers : r ≡ afterFirst fold b i (drop i x)) where
-    here : same (b ∷ restAt fold false c (i + 1) (beforeAt (i + 1))) (lettersAt fold false x i) ≡ m
+    here : same (b ∷ restAt fold Form.Stored c (i + 1) (beforeAt (i + 1))) (lettersAt fold Form.Stored x i) ≡ m
     unfolding sameFrom
     here =
-        ap (λ (l : List ℕ). same l (lettersAt fold false x i)) (ap (λ (y : ℕ). y ∷ restAt fold false c (i + 1) (beforeAt (i + 1))) folds
+        ap (λ (l : List ℕ). same l (lettersAt fold Form.Stored x i)) (ap (λ (y : ℕ). y ∷ restAt fold Form.Stored c (i + 1) (beforeAt (i + 1))) folds
         ∙ sym (rest-kept fold c i h (sym told ∙ not-false u e)))
         ∙ inv
 
@@ -344,13 +345,13 @@ module _ (fold : Bool) (c x : List ℕ) (i : ℕ) (m : Bool) (inv : sameFrom fol
     next-place n g = after-place fold b x i n (sym g ∙ answers)
 
     pub from-differs : r ≡ Place.Nowhere → false ≡ m
-    from-differs g = octet-differs fold x i b (restAt fold false c (i + 1) (beforeAt (i + 1))) r answers g ∙ here
+    from-differs g = octet-differs fold x i b (restAt fold Form.Stored c (i + 1) (beforeAt (i + 1))) r answers g ∙ here
 
     pub from-more : (n : ℕ) → r ≡ Place.At n → sameFrom fold c x n ≡ m
     unfolding sameFrom
     from-more n g =
-        ap (λ (y : ℕ). same (restAt fold false c y (beforeAt y)) (lettersAt fold false x n)) (next-place n g)
-        ∙ octet-on fold x i b (restAt fold false c (i + 1) (beforeAt (i + 1))) r answers n g ∙ here
+        ap (λ (y : ℕ). same (restAt fold Form.Stored c y (beforeAt y)) (lettersAt fold Form.Stored x n)) (next-place n g)
+        ∙ octet-on fold x i b (restAt fold Form.Stored c (i + 1) (beforeAt (i + 1))) r answers n g ∙ here
 
 pub from-falls : (fold : Bool) (c x : List ℕ) (i b : ℕ) (r : Place) (n : ℕ) → i < length c → r ≡ afterFirst fold b i (drop i x) → r ≡ Place.At n
     → length c - n < length c - i

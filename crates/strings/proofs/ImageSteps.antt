@@ -13,6 +13,7 @@ use Rattle.strings.specs.Images.{Mark, shown, image}
 use Rattle.strings.specs.Prepared.{isPair, pairNumber, images, afterSpace, spaced, joined}
 use Rattle.strings.specs.inner.Shapes.{unpacked, shapeMarks, single, lowShape, highShape}
 use Rattle.strings.specs.inner.Comparing.{octetsOf, reportOctet, imagesAt, reportPiece, left, restAt, isSpace, gap, reportFound}
+use Rattle.strings.specs.declared.Form.{Form}
 use Rattle.strings.specs.declared.Before.{Before}
 use Rattle.strings.specs.declared.Octets.{Octets}
 use Rattle.strings.specs.declared.Shape.{Shape}
@@ -88,34 +89,34 @@ module _ (a b : ℕ) (u : Bool) (pair : u ≡ isPair a b) (h : not u ≡ false) 
   pub high-number : (x y : ℕ) → x ≡ a → y ≡ b → (x - 192) * 64 + (y - 128) < 2000
   high-number x y e f = let w = is-paired .first-most in let z = is-paired .second-most in omega arith
 
-module _ (s : List ℕ) (quoted fold : Bool) (a after : ℕ) (high : 128 ≤ a) (r : Letter) (told : reportOctet quoted s r ≡ octetsOf quoted (drop after s))
+module _ (s : List ℕ) (form : Form) (fold : Bool) (a after : ℕ) (high : 128 ≤ a) (r : Letter) (told : reportOctet form s r ≡ octetsOf form (drop after s))
     (sh : Shape) where
-  pub high-last : a ≤ 255 → r ≡ Letter.End → sh ≡ single a → reportPiece fold quoted s (pieceOf sh after) ≡ images fold (a ∷ octetsOf quoted (drop after s))
+  pub high-last : a ≤ 255 → r ≡ Letter.End → sh ≡ single a → reportPiece fold form s (pieceOf sh after) ≡ images fold (a ∷ octetsOf form (drop after s))
   unfolding imagesAt images
   high-last octet e q =
-      let none : octetsOf quoted (drop after s) ≡ [] = sym told ∙ ap (reportOctet quoted s) e in
+      let none : octetsOf form (drop after s) ≡ [] = sym told ∙ ap (reportOctet form s) e in
       ap₂ (λ (x : Shape) (y : List ℕ). shapeMarks x ++ images fold y) q none ∙ ap (λ (l : List Mark). l ++ []) (single-marks a octet)
       ∙ sym (images-alone fold a high) ∙ ap (λ (y : List ℕ). images fold (a ∷ y)) (sym none)
 
   module _ (b next : ℕ) (e : r ≡ Letter.Got b next) where
-    behind-it : octetsOf quoted (drop after s) ≡ b ∷ octetsOf quoted (drop next s)
-    behind-it = sym told ∙ ap (reportOctet quoted s) e
+    behind-it : octetsOf form (drop after s) ≡ b ∷ octetsOf form (drop next s)
+    behind-it = sym told ∙ ap (reportOctet form s) e
 
     pub high-single : (u : Bool) → a ≤ 255 → u ≡ isPair a b → not u ≡ true → sh ≡ single a
-        → reportPiece fold quoted s (pieceOf sh after) ≡ images fold (a ∷ octetsOf quoted (drop after s))
+        → reportPiece fold form s (pieceOf sh after) ≡ images fold (a ∷ octetsOf form (drop after s))
     unfolding imagesAt
     high-single u octet pair h q =
         ap₂ (λ (x : Shape) (y : List ℕ). shapeMarks x ++ images fold y) q behind-it
-        ∙ ap (λ (l : List Mark). l ++ images fold (b ∷ octetsOf quoted (drop next s))) (single-marks a octet)
-        ∙ sym (images-single fold a b (octetsOf quoted (drop next s)) high (sym pair ∙ not-true u h)) ∙ ap (λ (y : List ℕ). images fold (a ∷ y)) (sym behind-it)
+        ∙ ap (λ (l : List Mark). l ++ images fold (b ∷ octetsOf form (drop next s))) (single-marks a octet)
+        ∙ sym (images-single fold a b (octetsOf form (drop next s)) high (sym pair ∙ not-true u h)) ∙ ap (λ (y : List ℕ). images fold (a ∷ y)) (sym behind-it)
 
-module _ (s : List ℕ) (quoted fold : Bool) (a after : ℕ) (r : Letter) (told : reportOctet quoted s r ≡ octetsOf quoted (drop after s)) (b next : ℕ)
+module _ (s : List ℕ) (form : Form) (fold : Bool) (a after : ℕ) (r : Letter) (told : reportOctet form s r ≡ octetsOf form (drop after s)) (b next : ℕ)
     (e : r ≡ Letter.Got b next) where
-  after-it : octetsOf quoted (drop after s) ≡ b ∷ octetsOf quoted (drop next s)
-  after-it = sym told ∙ ap (reportOctet quoted s) e
+  after-it : octetsOf form (drop after s) ≡ b ∷ octetsOf form (drop next s)
+  after-it = sym told ∙ ap (reportOctet form s) e
 
   pub high-pair : (sh : Shape) (u : Bool) (x y c : ℕ) → u ≡ isPair a b → not u ≡ false → x ≡ a → y ≡ b → c ≡ (x - 192) * 64 + (y - 128) → sh ≡ highShape fold c
-      → reportPiece fold quoted s (pieceOf sh next) ≡ images fold (a ∷ octetsOf quoted (drop after s))
+      → reportPiece fold form s (pieceOf sh next) ≡ images fold (a ∷ octetsOf form (drop after s))
   unfolding imagesAt
   high-pair sh u x y c pair h ex ey q z =
       let w = is-paired a b u pair h in
@@ -124,24 +125,24 @@ module _ (s : List ℕ) (quoted fold : Bool) (a after : ℕ) (r : Letter) (told 
       let w2 = w .second-least in
       let w3 = w .second-most in
       let number : c ≡ pairNumber a b = omega arith in
-      ap (λ (p : Shape). shapeMarks p ++ images fold (octetsOf quoted (drop next s))) z
-      ∙ ap (λ (l : List Mark). l ++ images fold (octetsOf quoted (drop next s))) (high-is fold c (omega arith) (omega arith) ∙ ap (image fold) number)
-      ∙ sym (images-pair fold a b (octetsOf quoted (drop next s)) (sym pair ∙ not-false u h)) ∙ ap (λ (y : List ℕ). images fold (a ∷ y)) (sym after-it)
+      ap (λ (p : Shape). shapeMarks p ++ images fold (octetsOf form (drop next s))) z
+      ∙ ap (λ (l : List Mark). l ++ images fold (octetsOf form (drop next s))) (high-is fold c (omega arith) (omega arith) ∙ ap (image fold) number)
+      ∙ sym (images-pair fold a b (octetsOf form (drop next s)) (sym pair ∙ not-false u h)) ∙ ap (λ (y : List ℕ). images fold (a ∷ y)) (sym after-it)
 
-  pub high-on : left quoted s next ≤ left quoted s after
+  pub high-on : left form s next ≤ left form s after
   high-on = omega (arith, ap length after-it)
 
-pub high-stays : (quoted : Bool) (s : List ℕ) (after : ℕ) → left quoted s after ≤ left quoted s after
-high-stays quoted s after = omega arith
+pub high-stays : (form : Form) (s : List ℕ) (after : ℕ) → left form s after ≤ left form s after
+high-stays form s after = omega arith
 
 -- ---- read_piece
-pub piece-low : (s : List ℕ) (quoted fold : Bool) (a after : ℕ) (sh : Shape) → a < 128 → sh ≡ lowShape fold a
-    → reportPiece fold quoted s (pieceOf sh after) ≡ images fold (a ∷ octetsOf quoted (drop after s))
+pub piece-low : (s : List ℕ) (form : Form) (fold : Bool) (a after : ℕ) (sh : Shape) → a < 128 → sh ≡ lowShape fold a
+    → reportPiece fold form s (pieceOf sh after) ≡ images fold (a ∷ octetsOf form (drop after s))
 unfolding imagesAt
-piece-low s quoted fold a after sh h q =
-    ap (λ (p : Shape). shapeMarks p ++ images fold (octetsOf quoted (drop after s))) q
-    ∙ ap (λ (l : List Mark). l ++ images fold (octetsOf quoted (drop after s))) (low-is fold a h)
-    ∙ sym (images-low fold a (octetsOf quoted (drop after s)) h)
+piece-low s form fold a after sh h q =
+    ap (λ (p : Shape). shapeMarks p ++ images fold (octetsOf form (drop after s))) q
+    ∙ ap (λ (l : List Mark). l ++ images fold (octetsOf form (drop after s))) (low-is fold a h)
+    ∙ sym (images-low fold a (octetsOf form (drop after s)) h)
 
 -- ---- the next image
 pub unpacked-more : (w n : ℕ) → 0 < n → unpacked w n ≡ w % 256 ∷ unpacked (w / 256) (n - 1)
@@ -166,74 +167,74 @@ gap-spaced Before.Character l = refl
 gap-spaced Before.Space l = refl
 
 -- an image at a place, and the place after its character
-module _ (fold quoted : Bool) (s : List ℕ) (at end : ℕ) (p : Before) (l : List ℕ) (inv : restAt fold quoted s at p ≡ l) (sh : Shape)
-    (marks : imagesAt fold quoted s at ≡ shapeMarks sh ++ imagesAt fold quoted s end) where
-  blank-on : (x : Before) → sh ≡ Shape.Blank → x ≡ afterSpace p → restAt fold quoted s end x ≡ l
+module _ (fold : Bool) (form : Form) (s : List ℕ) (at end : ℕ) (p : Before) (l : List ℕ) (inv : restAt fold form s at p ≡ l) (sh : Shape)
+    (marks : imagesAt fold form s at ≡ shapeMarks sh ++ imagesAt fold form s end) where
+  blank-on : (x : Before) → sh ≡ Shape.Blank → x ≡ afterSpace p → restAt fold form s end x ≡ l
   unfolding restAt joined
-  blank-on x q h = ap (λ (y : Before). joined y (imagesAt fold quoted s end)) h
-      ∙ sym (ap (joined p) (marks ∙ ap (λ (y : Shape). shapeMarks y ++ imagesAt fold quoted s end) q)) ∙ inv
+  blank-on x q h = ap (λ (y : Before). joined y (imagesAt fold form s end)) h
+      ∙ sym (ap (joined p) (marks ∙ ap (λ (y : Shape). shapeMarks y ++ imagesAt fold form s end) q)) ∙ inv
 
   module _ (o : Octets) (q : sh ≡ Shape.Shown o) where
-    octets-here : imagesAt fold quoted s at ≡ map shown (unpacked (o .word) (o .count)) ++ imagesAt fold quoted s end
-    octets-here = marks ∙ ap (λ (y : Shape). shapeMarks y ++ imagesAt fold quoted s end) q
+    octets-here : imagesAt fold form s at ≡ map shown (unpacked (o .word) (o .count)) ++ imagesAt fold form s end
+    octets-here = marks ∙ ap (λ (y : Shape). shapeMarks y ++ imagesAt fold form s end) q
 
-    nothing-on : o .count ≤ 0 → restAt fold quoted s end p ≡ l
+    nothing-on : o .count ≤ 0 → restAt fold form s end p ≡ l
     unfolding restAt unpacked
     nothing-on h = let z : o .count ≡ 0 = omega arith in
-        sym (ap (joined p) (octets-here ∙ ap (λ (n : ℕ). map shown (unpacked (o .word) n) ++ imagesAt fold quoted s end) z)) ∙ inv
+        sym (ap (joined p) (octets-here ∙ ap (λ (n : ℕ). map shown (unpacked (o .word) n) ++ imagesAt fold form s end) z)) ∙ inv
 
-    shown-on : 0 < o .count → (u : Bool) → u ≡ isSpace p → gap u (unpacked (o .word) (o .count) ++ restAt fold quoted s end Before.Character) ≡ l
+    shown-on : 0 < o .count → (u : Bool) → u ≡ isSpace p → gap u (unpacked (o .word) (o .count) ++ restAt fold form s end Before.Character) ≡ l
     unfolding restAt
     shown-on h u e =
         let more = unpacked-more (o .word) (o .count) h in
-        ap (λ (y : Bool). gap y (unpacked (o .word) (o .count) ++ joined Before.Character (imagesAt fold quoted s end))) e
-        ∙ gap-spaced p (unpacked (o .word) (o .count) ++ joined Before.Character (imagesAt fold quoted s end))
-        ∙ ap (λ (k : List ℕ). spaced p (k ++ joined Before.Character (imagesAt fold quoted s end))) more
-        ∙ sym (joined-shown p (o .word % 256) (unpacked (o .word / 256) (o .count - 1)) (imagesAt fold quoted s end))
-        ∙ sym (ap (joined p) (octets-here ∙ ap (λ (k : List ℕ). map shown k ++ imagesAt fold quoted s end) more)) ∙ inv
+        ap (λ (y : Bool). gap y (unpacked (o .word) (o .count) ++ joined Before.Character (imagesAt fold form s end))) e
+        ∙ gap-spaced p (unpacked (o .word) (o .count) ++ joined Before.Character (imagesAt fold form s end))
+        ∙ ap (λ (k : List ℕ). spaced p (k ++ joined Before.Character (imagesAt fold form s end))) more
+        ∙ sym (joined-shown p (o .word % 256) (unpacked (o .word / 256) (o .count - 1)) (imagesAt fold form s end))
+        ∙ sym (ap (joined p) (octets-here ∙ ap (λ (k : List ℕ). map shown k ++ imagesAt fold form s end) more)) ∙ inv
 
 -- ---- next_image: what is left at a place is what was left at the first
-pub record Seeking (fold quoted : Bool) (s : List ℕ) (first : ℕ) (behind : Before) (at : ℕ) (p : Before) : Type 0 where
-  pub left-there : restAt fold quoted s at p ≡ restAt fold quoted s first behind
-  pub not-more : left quoted s at ≤ left quoted s first
+pub record Seeking (fold : Bool) (form : Form) (s : List ℕ) (first : ℕ) (behind : Before) (at : ℕ) (p : Before) : Type 0 where
+  pub left-there : restAt fold form s at p ≡ restAt fold form s first behind
+  pub not-more : left form s at ≤ left form s first
 
-pub seek-start : (fold quoted : Bool) (s : List ℕ) (first : ℕ) (behind : Before) → Seeking fold quoted s first behind first behind
-seek-start fold quoted s first behind = record { left-there = refl; not-more = omega arith }
+pub seek-start : (fold : Bool) (form : Form) (s : List ℕ) (first : ℕ) (behind : Before) → Seeking fold form s first behind first behind
+seek-start fold form s first behind = record { left-there = refl; not-more = omega arith }
 
-module _ (fold quoted : Bool) (s : List ℕ) (first : ℕ) (behind : Before) (at : ℕ) (p : Before) (inv : Seeking fold quoted s first behind at p)
-    (r : Letter) (read : reportOctet quoted s r ≡ octetsOf quoted (drop at s)) where
-  pub seek-end : r ≡ Letter.End → reportFound fold quoted s Found.End ≡ restAt fold quoted s first behind
+module _ (fold : Bool) (form : Form) (s : List ℕ) (first : ℕ) (behind : Before) (at : ℕ) (p : Before) (inv : Seeking fold form s first behind at p)
+    (r : Letter) (read : reportOctet form s r ≡ octetsOf form (drop at s)) where
+  pub seek-end : r ≡ Letter.End → reportFound fold form s Found.End ≡ restAt fold form s first behind
   unfolding restAt imagesAt images joined
-  seek-end e = ap (λ (y : List ℕ). joined p (images fold y)) (ap (reportOctet quoted s) (sym e) ∙ read) ∙ inv .left-there
+  seek-end e = ap (λ (y : List ℕ). joined p (images fold y)) (ap (reportOctet form s) (sym e) ∙ read) ∙ inv .left-there
 
-  module _ (b after : ℕ) (e : r ≡ Letter.Got b after) (piece : Piece) (on : left quoted s (piece .after) ≤ left quoted s after) where
-    octets-on : octetsOf quoted (drop at s) ≡ b ∷ octetsOf quoted (drop after s)
-    octets-on = sym read ∙ ap (reportOctet quoted s) e
+  module _ (b after : ℕ) (e : r ≡ Letter.Got b after) (piece : Piece) (on : left form s (piece .after) ≤ left form s after) where
+    octets-on : octetsOf form (drop at s) ≡ b ∷ octetsOf form (drop after s)
+    octets-on = sym read ∙ ap (reportOctet form s) e
 
-    pub seek-falls : left quoted s (piece .after) < left quoted s at
+    pub seek-falls : left form s (piece .after) < left form s at
     seek-falls = omega (arith, on, ap length octets-on)
 
-    pub seek-further : left quoted s (piece .after) < left quoted s first
+    pub seek-further : left form s (piece .after) < left form s first
     seek-further = omega (arith, seek-falls, inv .not-more)
 
-    module _ (told : reportPiece fold quoted s piece ≡ images fold (b ∷ octetsOf quoted (drop after s))) where
-      marks-here : imagesAt fold quoted s at ≡ shapeMarks (piece .shape) ++ imagesAt fold quoted s (piece .after)
+    module _ (told : reportPiece fold form s piece ≡ images fold (b ∷ octetsOf form (drop after s))) where
+      marks-here : imagesAt fold form s at ≡ shapeMarks (piece .shape) ++ imagesAt fold form s (piece .after)
       unfolding imagesAt
       marks-here = ap (images fold) octets-on ∙ sym told
 
-      pub seek-blank : (x : Before) → piece .shape ≡ Shape.Blank → x ≡ afterSpace p → Seeking fold quoted s first behind (piece .after) x
+      pub seek-blank : (x : Before) → piece .shape ≡ Shape.Blank → x ≡ afterSpace p → Seeking fold form s first behind (piece .after) x
       seek-blank x q h = record {
-        left-there = blank-on fold quoted s at (piece .after) p (restAt fold quoted s first behind) (inv .left-there) (piece .shape) marks-here x q h;
+        left-there = blank-on fold form s at (piece .after) p (restAt fold form s first behind) (inv .left-there) (piece .shape) marks-here x q h;
         not-more = omega (arith, seek-further);
       }
 
-      pub seek-nothing : (o : Octets) → piece .shape ≡ Shape.Shown o → o .count ≤ 0 → Seeking fold quoted s first behind (piece .after) p
+      pub seek-nothing : (o : Octets) → piece .shape ≡ Shape.Shown o → o .count ≤ 0 → Seeking fold form s first behind (piece .after) p
       seek-nothing o q h = record {
-        left-there = nothing-on fold quoted s at (piece .after) p (restAt fold quoted s first behind) (inv .left-there) (piece .shape) marks-here o q h;
+        left-there = nothing-on fold form s at (piece .after) p (restAt fold form s first behind) (inv .left-there) (piece .shape) marks-here o q h;
         not-more = omega (arith, seek-further);
       }
 
       pub seek-shown : (o : Octets) (u : Bool) → piece .shape ≡ Shape.Shown o → 0 < o .count → u ≡ isSpace p
-          → reportFound fold quoted s (Found.At u o (piece .after)) ≡ restAt fold quoted s first behind
-      seek-shown o u q h k = shown-on fold quoted s at (piece .after) p (restAt fold quoted s first behind) (inv .left-there)
+          → reportFound fold form s (Found.At u o (piece .after)) ≡ restAt fold form s first behind
+      seek-shown o u q h k = shown-on fold form s at (piece .after) p (restAt fold form s first behind) (inv .left-there)
           (piece .shape) marks-here o q h u k

@@ -11,7 +11,7 @@ use lib.ListN.{length, length-append, take, drop, set, length-set}
 use lib.Seq.{take-suc-set}
 use Rattle.octets.specs.Pick.{pick, both, no}
 use Rattle.octets.specs.Octets.{octet, every}
-use Rattle.octets.specs.Text.{within, isUpper, lower}
+use Rattle.octets.specs.Text.{within, isUpper, isHex, hexValue, lower}
 use Rattle.octets.specs.Quoted.{undoubled}
 use Rattle.octets.proofs.Laws.{rest-cons, rest-none, both-true}
 use Rattle.octets.proofs.TextLaws.{every-nil, every-cons}
@@ -19,7 +19,9 @@ use Rattle.octets.proofs.QuotedLaws.{noQuote, undoubled-plain}
 use Rattle.strings.specs.Images.{Mark, blank, shown, image}
 use Rattle.strings.specs.Prepared.{isPair, pairNumber, octetImage, images, afterSpace, spaced, joined, prepared}
 use Rattle.strings.specs.inner.Shapes.{unpacked, foldOctet, lowShape}
-use Rattle.strings.specs.inner.Comparing.{folded, left, imagesAt, restAt, gap, reportFound, Further, isLoose, isPlain}
+use Rattle.strings.specs.inner.Comparing.{octetsOf, folded, left, imagesAt, restAt, gap, reportFound, Further, isLoose, isPlain}
+use Rattle.strings.specs.inner.Escaped.{unescaped}
+use Rattle.strings.specs.declared.Form.{Form}
 use Rattle.strings.specs.declared.Before.{Before}
 use Rattle.strings.specs.declared.Found.{Found}
 use Rattle.strings.specs.declared.Octets.{Octets}
@@ -308,9 +310,35 @@ undoubled-length (b ∷ c ∷ s) = go (both (eqb b 34) (eqb c 34)) (undoubled-le
     go true x y = omega arith
     go false x y = omega arith
 
-prepared-length : (fold : Bool) (p : List ℕ) → length p ≤ 2048 → length (prepared fold (undoubled p)) ≤ 5120
+unescaped-length : (s : List ℕ) → length (unescaped s) ≤ length s
+unfolding unescaped
+unescaped-length [] = omega arith
+unescaped-length (b ∷ []) = omega arith
+unescaped-length (b ∷ c ∷ []) = go (no (eqb b 92))
+  where
+    go : (u : Bool) → length (pick u (b ∷ c ∷ []) (c ∷ [])) ≤ 2
+    go true = omega arith
+    go false = omega arith
+unescaped-length (b ∷ c ∷ d ∷ s) =
+    go (no (eqb b 92)) (both (eqb c 34) (eqb d 34)) (both (isHex c) (isHex d)) (unescaped-length (c ∷ d ∷ s)) (unescaped-length (d ∷ s)) (unescaped-length s)
+  where
+    go : (u v w : Bool) → length (unescaped (c ∷ d ∷ s)) ≤ length (c ∷ d ∷ s) → length (unescaped (d ∷ s)) ≤ length (d ∷ s) → length (unescaped s) ≤ length s
+        → length (pick u (b ∷ unescaped (c ∷ d ∷ s)) (pick v (34 ∷ unescaped s)
+        (pick w ((hexValue c * 16 + hexValue d) ∷ unescaped s) (c ∷ unescaped (d ∷ s))))) ≤ length (b ∷ c ∷ d ∷ s)
+    go true v w x y z = omega arith
+    go false true w x y z = omega arith
+    go false false true x y z = omega arith
+    go false false false x y z = omega arith
+
+-- a string as prepared is at most two and a half times as long
+prepared-length : (fold : Bool) (form : Form) (p : List ℕ) → 2 * length (prepared fold (octetsOf form p)) ≤ 5 * length p
 unfolding prepared
-prepared-length fold p h = omega (arith, undoubled-length p, images-length fold (undoubled p), joined-length Before.Nothing (images fold (undoubled p)))
+prepared-length fold form p = omega (arith, short form, images-length fold (octetsOf form p), joined-length Before.Nothing (images fold (octetsOf form p)))
+  where
+    short : (f : Form) → length (octetsOf f p) ≤ length p
+    short Form.Stored = omega arith
+    short Form.Quoted = undoubled-length p
+    short Form.Escaped = unescaped-length p
 
 -- ---- put_space, put_octets
 pub space-none : (m : List ℕ) (n : ℕ) (u : Bool) → not u ≡ true → take n m ≡ take n m ++ gap u []
@@ -366,61 +394,75 @@ module _ (word count n : ℕ) (m₀ : List ℕ) (w k at : ℕ) (m : List ℕ) (v
           (ap (λ (l : List ℕ). take at m ++ l) (sym (unpacked-more w k h)) ∙ v .start);
     }
 
--- ---- prepare: n octets of the prepared string stand in the memory m, the rest is to come from a place on
-pub record Preparing (fold : Bool) (p : List ℕ) (at : ℕ) (b : Before) (n : ℕ) (m : List ℕ) : Type 0 where
+-- ---- prepare_behind: behind what stood in the memory m₀ up to `from`, octets of the prepared string stand up to n, the rest is to come from a place on
+pub record Preparing (fold : Bool) (form : Form) (p : List ℕ) (from : ℕ) (m₀ : List ℕ) (at : ℕ) (b : Before) (n : ℕ) (m : List ℕ) : Type 0 where
   pub long : length m ≡ 5120
-  pub count : n + length (restAt fold true p at b) ≤ 5120
-  pub start : take n m ++ restAt fold true p at b ≡ prepared fold (undoubled p)
+  pub count : n + length (restAt fold form p at b) ≡ from + length (prepared fold (octetsOf form p))
+  pub start : take n m ++ restAt fold form p at b ≡ take from m₀ ++ prepared fold (octetsOf form p)
 
-begins : (fold : Bool) (p : List ℕ) → restAt fold true p 0 Before.Nothing ≡ prepared fold (undoubled p)
+begins : (fold : Bool) (form : Form) (p : List ℕ) → restAt fold form p 0 Before.Nothing ≡ prepared fold (octetsOf form p)
 unfolding restAt imagesAt prepared
-begins fold p = refl
+begins fold form p = refl
 
-pub prepare-start : (fold : Bool) (p m : List ℕ) → length m ≡ 5120 → length p ≤ 2048 → Preparing fold p 0 Before.Nothing 0 m
-prepare-start fold p m e h = record { long = e; count = omega (arith, prepared-length fold p h, ap length (begins fold p)); start = begins fold p }
-
-pub prepare-long : (fold : Bool) (p : List ℕ) (at : ℕ) (b : Before) (n : ℕ) (m : List ℕ) → Preparing fold p at b n m → length m ≡ 5120
-prepare-long fold p at b n m v = v .long
+pub prepare-start : (fold : Bool) (form : Form) (p : List ℕ) (from : ℕ) (m : List ℕ) → length m ≡ 5120 → Preparing fold form p from m 0 Before.Nothing from m
+prepare-start fold form p from m e = record {
+  long = e;
+  count = ap (λ (l : List ℕ). from + length l) (begins fold form p);
+  start = ap (λ (l : List ℕ). take from m ++ l) (begins fold form p);
+}
 
 gap-append : (u : Bool) (l : List ℕ) → gap u [] ++ l ≡ gap u l
 gap-append true l = refl
 gap-append false l = refl
 
-module _ (fold : Bool) (p : List ℕ) (at : ℕ) (b : Before) (n : ℕ) (m : List ℕ) (v : Preparing fold p at b n m) (r : Found)
-    (told : reportFound fold true p r ≡ restAt fold true p at b) where
-  pub prepare-end : r ≡ Found.End → take n m ≡ prepared fold (undoubled p)
-  prepare-end e = sym (append-nil (take n m)) ∙ ap (λ (l : List ℕ). take n m ++ l) (sym (ap (reportFound fold true p) e) ∙ told) ∙ v .start
+module _ (fold : Bool) (form : Form) (p : List ℕ) (from : ℕ) (m₀ : List ℕ) (at : ℕ) (b : Before) (n : ℕ) (m : List ℕ)
+    (v : Preparing fold form p from m₀ at b n m) where
+  pub prepare-long : length m ≡ 5120
+  prepare-long = v .long
 
-  module _ (u : Bool) (o : Octets) (after : ℕ) (e : r ≡ Found.At u o after) where
-    next-is : restAt fold true p at b ≡ gap u [] ++ (unpacked (o .word) (o .count) ++ restAt fold true p after Before.Character)
-    next-is = sym told ∙ ap (reportFound fold true p) e ∙ sym (gap-append u (unpacked (o .word) (o .count) ++ restAt fold true p after Before.Character))
+  module _ (r : Found) (told : reportFound fold form p r ≡ restAt fold form p at b) where
+    none-left : r ≡ Found.End → restAt fold form p at b ≡ []
+    none-left e = sym told ∙ ap (reportFound fold form p) e
 
-    long-is : length (restAt fold true p at b) ≡ length (gap u []) + (o .count + length (restAt fold true p after Before.Character))
-    long-is =
-        ap length next-is ∙ length-append (gap u []) (unpacked (o .word) (o .count) ++ restAt fold true p after Before.Character)
-        ∙ ap (λ (y : ℕ). length (gap u []) + y) (length-append (unpacked (o .word) (o .count)) (restAt fold true p after Before.Character)
-        ∙ ap (λ (y : ℕ). y + length (restAt fold true p after Before.Character)) (unpacked-length (o .word) (o .count)))
+    pub prepare-end : r ≡ Found.End → take n m ≡ take from m₀ ++ prepared fold (octetsOf form p)
+    prepare-end e = sym (append-nil (take n m)) ∙ ap (λ (l : List ℕ). take n m ++ l) (sym (none-left e)) ∙ v .start
 
-    pub prepare-space : n + length (gap u []) ≤ 5120
-    prepare-space = omega (arith, long-is, v .count)
+    pub prepare-place : r ≡ Found.End → n ≡ from + length (prepared fold (octetsOf form p))
+    prepare-place e = omega (arith, v .count, ap length (none-left e))
 
-    module _ (start : ℕ) (place : start ≡ n + length (gap u [])) where
-      pub prepare-octets : start + o .count ≤ 5120
-      prepare-octets = omega (arith, long-is, v .count)
+    pub prepare-most : r ≡ Found.End → 2 * n ≤ 2 * from + 5 * length p
+    prepare-most e = omega (arith, prepare-place e, prepared-length fold form p)
 
-      pub prepare-more : (m₁ m₂ : List ℕ) (end : ℕ) → take start m₁ ≡ take n m ++ gap u [] → take end m₂ ≡ take start m₁ ++ unpacked (o .word) (o .count)
-          → end ≡ start + o .count
-          → length m₂ ≡ 5120 → Preparing fold p after Before.Character end m₂
-      prepare-more m₁ m₂ end f g q l = record {
+    module _ (u : Bool) (o : Octets) (after : ℕ) (e : r ≡ Found.At u o after) where
+      next-is : restAt fold form p at b ≡ gap u [] ++ (unpacked (o .word) (o .count) ++ restAt fold form p after Before.Character)
+      next-is = sym told ∙ ap (reportFound fold form p) e ∙ sym (gap-append u (unpacked (o .word) (o .count) ++ restAt fold form p after Before.Character))
+
+      long-is : length (restAt fold form p at b) ≡ length (gap u []) + (o .count + length (restAt fold form p after Before.Character))
+      long-is =
+          ap length next-is ∙ length-append (gap u []) (unpacked (o .word) (o .count) ++ restAt fold form p after Before.Character)
+          ∙ ap (λ (y : ℕ). length (gap u []) + y) (length-append (unpacked (o .word) (o .count)) (restAt fold form p after Before.Character)
+          ∙ ap (λ (y : ℕ). y + length (restAt fold form p after Before.Character)) (unpacked-length (o .word) (o .count)))
+
+      module _ (short : 2 * from + 5 * length p ≤ 10240) where
+        pub prepare-space : n + length (gap u []) ≤ 5120
+        prepare-space = omega (arith, long-is, v .count, prepared-length fold form p)
+
+        pub prepare-octets : (start : ℕ) → start ≡ n + length (gap u []) → start + o .count ≤ 5120
+        prepare-octets start place = omega (arith, long-is, v .count, prepared-length fold form p)
+
+      pub prepare-more : (start : ℕ) (m₁ m₂ : List ℕ) (end : ℕ) → start ≡ n + length (gap u []) → take start m₁ ≡ take n m ++ gap u []
+          → take end m₂ ≡ take start m₁ ++ unpacked (o .word) (o .count) → end ≡ start + o .count → length m₂ ≡ 5120
+          → Preparing fold form p from m₀ after Before.Character end m₂
+      prepare-more start m₁ m₂ end place f g q l = record {
         long = l;
         count = omega (arith, long-is, v .count);
-        start = ap (λ (y : List ℕ). y ++ restAt fold true p after Before.Character) (g ∙ ap (λ (y : List ℕ). y ++ unpacked (o .word) (o .count)) f)
-            ∙ append-assoc (take n m ++ gap u []) (unpacked (o .word) (o .count)) (restAt fold true p after Before.Character)
-            ∙ append-assoc (take n m) (gap u []) (unpacked (o .word) (o .count) ++ restAt fold true p after Before.Character)
+        start = ap (λ (y : List ℕ). y ++ restAt fold form p after Before.Character) (g ∙ ap (λ (y : List ℕ). y ++ unpacked (o .word) (o .count)) f)
+            ∙ append-assoc (take n m ++ gap u []) (unpacked (o .word) (o .count)) (restAt fold form p after Before.Character)
+            ∙ append-assoc (take n m) (gap u []) (unpacked (o .word) (o .count) ++ restAt fold form p after Before.Character)
             ∙ ap (λ (y : List ℕ). take n m ++ y) (sym next-is) ∙ v .start;
       }
 
-pub prepare-falls : (p : List ℕ) (at : ℕ) (r : Found) (u : Bool) (o : Octets) (after : ℕ) → r ≡ Found.At u o after → Further true p at r
-    → left true p after < left true p at
-prepare-falls p at Found.End u o after e f = absurd (let z : _≡_ {A = ℕ} 0 1 = cc in omega arith)
-prepare-falls p at (Found.At v q k) u o after e f = let z : k ≡ after = cc in omega (arith, f, ap (left true p) z)
+pub prepare-falls : (form : Form) (p : List ℕ) (at : ℕ) (r : Found) (u : Bool) (o : Octets) (after : ℕ) → r ≡ Found.At u o after → Further form p at r
+    → left form p after < left form p at
+prepare-falls form p at Found.End u o after e f = absurd (let z : _≡_ {A = ℕ} 0 1 = cc in omega arith)
+prepare-falls form p at (Found.At v q k) u o after e f = let z : k ≡ after = cc in omega (arith, f, ap (left form p) z)

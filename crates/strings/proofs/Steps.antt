@@ -1,23 +1,25 @@
 -- Quoted strings and characters: one lemma for each return; its premises are the facts as the code has them.
 use mathlib.Core.Path.{_≡_, refl, sym, ap, ap₂, _∙_}
-use mathlib.Core.Bool.{Bool, true, false, not}
+use mathlib.Core.Bool.{Bool, true, false, not, false≢true}
 use mathlib.Core.Option.{none, some}
 use mathlib.Core.List.{List, [], _∷_}
-use Prim.Native.Nat.{ℕ, _≤_, _<_, _+_, _-_}
+use Prim.Native.Nat.{ℕ, _≤_, _<_, _+_, _-_, _*_, _%_}
 use native.Mathlib.Omega.{arith}
-use borrow.Author.Tests.{eq-eqb, ne-eqb, not-true, not-false}
-use lib.Dec.{eqb}
+use borrow.Author.Tests.{eq-eqb, ne-eqb, eqb-true, eqb-false, leb-true, lt-ltb, le-ltb, not-true, not-false}
+use lib.Dec.{ltb, leb, eqb}
 use lib.ListN.{length, length-take, drop}
-use Rattle.octets.specs.Pick.{pick, both}
+use Rattle.octets.specs.Pick.{pick, both, either, isSome}
 use Rattle.octets.specs.Octets.{octet, part}
-use Rattle.octets.specs.Text.{lower}
+use Rattle.octets.specs.Text.{within, isDigit, isHex, hexValue, lower}
 use Rattle.octets.specs.Quoted.{closingAt, undoubled, unquoted}
 use Rattle.octets.specs.inner.Answers as answers
 use Rattle.octets.specs.declared.Place.{Place}
-use Rattle.octets.proofs.Laws.{rest-cons, rest-none, rest-length}
+use Rattle.octets.proofs.Laws.{both-true, rest-cons, rest-none, rest-length}
 use Rattle.octets.proofs.QuotedLaws.{undoubled-nil, undoubled-one, undoubled-two, undoubled-other, unquoted-none, unquoted-longer, unquoted-whole}
 use Rattle.strings.specs.Asserted.{textOr, assertedText}
 use Rattle.strings.specs.inner.Comparing.{octetsOf, reportOctet, foldOctet}
+use Rattle.strings.specs.inner.Escaped.{unescapedAt, unescaped}
+use Rattle.strings.specs.declared.Form.{Form}
 use Rattle.strings.specs.declared.Letter.{Letter}
 
 -- ---- what stands between the quotes
@@ -54,50 +56,169 @@ module _ (t p : List ℕ) (r : Place) (told : answers.reportPlace r ≡ closingA
         pub part-is : p ≡ part t 1 (close - 1) → undoubled p ≡ assertedText t
         part-is e = ap undoubled e ∙ whole
 
+-- whether there are any
+module _ (t : List ℕ) (r : Place) (told : answers.reportPlace r ≡ closingAt t 0) where
+  pub is-unclosed : r ≡ Place.Nowhere → false ≡ isSome (unquoted t)
+  is-unclosed h = rw (unquoted-none t (sym told ∙ ap answers.reportPlace h))
+
+  module _ (close : ℕ) (h : r ≡ Place.At close) where
+    is-closed : closingAt t 0 ≡ some close
+    is-closed = sym told ∙ ap answers.reportPlace h
+
+    pub is-past : length t ≤ close → false ≡ isSome (unquoted t)
+    is-past l = rw (unquoted-longer t close is-closed (λ q. omega arith))
+
+    pub is-whole : close < length t → eqb (length t - close) 1 ≡ isSome (unquoted t)
+    is-whole l = go (eqb (length t - close) 1) refl
+      where
+        go : (u : Bool) → eqb (length t - close) 1 ≡ u → u ≡ isSome (unquoted t)
+        go true e = let q : close + 1 ≡ length t = omega (arith, eqb-true (length t - close) 1 e) in rw (unquoted-whole t close is-closed q)
+        go false e = rw (unquoted-longer t close is-closed (λ q. eqb-false (length t - close) 1 e (omega arith)))
+
 pub part-short : (t p : List ℕ) (at n : ℕ) → p ≡ part t at n → length p ≤ length t
 part-short t p at n e = omega (arith, ap length e, length-take n (drop at t), rest-length t at)
 
--- ---- characters
-module _ (s : List ℕ) (quoted : Bool) (at : ℕ) where
-  pub character-end : length s ≤ at → reportOctet quoted s Letter.End ≡ octetsOf quoted (drop at s)
-  character-end h = sym (ap (octetsOf quoted) (rest-none s at h) ∙ go quoted)
+-- ---- octets of a quoted string
+module _ (s : List ℕ) (at : ℕ) (h : at < length s) where
+  pub quoted-other : (octet s at ≡ 34 → ⊥) → octet s at ∷ undoubled (drop (at + 1) s) ≡ undoubled (drop at s)
+  quoted-other n = sym (undoubled-other (octet s at) (drop (at + 1) s) n) ∙ ap undoubled (sym (rest-cons s at h))
+
+  module _ (quote : octet s at ≡ 34) where
+    pub quoted-last : length s - at < 2 → 34 ∷ undoubled (drop (at + 1) s) ≡ undoubled (drop at s)
+    quoted-last l =
+        let g : length s ≤ at + 1 = omega arith in
+        rw (rest-none s (at + 1) g) (ap (λ (x : List ℕ). 34 ∷ x) undoubled-nil ∙ sym (undoubled-one 34)
+        ∙ sym (ap undoubled (rest-cons s at h ∙ ap₂ (λ (b : ℕ) (x : List ℕ). b ∷ x) quote (rest-none s (at + 1) g))))
+
+    module _ (l : 2 ≤ length s - at) where
+      second : drop (at + 1) s ≡ octet s (at + 1) ∷ drop (at + 2) s
+      second =
+          let z : at + 1 < length s = omega arith in
+          let e : at + 1 + 1 ≡ at + 2 = omega arith in
+          rest-cons s (at + 1) z ∙ ap (λ (n : ℕ). octet s (at + 1) ∷ drop n s) e
+
+      two : undoubled (drop at s) ≡ pick (both (eqb 34 34) (eqb (octet s (at + 1)) 34)) (34 ∷ undoubled (drop (at + 2) s))
+          (34 ∷ undoubled (octet s (at + 1) ∷ drop (at + 2) s))
+      two = ap undoubled (rest-cons s at h ∙ ap₂ (λ (b : ℕ) (x : List ℕ). b ∷ x) quote second) ∙ undoubled-two 34 (octet s (at + 1)) (drop (at + 2) s)
+
+      pub quoted-single : (octet s (at + 1) ≡ 34 → ⊥) → 34 ∷ undoubled (drop (at + 1) s) ≡ undoubled (drop at s)
+      quoted-single n = sym (two ∙ rw (ne-eqb (octet s (at + 1)) 34 n) (ap (λ (x : List ℕ). 34 ∷ undoubled x) (sym second)))
+
+      pub quoted-double : octet s (at + 1) ≡ 34 → 34 ∷ undoubled (drop (at + 2) s) ≡ undoubled (drop at s)
+      quoted-double e = sym (two ∙ rw (eq-eqb (octet s (at + 1)) 34 e))
+
+-- the value of a hexadecimal digit
+hex-small : (c : ℕ) → isHex c ≡ true → hexValue c ≤ 15
+unfolding isHex isDigit hexValue
+hex-small c h = go (within 48 57 c) refl (within 65 70 c) refl (within 97 102 c) refl h
+  where
+    bounds : (a b : ℕ) → within a b c ≡ true → (a ≤ c) × (c ≤ b)
+    bounds a b q = let w = both-true (leb a c) (leb c b) q in (leb-true a c (w .0), leb-true c b (w .1))
+
+    go : (x : Bool) → within 48 57 c ≡ x → (y : Bool) → within 65 70 c ≡ y → (z : Bool) → within 97 102 c ≡ z → either x (either y z) ≡ true
+        → pick (ltb c 65) (c - 48) (pick (ltb c 97) (c - 55) (c - 87)) ≤ 15
+    go true p y q z r k = let w = bounds 48 57 p in rw (lt-ltb c 65 (omega (arith, w .1))) (omega (arith, w .1))
+    go false p true q z r k = let w = bounds 65 70 q in rw (le-ltb c 65 (w .0), lt-ltb c 97 (omega (arith, w .1))) (omega (arith, w .1))
+    go false p false q true r k = let w = bounds 97 102 r in rw (le-ltb c 65 (omega (arith, w .0)), le-ltb c 97 (w .0)) (omega (arith, w .1))
+    go false p false q false r k = absurd (false≢true k)
+
+-- ---- octets of an escaped string
+unescaped-nil : unescaped [] ≡ []
+unfolding unescaped
+unescaped-nil = refl
+
+quote-no-hex : isHex 34 ≡ false
+unfolding isHex isDigit
+quote-no-hex = refl
+
+-- one that is no backslash, and a backslash last or before one octet
+plain-octet : (b : ℕ) (l : List ℕ) → (b ≡ 92 → ⊥) → unescaped (b ∷ l) ≡ b ∷ unescaped l
+unfolding unescaped
+plain-octet b [] n = refl
+plain-octet b (c ∷ []) n = rw (ne-eqb b 92 n)
+plain-octet b (c ∷ d ∷ l) n = rw (ne-eqb b 92 n)
+
+module _ (s : List ℕ) (at : ℕ) (h : at < length s) where
+  pub escaped-other : (octet s at ≡ 92 → ⊥) → octet s at ∷ unescaped (drop (at + 1) s) ≡ unescaped (drop at s)
+  escaped-other n = sym (plain-octet (octet s at) (drop (at + 1) s) n) ∙ ap unescaped (sym (rest-cons s at h))
+
+  module _ (backslash : octet s at ≡ 92) where
+    pub escaped-last : length s - at ≡ 1 → 92 ∷ unescaped (drop (at + 1) s) ≡ unescaped (drop at s)
+    unfolding unescaped
+    escaped-last e =
+        let none = rest-none s (at + 1) (omega arith) in
+        ap (λ (l : List ℕ). 92 ∷ unescaped l) none ∙ sym (ap unescaped (rest-cons s at h ∙ ap₂ (λ (b : ℕ) (l : List ℕ). b ∷ l) backslash none))
+
+    next : 2 ≤ length s - at → drop (at + 1) s ≡ octet s (at + 1) ∷ drop (at + 2) s
+    next more = let e : at + 1 + 1 ≡ at + 2 = omega arith in rest-cons s (at + 1) (omega arith) ∙ ap (λ (n : ℕ). octet s (at + 1) ∷ drop n s) e
+
+    pub escaped-one : length s - at ≡ 2 → octet s (at + 1) ∷ unescaped (drop (at + 2) s) ≡ unescaped (drop at s)
+    unfolding unescaped
+    escaped-one e =
+        let none = rest-none s (at + 2) (omega arith) in
+        ap (λ (l : List ℕ). octet s (at + 1) ∷ unescaped l) none
+        ∙ sym (ap unescaped (rest-cons s at h ∙ ap₂ (λ (b : ℕ) (l : List ℕ). b ∷ l) backslash
+        (next (omega arith) ∙ ap (λ (l : List ℕ). octet s (at + 1) ∷ l) none)))
+
+-- a backslash before two octets or more
+module _ (s : List ℕ) (at : ℕ) (here : at + 2 < length s) (backslash : octet s at ≡ 92) where
+  three : unescaped (drop at s) ≡ unescapedAt 92 (octet s (at + 1)) (octet s (at + 2)) (unescaped (drop (at + 1) s)) (unescaped (drop (at + 2) s))
+      (unescaped (drop (at + 3) s))
+  unfolding unescaped
+  three =
+      let e : at + 2 + 1 ≡ at + 3 = omega arith in
+      let third = rest-cons s (at + 2) here ∙ ap (λ (n : ℕ). octet s (at + 2) ∷ drop n s) e in
+      let second = next s at (omega arith) backslash (omega arith) ∙ ap (λ (l : List ℕ). octet s (at + 1) ∷ l) third in
+      ap unescaped (rest-cons s at (omega arith) ∙ ap₂ (λ (b : ℕ) (l : List ℕ). b ∷ l) backslash second)
+      ∙ sym (ap₂ (λ (x y : List ℕ). unescapedAt 92 (octet s (at + 1)) (octet s (at + 2)) (unescaped x) (unescaped y) (unescaped (drop (at + 3) s))) second third)
+
+  abbrev c : ℕ
+  c = octet s (at + 1)
+
+  abbrev d : ℕ
+  d = octet s (at + 2)
+
+  pub pair-quotes : octet s (at + 1) ≡ 34 → octet s (at + 2) ≡ 34 → 34 ∷ unescaped (drop (at + 3) s) ≡ unescaped (drop at s)
+  pair-quotes e f = rw (eq-eqb c 34 e, eq-eqb d 34 f) at (sym three)
+
+  pub pair-quote : octet s (at + 1) ≡ 34 → (octet s (at + 2) ≡ 34 → ⊥) → 34 ∷ unescaped (drop (at + 2) s) ≡ unescaped (drop at s)
+  pair-quote e f = rw (e, ne-eqb d 34 f, quote-no-hex) at (sym three)
+
+  module _ (u : Bool) (told : u ≡ both (isHex (octet s (at + 1))) (isHex (octet s (at + 2)))) (e : octet s (at + 1) ≡ 34 → ⊥) where
+    pub pair-hex : (r : ℕ) → u ≡ true → r ≡ hexValue (octet s (at + 1)) % 16 * 16 + hexValue (octet s (at + 2)) % 16
+        → r ∷ unescaped (drop (at + 3) s) ≡ unescaped (drop at s)
+    pair-hex r n q =
+        let w = both-true (isHex c) (isHex d) (sym told ∙ n) in
+        let is : r ≡ hexValue c * 16 + hexValue d = omega (arith, hex-small c (w .0), hex-small d (w .1)) in
+        ap (λ (x : ℕ). x ∷ unescaped (drop (at + 3) s)) is ∙ (rw (ne-eqb c 34 e, sym told ∙ n) at (sym three))
+
+    pub pair-other : u ≡ false → octet s (at + 1) ∷ unescaped (drop (at + 2) s) ≡ unescaped (drop at s)
+    pair-other n = rw (ne-eqb c 34 e, sym told ∙ n) at (sym three)
+
+pub hex-not : (a b u : Bool) → u ≡ a → not u ≡ true → false ≡ both a b
+hex-not a b u e n = rw (sym e ∙ not-true u n)
+
+pub hex-both : (a b u v : Bool) → u ≡ a → not u ≡ false → v ≡ b → v ≡ both a b
+hex-both a b u v e n f = rw (sym e ∙ not-false u n) f
+
+-- ---- octets of a string of a form
+module _ (s : List ℕ) (form : Form) (at : ℕ) where
+  pub octet-end : length s ≤ at → reportOctet form s Letter.End ≡ octetsOf form (drop at s)
+  octet-end h = sym (ap (octetsOf form) (rest-none s at h) ∙ go form)
     where
-      go : (q : Bool) → octetsOf q [] ≡ []
-      go true = undoubled-nil
-      go false = refl
+      go : (f : Form) → octetsOf f [] ≡ []
+      go Form.Stored = refl
+      go Form.Quoted = undoubled-nil
+      go Form.Escaped = unescaped-nil
 
-  module _ (h : at < length s) where
-    pub character-stored : not quoted ≡ true → reportOctet quoted s (Letter.Got (octet s at) (at + 1)) ≡ octetsOf quoted (drop at s)
-    character-stored q = rw (not-true quoted q) (sym (rest-cons s at h))
+  pub octet-stored : at < length s → form ≡ Form.Stored → reportOctet form s (Letter.Got (octet s at) (at + 1)) ≡ octetsOf form (drop at s)
+  octet-stored h e = rw e (sym (rest-cons s at h))
 
-    module _ (q : not quoted ≡ false) where
-      pub character-other : (octet s at ≡ 34 → ⊥) → reportOctet quoted s (Letter.Got (octet s at) (at + 1)) ≡ octetsOf quoted (drop at s)
-      character-other n = rw (not-false quoted q) (sym (undoubled-other (octet s at) (drop (at + 1) s) n) ∙ ap undoubled (sym (rest-cons s at h)))
+  pub octet-quoted : (r : Letter) → form ≡ Form.Quoted → reportOctet Form.Quoted s r ≡ undoubled (drop at s) → reportOctet form s r ≡ octetsOf form (drop at s)
+  octet-quoted r e q = rw e q
 
-      module _ (quote : octet s at ≡ 34) where
-        pub character-last : length s - at < 2 → reportOctet quoted s (Letter.Got 34 (at + 1)) ≡ octetsOf quoted (drop at s)
-        character-last l =
-            let g : length s ≤ at + 1 = omega arith in
-            rw (not-false quoted q)
-            (rw (rest-none s (at + 1) g) (ap (λ (x : List ℕ). 34 ∷ x) undoubled-nil ∙ sym (undoubled-one 34)
-            ∙ sym (ap undoubled (rest-cons s at h ∙ ap₂ (λ (b : ℕ) (x : List ℕ). b ∷ x) quote (rest-none s (at + 1) g)))))
-
-        module _ (l : 2 ≤ length s - at) where
-          second : drop (at + 1) s ≡ octet s (at + 1) ∷ drop (at + 2) s
-          second =
-              let z : at + 1 < length s = omega arith in
-              let e : at + 1 + 1 ≡ at + 2 = omega arith in
-              rest-cons s (at + 1) z ∙ ap (λ (n : ℕ). octet s (at + 1) ∷ drop n s) e
-
-          two : undoubled (drop at s) ≡ pick (both (eqb 34 34) (eqb (octet s (at + 1)) 34)) (34 ∷ undoubled (drop (at + 2) s))
-              (34 ∷ undoubled (octet s (at + 1) ∷ drop (at + 2) s))
-          two = ap undoubled (rest-cons s at h ∙ ap₂ (λ (b : ℕ) (x : List ℕ). b ∷ x) quote second) ∙ undoubled-two 34 (octet s (at + 1)) (drop (at + 2) s)
-
-          pub character-single : (octet s (at + 1) ≡ 34 → ⊥) → reportOctet quoted s (Letter.Got 34 (at + 1)) ≡ octetsOf quoted (drop at s)
-          character-single n = rw (not-false quoted q) (sym (two ∙ rw (ne-eqb (octet s (at + 1)) 34 n) (ap (λ (x : List ℕ). 34 ∷ undoubled x) (sym second))))
-
-          pub character-double : octet s (at + 1) ≡ 34 → reportOctet quoted s (Letter.Got 34 (at + 2)) ≡ octetsOf quoted (drop at s)
-          character-double e = rw (not-false quoted q) (sym (two ∙ rw (eq-eqb (octet s (at + 1)) 34 e)))
+  pub octet-escaped : (r : Letter) → form ≡ Form.Escaped → reportOctet Form.Escaped s r ≡ unescaped (drop at s) → reportOctet form s r ≡ octetsOf form (drop at s)
+  octet-escaped r e q = rw e q
 
 -- ---- folding
 pub fold-lower : (fold : Bool) (b r : ℕ) → fold ≡ true → r ≡ lower b → r ≡ foldOctet fold b

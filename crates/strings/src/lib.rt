@@ -2,15 +2,26 @@
 use octets::Place;
 ghost use mathlib.Core.Path.{_≡_};
 ghost use mathlib.Core.Bool.{true, false};
-ghost use Prim.Native.Nat.{_≤_, _<_, _+_};
+ghost use Prim.Native.Nat.{_≤_, _<_, _+_, _*_, _%_};
 ghost use mathlib.Core.List.{[], _∷_, _++_};
 ghost use lib.ListN.{length, drop};
-ghost use Rattle.octets.specs.Octets.{same, part};
-ghost use Rattle.octets.specs.Quoted.{undoubled};
+ghost use Rattle.octets.specs.Pick.{both, isSome};
+ghost use Rattle.octets.specs.Octets.{octet, same, part};
+ghost use Rattle.octets.specs.Text.{isHex, hexValue};
+ghost use Rattle.octets.specs.Quoted.{undoubled, unquoted};
 ghost use Rattle.strings.specs.Asserted as asserted;
 ghost use Rattle.strings.specs.Prepared.{isPair, images, afterSpace, prepared};
 ghost use Rattle.strings.specs.inner.Shapes as shapes;
 ghost use Rattle.strings.specs.inner.Comparing as inner;
+ghost use Rattle.strings.specs.inner.Escaped.{unescaped};
+ghost use Rattle.strings.specs.declared.Form.{Form};
+
+// How a string stands: stored; between quotes, two quotes for one; or there with escapes too (RFC 4514).
+pub enum Form {
+    Stored,
+    Quoted,
+    Escaped,
+}
 
 // What stands before a place: no character yet, a character, or a space after one.
 pub enum Before {
@@ -84,6 +95,19 @@ pub fn quoted_part(t: &[u8]) -> &[u8]
     octets::part(t, 1, close - 1)
 }
 
+// Whether a text is one quoted string.
+pub fn is_quoted(t: &[u8]) -> bool
+    ensures { λ r. ⌜ r ≡ isSome (unquoted (now (t .entry))) ⌝ }
+{
+    let Place::At(close) = octets::closing_at(t, 0) else {
+        return false;
+    };
+    if t.len() <= close {
+        return false;
+    }
+    t.len() - close == 1
+}
+
 // Whether a value text conforms: one quoted string of at least one character.
 pub fn is_text(t: &[u8]) -> bool
     ensures { λ r. ⌜ r ≡ asserted.isText (now (t .entry)) ⌝ }
@@ -93,16 +117,11 @@ pub fn is_text(t: &[u8]) -> bool
 }
 
 // ---- octets of a string
-// The octet at a place; in a quoted string two quotes are one.
-fn read_octet(s: &[u8], quoted: bool, at: usize) -> Letter
-    ensures { λ r. ⌜ inner.reportOctet quoted (now (s .entry)) r ≡ inner.octetsOf quoted (drop at (now (s .entry))) ⌝ }
+// The octet at a place of a quoted string, where two quotes are one.
+fn quoted_octet(s: &[u8], at: usize) -> Letter
+    requires { ⌜ at < length (now s) ⌝ }
+    ensures { λ r. ⌜ inner.reportOctet Form.Quoted (now (s .entry)) r ≡ undoubled (drop at (now (s .entry))) ⌝ }
 {
-    if s.len() <= at {
-        return Letter::End;
-    }
-    if !quoted {
-        return Letter::Got(s[at], at + 1);
-    }
     if s[at] != 34 {
         return Letter::Got(s[at], at + 1);
     }
@@ -113,6 +132,72 @@ fn read_octet(s: &[u8], quoted: bool, at: usize) -> Letter
         return Letter::Got(34, at + 1);
     }
     Letter::Got(34, at + 2)
+}
+
+fn is_hex_pair(c: u8, d: u8) -> bool
+    ensures { λ r. ⌜ r ≡ both (isHex c) (isHex d) ⌝ }
+{
+    if !octets::is_hex(c) {
+        return false;
+    }
+    octets::is_hex(d)
+}
+
+// The octet that a pair of hexadecimal digits stands for.
+fn hex_octet(c: u8, d: u8) -> u8
+    ensures { λ r. ⌜ r ≡ hexValue c % 16 * 16 + hexValue d % 16 ⌝ }
+{
+    octets::hex_value(c) % 16 * 16 + octets::hex_value(d) % 16
+}
+
+// The octet behind a backslash at a place of an escaped string: what three octets, the backslash among them, stand for.
+fn pair_octet(s: &[u8], at: usize) -> Letter
+    requires here { ⌜ at + 2 < length (now s) ⌝ }
+    requires backslash { ⌜ octet (now s) at ≡ 92 ⌝ }
+    ensures { λ r. ⌜ inner.reportOctet Form.Escaped (now (s .entry)) r ≡ unescaped (drop at (now (s .entry))) ⌝ }
+{
+    let c = s[at + 1];
+    let d = s[at + 2];
+    if c == 34 {
+        if d == 34 {
+            return Letter::Got(34, at + 3);
+        }
+        return Letter::Got(34, at + 2);
+    }
+    if is_hex_pair(c, d) {
+        return Letter::Got(hex_octet(c, d), at + 3);
+    }
+    Letter::Got(c, at + 2)
+}
+
+fn escaped_octet(s: &[u8], at: usize) -> Letter
+    requires { ⌜ at < length (now s) ⌝ }
+    ensures { λ r. ⌜ inner.reportOctet Form.Escaped (now (s .entry)) r ≡ unescaped (drop at (now (s .entry))) ⌝ }
+{
+    if s[at] != 92 {
+        return Letter::Got(s[at], at + 1);
+    }
+    if s.len() - at == 1 {
+        return Letter::Got(92, at + 1);
+    }
+    if s.len() - at == 2 {
+        return Letter::Got(s[at + 1], at + 2);
+    }
+    pair_octet(s, at)
+}
+
+// The octet at a place of a string of a form.
+fn read_octet(s: &[u8], form: Form, at: usize) -> Letter
+    ensures { λ r. ⌜ inner.reportOctet form (now (s .entry)) r ≡ inner.octetsOf form (drop at (now (s .entry))) ⌝ }
+{
+    if s.len() <= at {
+        return Letter::End;
+    }
+    match form {
+        Form::Stored => Letter::Got(s[at], at + 1),
+        Form::Quoted => quoted_octet(s, at),
+        Form::Escaped => escaped_octet(s, at),
+    }
 }
 
 // An octet as it is compared.
@@ -368,12 +453,12 @@ fn is_pair(a: u8, b: u8) -> bool
 
 // ---- the images of a string, one after another
 // An octet from 80 on and what stands after it.
-fn read_high(s: &[u8], quoted: bool, fold: bool, a: u8, after: usize) -> Piece
+fn read_high(s: &[u8], form: Form, fold: bool, a: u8, after: usize) -> Piece
     requires { ⌜ 128 ≤ a ⌝ }
-    ensures image { λ r. ⌜ inner.reportPiece fold quoted (now (s .entry)) r ≡ images fold (a ∷ inner.octetsOf quoted (drop after (now (s .entry)))) ⌝ }
-    ensures on { λ r. ⌜ inner.left quoted (now (s .entry)) (r .after) ≤ inner.left quoted (now (s .entry)) after ⌝ }
+    ensures image { λ r. ⌜ inner.reportPiece fold form (now (s .entry)) r ≡ images fold (a ∷ inner.octetsOf form (drop after (now (s .entry)))) ⌝ }
+    ensures on { λ r. ⌜ inner.left form (now (s .entry)) (r .after) ≤ inner.left form (now (s .entry)) after ⌝ }
 {
-    let Letter::Got(b, end) = read_octet(s, quoted, after) else {
+    let Letter::Got(b, end) = read_octet(s, form, after) else {
         return Piece {
             shape: single(a),
             after,
@@ -393,9 +478,9 @@ fn read_high(s: &[u8], quoted: bool, fold: bool, a: u8, after: usize) -> Piece
 }
 
 // An octet and what stands after it.
-fn read_piece(s: &[u8], quoted: bool, fold: bool, a: u8, after: usize) -> Piece
-    ensures image { λ r. ⌜ inner.reportPiece fold quoted (now (s .entry)) r ≡ images fold (a ∷ inner.octetsOf quoted (drop after (now (s .entry)))) ⌝ }
-    ensures on { λ r. ⌜ inner.left quoted (now (s .entry)) (r .after) ≤ inner.left quoted (now (s .entry)) after ⌝ }
+fn read_piece(s: &[u8], form: Form, fold: bool, a: u8, after: usize) -> Piece
+    ensures image { λ r. ⌜ inner.reportPiece fold form (now (s .entry)) r ≡ images fold (a ∷ inner.octetsOf form (drop after (now (s .entry)))) ⌝ }
+    ensures on { λ r. ⌜ inner.left form (now (s .entry)) (r .after) ≤ inner.left form (now (s .entry)) after ⌝ }
 {
     if a < 128 {
         return Piece {
@@ -403,7 +488,7 @@ fn read_piece(s: &[u8], quoted: bool, fold: bool, a: u8, after: usize) -> Piece
             after,
         };
     }
-    read_high(s, quoted, fold, a, after)
+    read_high(s, form, fold, a, after)
 }
 
 // ---- the prepared string
@@ -428,17 +513,17 @@ fn is_space(p: Before) -> bool
 }
 
 // The next image that has octets, from a place on.
-fn next_image(s: &[u8], quoted: bool, fold: bool, first: usize, behind: Before) -> Found
-    ensures rest { λ r. ⌜ inner.reportFound fold quoted (now (s .entry)) r ≡ inner.restAt fold quoted (now (s .entry)) first behind ⌝ }
-    ensures on { λ r. ⌜ inner.Further quoted (now (s .entry)) first r ⌝ }
+fn next_image(s: &[u8], form: Form, fold: bool, first: usize, behind: Before) -> Found
+    ensures rest { λ r. ⌜ inner.reportFound fold form (now (s .entry)) r ≡ inner.restAt fold form (now (s .entry)) first behind ⌝ }
+    ensures on { λ r. ⌜ inner.Further form (now (s .entry)) first r ⌝ }
 {
     let mut at = first;
     let mut before = behind;
     loop {
-        let Letter::Got(b, after) = read_octet(s, quoted, at) else {
+        let Letter::Got(b, after) = read_octet(s, form, at) else {
             return Found::End;
         };
-        let piece = read_piece(s, quoted, fold, b, after);
+        let piece = read_piece(s, form, fold, b, after);
         let shape = piece.shape;
         match shape {
             Shape::Blank => {
@@ -524,7 +609,7 @@ fn image_turn(c: &[u8], x: &[u8], fold: bool, s: Sides) -> Turn
     ensures same { λ r. ⌜ inner.reportTurn fold (now (c .entry)) (now (x .entry)) r ≡ inner.beside fold (now (c .entry)) (now (x .entry)) s ⌝ }
     ensures on { λ r. ⌜ inner.Less fold (now (c .entry)) s r ⌝ }
 {
-    let Found::At(space, o, after) = next_image(c, false, fold, s.at, before_at(s.at)) else {
+    let Found::At(space, o, after) = next_image(c, Form::Stored, fold, s.at, before_at(s.at)) else {
         return Turn::Ended(x.len() <= s.i);
     };
     if !space {
@@ -676,18 +761,26 @@ fn put_octets(o: Octets, n: usize, memory: &mut [u8; 5120]) -> usize
     at
 }
 
-// Writes what stands between quotes as prepared, and answers its length.
-pub fn prepare(p: &[u8], fold: bool, memory: &mut [u8; 5120]) -> usize
+// Writes a string as prepared behind what stands in memory up to a place, and answers the place after it.
+pub fn prepare_behind(
+    p: &[u8],
+    form: Form,
+    fold: bool,
+    from: usize,
+    memory: &mut [u8; 5120],
+) -> usize
     requires room { ⌜ length (now memory) ≡ 5120 ⌝ }
-    requires short { ⌜ length (now p) ≤ 2048 ⌝ }
-    ensures written { λ n. ⌜ part (now (memory .exit)) 0 n ≡ prepared fold (undoubled (now (p .entry))) ⌝ }
+    requires short { ⌜ 2 * from + 5 * length (now p) ≤ 10240 ⌝ }
+    ensures written { λ n. ⌜ part (now (memory .exit)) 0 n ≡ part (now (memory .entry)) 0 from ++ prepared fold (inner.octetsOf form (now (p .entry))) ⌝ }
+    ensures place { λ n. ⌜ n ≡ from + length (prepared fold (inner.octetsOf form (now (p .entry)))) ⌝ }
+    ensures most { λ n. ⌜ 2 * n ≤ 2 * from + 5 * length (now (p .entry)) ⌝ }
     ensures room { λ n. ⌜ length (now (memory .exit)) ≡ 5120 ⌝ }
 {
     let mut at = 0;
     let mut before = Before::Nothing;
-    let mut n = 0;
+    let mut n = from;
     loop {
-        let Found::At(space, o, after) = next_image(p, true, fold, at, before) else {
+        let Found::At(space, o, after) = next_image(p, form, fold, at, before) else {
             return n;
         };
         let start = put_space(space, n, memory);
@@ -695,4 +788,14 @@ pub fn prepare(p: &[u8], fold: bool, memory: &mut [u8; 5120]) -> usize
         at = after;
         before = Before::Character;
     }
+}
+
+// Writes what stands between quotes as prepared, and answers its length.
+pub fn prepare(p: &[u8], fold: bool, memory: &mut [u8; 5120]) -> usize
+    requires room { ⌜ length (now memory) ≡ 5120 ⌝ }
+    requires short { ⌜ length (now p) ≤ 2048 ⌝ }
+    ensures written { λ n. ⌜ part (now (memory .exit)) 0 n ≡ prepared fold (undoubled (now (p .entry))) ⌝ }
+    ensures room { λ n. ⌜ length (now (memory .exit)) ≡ 5120 ⌝ }
+{
+    prepare_behind(p, Form::Quoted, fold, 0, memory)
 }

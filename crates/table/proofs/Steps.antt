@@ -4,10 +4,11 @@ use mathlib.Core.Bool.{Bool, true, false}
 use mathlib.Core.List.{List}
 use Prim.Native.Nat.{ℕ, _≤_, _<_, _+_, _-_, _*_}
 use native.Mathlib.Omega.{arith}
-use borrow.Author.Tests.{eq-eqb, ne-eqb}
+use borrow.Author.Tests.{eq-eqb, ne-eqb, lt-leb}
 use lib.ListN.{length}
 use lib.Dec.{eqb}
 use Rattle.octets.specs.Pick.{pick}
+use Rattle.octets.specs.Text.{within}
 use Rattle.der.specs.Tag.{universal, ownOctet, implicitOctet, wrapperOctet}
 use Rattle.der.specs.Kind.{isConstructed}
 use Rattle.rows.specs.Row.{kindAt, namedAt, membersAt, modeAt, numberAt, presenceAt, defaultAt}
@@ -65,6 +66,10 @@ pub type-first : (k f : ℕ) → f ≡ firstOctet (taggingOf 0 0) k → f < 256
 type-first k f e = first-small 0 0 k f e (omega arith)
 
 -- ---- how a member is tagged
+pub basic-name : (k : ℕ) (r : Bool) → 11 < k → (k ≡ 17 → ⊥) → r ≡ within 19 20 k → r ≡ isBasic k
+unfolding isBasic
+basic-name k r h n e = rw (lt-leb k 11 h, ne-eqb k 17 n) e
+
 pub how-wrapped : (k mode : ℕ) → mode ≡ 1 → 1 ≡ how k mode
 unfolding how
 how-wrapped k mode h = rw (eq-eqb mode 1 h)

@@ -171,7 +171,10 @@ pub fn is_basic(kind: u8) -> bool
     if kind <= Kind::GENERALIZED_TIME {
         return true;
     }
-    kind == Kind::NAMED_BIT_STRING
+    if kind == Kind::NAMED_BIT_STRING {
+        return true;
+    }
+    octets::within(Kind::RDN_SEQUENCE, Kind::RDN, kind)
 }
 
 fn how(kind: u8, mode: u8) -> u8

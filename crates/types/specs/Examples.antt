@@ -121,13 +121,13 @@ defaults : map clauses ((12 ∷ 1 ∷ memberRow "a" 2 0 0 2 (97 ∷ []) ++ 8 ∷
 unfolding tableComputes clauses clausesOf
 defaults = refl
 
--- ---- clause 9: chains of 16 and 17 type rows: SEQUENCE OFs, each of the next row, from row i on, above an INTEGER
-lists : ℕ → ℕ → List ℕ
-lists i zero = 2 ∷ []
-lists i (suc n) = 14 ∷ 0 ∷ suc i ∷ lists (suc i) n
+-- ---- clause 9: chains of 16 and 17 type rows: SEQUENCE OFs, each of the next row, from row i on, above other rows
+listsAbove : List ℕ → ℕ → ℕ → List ℕ
+listsAbove rest i zero = rest
+listsAbove rest i (suc n) = 14 ∷ 0 ∷ suc i ∷ listsAbove rest (suc i) n
 
-chains : clauses (lists 0 15) ∷ clauses (lists 0 16) ∷ [] ≡ replicate 12 true ∷ allBut 9 ∷ []
-unfolding tableComputes clauses clausesOf lists
+chains : clauses (listsAbove (2 ∷ []) 0 15) ∷ clauses (listsAbove (2 ∷ []) 0 16) ∷ [] ≡ replicate 12 true ∷ allBut 9 ∷ []
+unfolding tableComputes clauses clausesOf listsAbove
 chains = refl
 
 -- ---- clause 10: alternatives of one tag; `[0]` explicit and implicit; SEQUENCE and SEQUENCE OF; an untagged CHOICE that shares a tag
@@ -202,10 +202,34 @@ unfolding tableComputes clauses clausesOf
 bits-agree = refl
 
 -- chains: 15 and 16 lists above it
-listsOfBits : ℕ → ℕ → List ℕ
-listsOfBits i zero = 17 ∷ 1 ∷ bitRow "a" 0
-listsOfBits i (suc n) = 14 ∷ 0 ∷ suc i ∷ listsOfBits (suc i) n
-
-bit-chains : clauses (listsOfBits 0 15) ∷ clauses (listsOfBits 0 16) ∷ [] ≡ replicate 12 true ∷ allBut 9 ∷ []
-unfolding tableComputes clauses clausesOf listsOfBits
+bit-chains : map clauses (listsAbove (17 ∷ 1 ∷ bitRow "a" 0) 0 15 ∷ listsAbove (17 ∷ 1 ∷ bitRow "a" 0) 0 16 ∷ []) ≡ replicate 12 true ∷ allBut 9 ∷ []
+unfolding tableComputes clauses clausesOf listsAbove
 bit-chains = refl
+
+-- ---- document 02, Q-3: RDNSequence and RDN
+-- in row 0; with a body of one octet, which is then a row of no kind; as elements; as members, untagged, with an explicit and an implicit tag; optional
+names-admitted : map answer ((19 ∷ []) ∷ (20 ∷ []) ∷ (19 ∷ 0 ∷ []) ∷ (14 ∷ 0 ∷ 1 ∷ 19 ∷ []) ∷ (15 ∷ 0 ∷ 1 ∷ 20 ∷ [])
+    ∷ (12 ∷ 1 ∷ plain "a" 2 ++ 19 ∷ []) ∷ (12 ∷ 1 ∷ memberRow "a" 2 1 0 0 [] ++ 20 ∷ []) ∷ (12 ∷ 1 ∷ memberRow "a" 2 2 1 0 [] ++ 19 ∷ [])
+    ∷ (12 ∷ 1 ∷ memberRow "a" 2 2 30 1 [] ++ 20 ∷ []) ∷ [])
+    ≡ admits 1 ∷ admits 1 ∷ refused 2 ∷ admits 2 ∷ admits 2 ∷ admits 3 ∷ admits 3 ∷ admits 3 ∷ admits 3 ∷ []
+unfolding tableComputes
+names-admitted = refl
+
+-- in one CHOICE, untagged: 19 with a SEQUENCE, with a SEQUENCE OF; 20 with a SET OF; 19 with 20, which have two tags; and 19 optional before a SEQUENCE
+name-tags : map clauses (pair 13 (plain "a" 3) (plain "b" 4) (19 ∷ 12 ∷ 0 ∷ []) ∷ pair 13 (plain "a" 3) (plain "b" 4) (19 ∷ 14 ∷ 0 ∷ 5 ∷ 2 ∷ [])
+    ∷ pair 13 (plain "a" 3) (plain "b" 4) (20 ∷ 15 ∷ 0 ∷ 5 ∷ 2 ∷ []) ∷ pair 13 (plain "a" 3) (plain "b" 4) (19 ∷ 20 ∷ [])
+    ∷ pair 12 (memberRow "a" 3 0 0 1 []) (plain "b" 4) (19 ∷ 12 ∷ 0 ∷ []) ∷ [])
+    ≡ allBut 10 ∷ allBut 10 ∷ allBut 10 ∷ replicate 12 true ∷ allBut 10 ∷ []
+unfolding tableComputes clauses clausesOf
+name-tags = refl
+
+-- a default of either; 15 and 16 lists above one
+name-defaults : map clauses ((12 ∷ 1 ∷ memberRow "a" 2 0 0 2 (0 ∷ []) ++ 19 ∷ []) ∷ (12 ∷ 1 ∷ memberRow "a" 2 0 0 2 (0 ∷ []) ++ 20 ∷ []) ∷ [])
+    ≡ allBut 8 ∷ allBut 8 ∷ []
+unfolding tableComputes clauses clausesOf
+name-defaults = refl
+
+name-chains : map clauses (listsAbove (19 ∷ []) 0 15 ∷ listsAbove (19 ∷ []) 0 16 ∷ listsAbove (20 ∷ []) 0 15 ∷ listsAbove (20 ∷ []) 0 16 ∷ [])
+    ≡ replicate 12 true ∷ allBut 9 ∷ replicate 12 true ∷ allBut 9 ∷ []
+unfolding tableComputes clauses clausesOf listsAbove
+name-chains = refl

@@ -32,7 +32,7 @@ pub record NamedBit : Type 0 where
 
 mutual
   pub data Ty : Type 0 where
-    -- kinds 1..11 and 17, by kind, and the named bits, which only kind 17 has
+    -- kinds 1..11, 17, 19 and 20, by kind, and the named bits, which only kind 17 has
     basic : ℕ → List NamedBit → Ty
     sequence : Members → Ty
     choice : Members → Ty

@@ -13,7 +13,7 @@ use Rattle.octets.specs.Octets.{part}
 use Rattle.der.specs.Kind as kind
 use Rattle.der.specs.Tag.{wrapperOctet}
 use Rattle.der.specs.Header.{insideAt, opened}
-use Rattle.der.specs.Contents.{legal}
+use Rattle.der.specs.Legal.{legal}
 use Rattle.der.specs.declared.Inside.{Inside}
 use Rattle.rows.specs.Row.{rowAt, kindAt, namedAt, membersAt, isList, modeAt, numberAt}
 use Rattle.types.specs.Types.{untagged, implicit, taggingOf, Ty, basic, sequence, choice, listOf, Members, membersFrom, bitsAfter, typed, typeFrom}

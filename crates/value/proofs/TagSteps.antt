@@ -14,7 +14,7 @@ use Rattle.octets.specs.Text.{within}
 use Rattle.octets.proofs.Laws.{both-true}
 use Rattle.der.specs.Tag.{class, number, context, tagOf, universal, ownOctet, implicitOctet, wrapperOctet}
 use Rattle.der.specs.Kind.{isConstructed}
-use Rattle.der.specs.Contents.{legal}
+use Rattle.der.specs.Legal.{legal}
 use Rattle.der.proofs.Laws.{tag-small, universal-most, universal-first}
 use Rattle.rows.specs.Row.{rowAt, kindAt, namedAt, modeAt, numberAt, presenceAt, defaultAt}
 use Rattle.clauses.specs.Clauses.{defaultAllowed, defaultLegal}

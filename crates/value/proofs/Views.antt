@@ -12,7 +12,7 @@ use Rattle.octets.specs.Octets.{part}
 use Rattle.der.specs.Kind as kind
 use Rattle.der.specs.Tag.{wrapperOctet}
 use Rattle.der.specs.Header.{headerAt, insideAt, anyTag, opened}
-use Rattle.der.specs.Contents.{legal}
+use Rattle.der.specs.Legal.{legal}
 use Rattle.der.specs.declared.Inside.{Inside}
 use Rattle.types.specs.Types.{Tagging, untagged, explicit, implicit, Member, NamedBit, Ty, basic, sequence, listOf, Members}
 use Rattle.types.specs.Begins.{isMandatory}

@@ -10,7 +10,7 @@ use Rattle.octets.specs.Octets.{octet, part, same}
 use Rattle.der.specs.Kind as kind
 use Rattle.der.specs.Tag.{tagOf, ownOctet, implicitOctet, wrapperOctet}
 use Rattle.der.specs.Header.{headerAt, insideAt, anyTag, opened}
-use Rattle.der.specs.Contents.{legal}
+use Rattle.der.specs.Legal.{legal}
 use Rattle.types.specs.Types.{Tagging, untagged, explicit, implicit, Presence, mandatory, optional, default, Member, Ty, basic, sequence, choice, listOf, Members, noMore, more}
 use Rattle.types.specs.Begins.{memberBegins, isMandatory}
 use Rattle.value.specs.Value.{spotAt, spotOf, Value, leaf, fields, chosen, elements, Fields, endFields, present, absent, Values, endValues, next}

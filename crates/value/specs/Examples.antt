@@ -9,7 +9,7 @@ use lib.ListN.{replicate}
 use Rattle.octets.specs.Pick.{isSome}
 use Rattle.octets.specs.Octets.{bytes, hex}
 use Rattle.rows.specs.Paper.{tableLimits}
-use Rattle.types.specs.Paper.{licence}
+use Rattle.types.specs.Paper.{memberRow, licence}
 use Rattle.types.specs.Types.{Tagging, untagged, explicit, implicit, Presence, mandatory, optional, default, Member, Ty, basic, sequence, choice, listOf, noMore, more}
 use Rattle.value.specs.Paper.{valueLimits, licenceRecord}
 use Rattle.value.specs.Value.{leaf, fields, chosen, endFields, present, absent}
@@ -49,6 +49,38 @@ namedBits : map (holds (basic 17 (record { name = bytes "print"; number = 0 } �
     ≡ true ∷ true ∷ false ∷ false ∷ false ∷ false ∷ true ∷ []
 unfolding valueComputes holds
 namedBits = refl
+
+-- an RDNSequence of one RDN, of none; with the tag of a SET, primitive; with an octet more; of an RDN without pairs, of one whose value is a BMPString
+names : map (holds (basic 19 [])) ("30093107300506012A0C00" ∷ "3000" ∷ "31093107300506012A0C00" ∷ "10093107300506012A0C00" ∷ "300A3107300506012A0C0000"
+    ∷ "30023100" ∷ "30093107300506012A1E00" ∷ [])
+    ≡ true ∷ true ∷ false ∷ false ∷ false ∷ false ∷ false ∷ []
+unfolding valueComputes holds
+names = refl
+
+-- an RDN of one pair, of none; with the tag of a SEQUENCE; as an element; an RDNSequence with an implicit tag, that primitive, and without it
+rdns : map (holds (basic 20 [])) ("3107300506012A0C00" ∷ "3100" ∷ "3007300506012A0C00" ∷ [])
+    ++ map (holds (listOf 14 (basic 20 []))) ("30093107300506012A0C00" ∷ "30023100" ∷ [])
+    ++ map (holds (only (implicit 1) mandatory (basic 19 []))) ("300BA1093107300506012A0C00" ∷ "300B81093107300506012A0C00" ∷ "300B30093107300506012A0C00" ∷ [])
+    ≡ true ∷ false ∷ false ∷ true ∷ false ∷ true ∷ false ∷ false ∷ []
+unfolding valueComputes holds
+rdns = refl
+
+-- a record of a holder and an INTEGER: one RDN of two pairs; the same pairs falling; the holder an octet too short
+abbrev holding : List ℕ
+holding = 12 ∷ 2 ∷ memberRow "holder" 3 0 0 0 [] ++ memberRow "id" 4 0 0 0 [] ++ 19 ∷ 2 ∷ []
+
+holders : map (valueReport tableLimits valueLimits holding) (hex "301730123110300606012A0C0141300606012A0C0142020105"
+    ∷ hex "301730123110300606012A0C0142300606012A0C0141020105" ∷ hex "301730113110300606012A0C0141300606012A0C0142020105" ∷ [])
+    ≡ good ∷ refused 4 ∷ refused 4 ∷ []
+unfolding valueComputes
+holders = refl
+
+-- a holder is a leaf, with its RDNs as contents
+holder-place : storedValue (only untagged mandatory (basic 19 [])) (hex "300B30093107300506012A0C00")
+    ≡ some (fields (record { place = 0; size = 13; contents = hex "30093107300506012A0C00" })
+    (present (plain "a" untagged mandatory) (leaf 19 (record { place = 2; size = 11; contents = hex "3107300506012A0C00" })) endFields))
+unfolding valueComputes
+holder-place = refl
 
 -- `[0]` explicit: the wrapper exactly filled; not filled; passed; left out; another number; the constructed bit missing
 wrappers : map (holds (only (explicit 0) mandatory (basic 2 []))) ("3005A003020105" ∷ "3006A00402010500" ∷ "3005A002020105" ∷ "3003020105" ∷ "3005A103020105" ∷ "30058003020105" ∷ [])

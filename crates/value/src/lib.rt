@@ -9,7 +9,7 @@ ghost use lib.ListN.{length};
 ghost use Rattle.octets.specs.Pick.{isSome};
 ghost use Rattle.octets.specs.Octets.{octet, part, same};
 ghost use Rattle.der.specs.Tag.{number, tagOf};
-ghost use Rattle.der.specs.Contents.{legal};
+ghost use Rattle.der.specs.Legal.{legal};
 ghost use Rattle.rows.specs.Row.{kindAt, namedAt, membersAt, isList, modeAt, presenceAt, defaultAt};
 ghost use Rattle.types.specs.Begins.{memberBegins};
 ghost use Rattle.table.specs.inner.Rows.{tableRows, MemberRow, TypeRow, placeAt, typeAt, membersAfter, memberAt, taggingAt, memberTypeAt, memberKindAt};

@@ -9,4 +9,6 @@ form-spec = tie.close (tie.spec
     (λ c. search tests)  -- returns
     (λ c. search tests)  -- returns-2
     (λ c. search tests)  -- returns-3
-    (λ c. search tests))  -- returns-4
+    (λ c. search tests)  -- returns-4
+    (λ c. search tests)  -- returns-5
+    (λ c. search tests))  -- returns-6

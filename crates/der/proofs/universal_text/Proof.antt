@@ -14,4 +14,6 @@ universal-text-spec =
     (λ c. search tests)  -- returns-5
     (λ c. search tests)  -- returns-6
     (λ c. search tests)  -- returns-7
-    (λ c. search tests))  -- returns-8
+    (λ c. search tests)  -- returns-8
+    (λ c. search tests)  -- returns-9
+    (λ c. search tests))  -- returns-10

@@ -1,4 +1,4 @@
-use Rattle.plan.proofs.PassSteps.{accepts-digits, accepts-less, accepts-plain, accepts-same, accepts-text, accepts-named}
+use Rattle.plan.proofs.PassSteps.{accepts-digits, accepts-less, accepts-plain, accepts-same, accepts-text, accepts-named, accepts-name}
 use borrow.Author.Needs.{needs}
 use Rattle.plan.proofs.accepts.Statement.{statement}
 use Rattle.plan.proofs.accepts.Tie as tie
@@ -20,4 +20,6 @@ accepts-spec =
     (λ c κs. search needs)  -- accepts-text-requires
     (λ c. search accepts-text)  -- returns-5
     (λ c κs. search needs)  -- accepts-named-requires
-    (λ c. search accepts-named))  -- returns-6
+    (λ c. search accepts-named)  -- returns-6
+    (λ c κs. search needs)  -- accepts-name-requires
+    (λ c. search accepts-name))  -- returns-7

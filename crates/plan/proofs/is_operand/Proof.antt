@@ -1,4 +1,4 @@
-use Rattle.plan.proofs.TestSteps.{stands-quoted, stands-prepared, stands-whole}
+use Rattle.plan.proofs.TestSteps.{stands-quoted, stands-prepared, stands-whole, stands-name, stands-rdn}
 use borrow.Author.Needs.{needs}
 use Rattle.plan.proofs.is_operand.Statement.{statement}
 use Rattle.plan.proofs.is_operand.Tie as tie
@@ -12,6 +12,10 @@ is-operand-spec =
     (λ c. search needs)  -- enum-told-2
     (λ c. search needs)  -- enum-told-3
     (λ c κs. search needs)  -- is-plain-requires
+    (λ c. search needs)  -- enum-told-4
+    (λ c. search needs)  -- enum-told-5
     (λ c. search stands-whole)  -- returns
     (λ c. search stands-quoted)  -- returns-2
-    (λ c. search stands-prepared))  -- returns-3
+    (λ c. search stands-prepared)  -- returns-3
+    (λ c. search stands-name)  -- returns-4
+    (λ c. search stands-rdn))  -- returns-5

@@ -14,10 +14,14 @@ syntax-form-spec =
     (λ c. search needs)  -- enum-told-5
     (λ c. search needs)  -- enum-known-syntax
     (λ c. search needs)  -- enum-told-6
+    (λ c. search needs)  -- enum-told-7
+    (λ c. search needs)  -- enum-told-8
     (λ c. search needs)  -- returns
     (λ c. search needs)  -- returns-2
     (λ c. search needs)  -- returns-3
     (λ c. search needs)  -- returns-4
     (λ c. search needs)  -- returns-5
     (λ c. search form-strings)  -- returns-6
-    (λ c. search needs))  -- returns-7
+    (λ c. search needs)  -- returns-7
+    (λ c. search needs)  -- returns-8
+    (λ c. search needs))  -- returns-9

@@ -22,6 +22,8 @@ use Rattle.digits.specs.inner.Masks.{maskBits}
 use Rattle.digits.specs.inner.Significant.{significant}
 use Rattle.strings.specs.Prepared.{prepared}
 use Rattle.strings.specs.inner.Comparing.{folded}
+use Rattle.names.specs.Compared.{sameRdn, sameName, storedRdn, storedName}
+use Rattle.names.specs.inner.Operand.{operandRdn, operandName}
 use Rattle.types.specs.Types.{NamedBit}
 use Rattle.reference.specs.Allowed.{Target}
 use Rattle.bitnames.specs.Names as names
@@ -33,7 +35,7 @@ use Rattle.plan.specs.declared.TestNumbers.{TestNumbers}
 use Rattle.plan.specs.declared.BitsTest.{BitsTest}
 
 -- any value, none; a truth; an integer equal to a bound, or less; arcs; octets equal, or less; bits of hexadecimal digits (true) or binary ones; a string,
--- folded (true) or exact; a time equal, or earlier; bits with names, of so many digits, which are as above, or listed
+-- folded (true) or exact; a time equal, or earlier; bits with names, of so many digits, which are as above, or listed; a distinguished name; an RDN
 pub data Test : Type 0 where
   anyValue : Test
   noValue : Test
@@ -49,6 +51,8 @@ pub data Test : Type 0 where
   earlierTime : Test
   namedBits : Bool → ℕ → Test
   listed : List ℕ → Test
+  name : Test
+  rdn : Test
 
 -- ---- what a test says of contents
 -- of an INTEGER of one to eight octets, which is within the bounds; of numbers that are no octets the operand decides
@@ -70,6 +74,8 @@ accepted time x c = times.sameTime (times.timeOf c) (times.timeOf x)
 accepted earlierTime x c = times.earlier (times.timeOf c) (times.timeOf x)
 accepted (namedBits hexed n) x c = both (leb (length c) 65536) (same (trimmed (bitsOf c)) (trimmed (bitsIn hexed (part (digits x) 0 n))))
 accepted (listed l) x c = both (leb (length c) 65536) (same (trimmed (bitsOf c)) (trimmed l))
+accepted name x c = sameName (storedName c) (operandName x)
+accepted rdn x c = sameRdn (storedRdn c) (operandRdn x)
 
 -- of a count, below 2^63
 unfoldable pub acceptedCount : Test → ℕ → Bool
@@ -87,6 +93,8 @@ acceptedCount time n = false
 acceptedCount earlierTime n = false
 acceptedCount (namedBits hexed m) n = false
 acceptedCount (listed l) n = false
+acceptedCount name n = false
+acceptedCount rdn n = false
 
 -- ---- the test of a rule with an operand
 unfoldable pub equalTest : Syntax → List ℕ → Test
@@ -97,6 +105,8 @@ equalTest rule.octetStrings x = octets
 equalTest rule.bitStrings x = bits (no (isBitText x))
 equalTest (rule.strings fold) x = string fold
 equalTest rule.times x = time
+equalTest rule.names x = name
+equalTest rule.rdns x = rdn
 
 unfoldable pub lessTest : Syntax → List ℕ → Test
 lessTest rule.booleans x = noValue
@@ -106,6 +116,8 @@ lessTest rule.octetStrings x = lessOctets
 lessTest rule.bitStrings x = noValue
 lessTest (rule.strings fold) x = noValue
 lessTest rule.times x = earlierTime
+lessTest rule.names x = noValue
+lessTest rule.rdns x = noValue
 
 unfoldable pub testFor : Rule → List ℕ → Test
 testFor rule.present x = anyValue
@@ -145,6 +157,9 @@ textTest a = pick (eqb a 17) time (pick (eqb a 18) earlierTime (string (eqb a 15
 abbrev pub namedTest : ℕ → ℕ → Test
 namedTest a n = pick (eqb a 21) (listed (maskBits n)) (namedBits (eqb a 19) n)
 
+abbrev pub nameTest : ℕ → Test
+nameTest a = pick (eqb a 22) name rdn
+
 unfoldable pub testOf : ℕ → ℕ → Test
 testOf a n =
     pick (ltb a 4) (plainTest a)
@@ -152,7 +167,8 @@ testOf a n =
     (pick (ltb a 10) (lessInteger (boundNumbered (a - 7) n))
     (pick (ltb a 15) (digitTest a)
     (pick (ltb a 19) (textTest a)
-    (namedTest a n)))))
+    (pick (ltb a 22) (namedTest a n)
+    (nameTest a))))))
 
 abbrev pub reportTest : TestNumbers → Test
 reportTest r = testOf (r .comparison) (r .number)

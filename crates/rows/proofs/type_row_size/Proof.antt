@@ -1,4 +1,4 @@
-use Rattle.rows.proofs.Steps.{size-basic, size-group, size-list, size-named, size-none}
+use Rattle.rows.proofs.Steps.{size-basic, size-group, size-list, size-named, size-name, size-none}
 use borrow.Author.Needs.{needs}
 use Rattle.rows.proofs.type_row_size.Statement.{statement}
 use Rattle.rows.proofs.type_row_size.Tie as tie
@@ -14,4 +14,6 @@ type-row-size-spec =
     (λ c κs. search needs)  -- is-list-requires
     (λ c. search size-list)  -- returns-3
     (λ c. search size-named)  -- returns-4
-    (λ c. search size-none))  -- returns-5
+    (λ c κs. search needs)  -- within-requires-2
+    (λ c. search size-name)  -- returns-5
+    (λ c. search size-none))  -- returns-6

@@ -17,7 +17,8 @@ typeRowSize k =
     (pick (isGroup k) 2
     (pick (isList k) 3
     (pick (eqb k kind.namedBitString) 2
-    0)))
+    (pick (within kind.rdnSequence kind.rdn k) 1
+    0))))
 
 -- the size of the type row at p, with at most so many members; 0 where no type row stands there, or it is not whole, or its body is not formed
 unfoldable pub typeSize : ℕ → List ℕ → ℕ → ℕ

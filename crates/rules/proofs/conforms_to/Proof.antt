@@ -1,4 +1,5 @@
 use Rattle.rules.proofs.Steps.{conform-bits, conform-booleans, conform-integers, conform-octets, conform-oids, conform-strings, conform-times}
+use Rattle.rules.proofs.Steps.{conform-names, conform-rdns}
 use borrow.Author.Needs.{needs}
 use Rattle.rules.proofs.conforms_to.Statement.{statement}
 use Rattle.rules.proofs.conforms_to.Tie as tie
@@ -21,10 +22,16 @@ conforms-to-spec =
     (λ c κs. search needs)  -- is-text-requires
     (λ c. search needs)  -- enum-told-7
     (λ c κs. search needs)  -- is-time-requires
-    (λ c. search (conform-booleans, conform-integers, conform-oids, conform-octets, conform-bits, conform-strings, conform-times))  -- returns
-    (λ c. search (conform-booleans, conform-integers, conform-oids, conform-octets, conform-bits, conform-strings, conform-times))  -- returns-2
-    (λ c. search (conform-booleans, conform-integers, conform-oids, conform-octets, conform-bits, conform-strings, conform-times))  -- returns-3
-    (λ c. search (conform-booleans, conform-integers, conform-oids, conform-octets, conform-bits, conform-strings, conform-times))  -- returns-4
-    (λ c. search (conform-booleans, conform-integers, conform-oids, conform-octets, conform-bits, conform-strings, conform-times))  -- returns-5
-    (λ c. search (conform-booleans, conform-integers, conform-oids, conform-octets, conform-bits, conform-strings, conform-times))  -- returns-6
-    (λ c. search (conform-booleans, conform-integers, conform-oids, conform-octets, conform-bits, conform-strings, conform-times)))  -- returns-7
+    (λ c. search needs)  -- enum-told-8
+    (λ c κs. search needs)  -- is-name-requires
+    (λ c. search needs)  -- enum-told-9
+    (λ c κs. search needs)  -- is-rdn-requires
+    (λ c. search (conform-booleans, conform-integers, conform-oids, conform-octets, conform-bits, conform-strings, conform-times, conform-names, conform-rdns))  -- returns
+    (λ c. search (conform-booleans, conform-integers, conform-oids, conform-octets, conform-bits, conform-strings, conform-times, conform-names, conform-rdns))  -- returns-2
+    (λ c. search (conform-booleans, conform-integers, conform-oids, conform-octets, conform-bits, conform-strings, conform-times, conform-names, conform-rdns))  -- returns-3
+    (λ c. search (conform-booleans, conform-integers, conform-oids, conform-octets, conform-bits, conform-strings, conform-times, conform-names, conform-rdns))  -- returns-4
+    (λ c. search (conform-booleans, conform-integers, conform-oids, conform-octets, conform-bits, conform-strings, conform-times, conform-names, conform-rdns))  -- returns-5
+    (λ c. search (conform-booleans, conform-integers, conform-oids, conform-octets, conform-bits, conform-strings, conform-times, conform-names, conform-rdns))  -- returns-6
+    (λ c. search (conform-booleans, conform-integers, conform-oids, conform-octets, conform-bits, conform-strings, conform-times, conform-names, conform-rdns))  -- returns-7
+    (λ c. search (conform-booleans, conform-integers, conform-oids, conform-octets, conform-bits, conform-strings, conform-times, conform-names, conform-rdns))  -- returns-8
+    (λ c. search (conform-booleans, conform-integers, conform-oids, conform-octets, conform-bits, conform-strings, conform-times, conform-names, conform-rdns)))  -- returns-9

@@ -1,4 +1,4 @@
-use Rattle.rules.proofs.NameSteps.{rule-none, rule-here, rule-after}
+use Rattle.rules.proofs.NameSteps.{rule-here, rule-after}
 use Rattle.rules.specs.Rule.{knownRules}
 use borrow.Author.Needs.{needs}
 use Rattle.rules.proofs.time_rule.Statement.{statement}
@@ -17,4 +17,5 @@ time-rule-spec =
     (λ c. search needs)  -- slice-aggregate-is-called-4
     (λ c κs. search needs)  -- is-called-requires-2
     (λ c. search (rule-here, rule-after))  -- returns-2
-    (λ c. search (rule-none, rule-after)))  -- returns-3
+    (λ c κs. search needs)  -- name-rule-requires
+    (λ c. search rule-after))  -- returns-3

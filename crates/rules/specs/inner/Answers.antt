@@ -4,8 +4,9 @@ use mathlib.Core.Bool.{Bool, true, false}
 use mathlib.Core.Option.{Option, none, some}
 use mathlib.Core.List.{List}
 use lib.Dec.{eqb}
-use Rattle.octets.specs.Pick.{both, either, isSome}
+use Rattle.octets.specs.Pick.{both, either, bind, isSome}
 use Rattle.octets.specs.Octets.{same, bytes}
+use Rattle.octets.specs.Quoted.{unquoted}
 use Rattle.der.specs.Kind.{isString}
 use Rattle.der.specs.Dotted.{isDotted, dottedArcs}
 use Rattle.der.specs.declared.Time.{Time}
@@ -13,11 +14,12 @@ use Rattle.integers.specs.Asserted.{isInteger, assertedInteger}
 use Rattle.digits.specs.Asserted.{isOctets, assertedOctets, isBits, assertedBits}
 use Rattle.strings.specs.Asserted.{isText, assertedText}
 use Rattle.times.specs.Asserted.{assertedTime}
+use Rattle.names.specs.Compared.{Compared, assertedName, assertedRdn}
 use Rattle.rows.specs.Row.{modeAt}
 use Rattle.table.specs.inner.Rows.{placeAt, memberKindAt}
-use Rattle.rules.specs.Rule.{Syntax, booleans, integers, objectIdentifiers, octetStrings, bitStrings, strings, times, Rule, present, equal, less}
+use Rattle.rules.specs.Rule.{Syntax, booleans, integers, objectIdentifiers, octetStrings, bitStrings, strings, times, names, rdns, Rule, present, equal, less}
 use Rattle.rules.specs.Rule.{sameName}
-use Rattle.rules.specs.Asserted.{Asserted, anyValue, truth, integer, arcs, octets, bits, text, time, isTruth}
+use Rattle.rules.specs.Asserted.{Asserted, anyValue, truth, integer, arcs, octets, bits, text, time, name, rdn, isTruth}
 use Rattle.rules.specs.declared.Syntax as syntax
 use Rattle.rules.specs.declared.Rule as rule
 use Rattle.rules.specs.declared.Named as named
@@ -31,6 +33,8 @@ syntaxOf syntax.Syntax.OctetStrings = octetStrings
 syntaxOf syntax.Syntax.BitStrings = bitStrings
 syntaxOf (syntax.Syntax.Strings fold) = strings fold
 syntaxOf syntax.Syntax.Times = times
+syntaxOf syntax.Syntax.Names = names
+syntaxOf syntax.Syntax.Rdns = rdns
 
 abbrev pub meant : rule.Rule → Rule
 meant rule.Rule.Present = present
@@ -43,7 +47,7 @@ reportRule (named.Named.Known r) = some (meant r)
 
 -- a text is a rule's name or OID
 unfoldable pub called : List ℕ → List ℕ → List ℕ → Bool
-called t name oid = either (sameName t name) (same t oid)
+called t word oid = either (sameName t word) (same t oid)
 
 -- ---- value texts
 -- those of a rule of bits are read by what the reference leads to
@@ -55,6 +59,8 @@ ofBits octetStrings = false
 ofBits bitStrings = true
 ofBits (strings fold) = false
 ofBits times = false
+ofBits names = false
+ofBits rdns = false
 
 unfoldable pub readByTarget : Rule → Bool
 readByTarget present = false
@@ -70,6 +76,8 @@ conformsTo octetStrings t = isOctets t
 conformsTo bitStrings t = isBits t
 conformsTo (strings fold) t = isText t
 conformsTo times t = isSome (assertedTime t)
+conformsTo names t = isSome (bind (unquoted t) assertedName)
+conformsTo rdns t = isSome (bind (unquoted t) assertedRdn)
 
 unfoldable pub conforms : Rule → List ℕ → Bool
 conforms present t = same t (bytes "NULL")
@@ -80,6 +88,14 @@ abbrev pub timeOr : Option Time → Asserted
 timeOr none = anyValue
 timeOr (some u) = time u
 
+abbrev pub nameOr : Option (List (List Compared)) → Asserted
+nameOr none = anyValue
+nameOr (some n) = name n
+
+abbrev pub rdnOr : Option (List Compared) → Asserted
+rdnOr none = anyValue
+rdnOr (some l) = rdn l
+
 unfoldable pub saidIn : Syntax → List ℕ → Asserted
 saidIn booleans t = truth (same t (bytes "TRUE"))
 saidIn integers t = integer (assertedInteger t)
@@ -88,6 +104,8 @@ saidIn octetStrings t = octets (assertedOctets t)
 saidIn bitStrings t = bits (assertedBits t)
 saidIn (strings fold) t = text fold (assertedText t)
 saidIn times t = timeOr (assertedTime t)
+saidIn names t = nameOr (bind (unquoted t) assertedName)
+saidIn rdns t = rdnOr (bind (unquoted t) assertedRdn)
 
 unfoldable pub said : Rule → List ℕ → Asserted
 said present t = anyValue

@@ -5,10 +5,10 @@ use Rattle.strings.proofs.next_image.Statement.{statement}
 use Rattle.strings.proofs.next_image.Tie as tie
 
 abbrev Inv-loop : tie.InvT-loop
-Inv-loop s quoted fold first at₀ before₀ at before = Seeking fold quoted s first before₀ at before
+Inv-loop s form fold first at₀ before₀ at before = Seeking fold form s first before₀ at before
 
 abbrev μ-loop : tie.MeasureT-loop
-μ-loop s quoted fold first at₀ before₀ at before = left quoted s at
+μ-loop s form fold first at₀ before₀ at before = left form s at
 
 pub next-image-spec : {M : Type 1} → statement M
 next-image-spec =

@@ -1,28 +1,10 @@
-use Rattle.strings.proofs.Preparing.{Preparing, prepare-long, prepare-start, prepare-end, prepare-space, prepare-octets, prepare-falls, prepare-more}
-use Rattle.strings.specs.inner.Comparing.{left}
-use mathlib.Core.Bool.{true}
 use borrow.Author.Needs.{needs}
 use Rattle.strings.proofs.prepare.Statement.{statement}
 use Rattle.strings.proofs.prepare.Tie as tie
-
-abbrev Inv-loop : tie.InvT-loop
-Inv-loop p fold memory₀ at₀ before₀ n₀ memory at before n = Preparing fold p at before n memory
-
-abbrev μ-loop : tie.MeasureT-loop
-μ-loop p fold memory₀ at₀ before₀ n₀ memory at before n = left true p at
 
 pub prepare-spec : {M : Type 1} → statement M
 prepare-spec =
     tie.close
     (tie.spec
-    Inv-loop
-    μ-loop
-    (λ c. search prepare-start)  -- loop-holds
-    (λ c κs. search needs)  -- next-image-requires
-    (λ c. search needs)  -- enum-known-space
-    (λ c. search needs)  -- enum-told
-    (λ c. (search prepare-end, search prepare-long))  -- returns
-    (λ c κs. (search prepare-long, search prepare-space))  -- put-space-requires
-    (λ c κs. (search needs, search prepare-octets))  -- put-octets-requires
-    (λ c. search prepare-falls)  -- loop-less
-    (λ c. search prepare-more))  -- loop-again
+    (λ c κs. search needs)  -- prepare-behind-requires
+    (λ c. (search needs, search needs)))  -- returns

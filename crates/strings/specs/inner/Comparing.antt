@@ -12,6 +12,8 @@ use Rattle.octets.specs.declared.Place.{Place}
 use Rattle.strings.specs.Images.{Mark}
 use Rattle.strings.specs.Prepared.{images, joined}
 use Rattle.strings.specs.inner.Shapes.{unpacked, shapeMarks, foldOctet as shape-fold}
+use Rattle.strings.specs.inner.Escaped.{unescaped}
+use Rattle.strings.specs.declared.Form.{Form}
 use Rattle.strings.specs.declared.Before.{Before}
 use Rattle.strings.specs.declared.Before.the-variants as before
 use Rattle.strings.specs.declared.Piece.{Piece}
@@ -20,14 +22,15 @@ use Rattle.strings.specs.declared.Found.{Found}
 use Rattle.strings.specs.declared.Sides.{Sides}
 use Rattle.strings.specs.declared.Turn.{Turn}
 
--- ---- octets: of a stored string as they are, of a quoted one with one quote for two
-abbrev pub octetsOf : Bool → List ℕ → List ℕ
-octetsOf false s = s
-octetsOf true s = undoubled s
+-- ---- octets: of a stored string as they are, of a quoted one with one quote for two, of an escaped one without its escapes
+abbrev pub octetsOf : Form → List ℕ → List ℕ
+octetsOf Form.Stored s = s
+octetsOf Form.Quoted s = undoubled s
+octetsOf Form.Escaped s = unescaped s
 
-abbrev pub reportOctet : Bool → List ℕ → Letter → List ℕ
-reportOctet quoted s Letter.End = []
-reportOctet quoted s (Letter.Got b next) = b ∷ octetsOf quoted (drop next s)
+abbrev pub reportOctet : Form → List ℕ → Letter → List ℕ
+reportOctet form s Letter.End = []
+reportOctet form s (Letter.Got b next) = b ∷ octetsOf form (drop next s)
 
 -- ---- octets with A to Z folded alone, or as they are
 unfoldable pub folded : Bool → List ℕ → List ℕ
@@ -37,23 +40,23 @@ folded false s = s
 abbrev pub foldOctet : Bool → ℕ → ℕ
 foldOctet fold b = shape-fold fold b
 
-unfoldable pub lettersAt : Bool → Bool → List ℕ → ℕ → List ℕ
-lettersAt fold quoted s at = folded fold (octetsOf quoted (drop at s))
+unfoldable pub lettersAt : Bool → Form → List ℕ → ℕ → List ℕ
+lettersAt fold form s at = folded fold (octetsOf form (drop at s))
 
 -- ---- the images from a place on
-unfoldable pub imagesAt : Bool → Bool → List ℕ → ℕ → List Mark
-imagesAt fold quoted s at = images fold (octetsOf quoted (drop at s))
+unfoldable pub imagesAt : Bool → Form → List ℕ → ℕ → List Mark
+imagesAt fold form s at = images fold (octetsOf form (drop at s))
 
-abbrev pub reportPiece : Bool → Bool → List ℕ → Piece → List Mark
-reportPiece fold quoted s p = shapeMarks (p .shape) ++ imagesAt fold quoted s (p .after)
+abbrev pub reportPiece : Bool → Form → List ℕ → Piece → List Mark
+reportPiece fold form s p = shapeMarks (p .shape) ++ imagesAt fold form s (p .after)
 
 -- how many octets are left at a place
-abbrev pub left : Bool → List ℕ → ℕ → ℕ
-left quoted s at = length (octetsOf quoted (drop at s))
+abbrev pub left : Form → List ℕ → ℕ → ℕ
+left form s at = length (octetsOf form (drop at s))
 
 -- ---- what is left of the prepared string at a place, and what the next image says of it
-unfoldable pub restAt : Bool → Bool → List ℕ → ℕ → Before → List ℕ
-restAt fold quoted s at p = joined p (imagesAt fold quoted s at)
+unfoldable pub restAt : Bool → Form → List ℕ → ℕ → Before → List ℕ
+restAt fold form s at p = joined p (imagesAt fold form s at)
 
 abbrev pub isSpace : Before → Bool
 isSpace before.Nothing = false
@@ -64,14 +67,14 @@ abbrev pub gap : Bool → List ℕ → List ℕ
 gap true l = 32 ∷ l
 gap false l = l
 
-abbrev pub reportFound : Bool → Bool → List ℕ → Found → List ℕ
-reportFound fold quoted s Found.End = []
-reportFound fold quoted s (Found.At space o after) = gap space (unpacked (o .word) (o .count) ++ restAt fold quoted s after before.Character)
+abbrev pub reportFound : Bool → Form → List ℕ → Found → List ℕ
+reportFound fold form s Found.End = []
+reportFound fold form s (Found.At space o after) = gap space (unpacked (o .word) (o .count) ++ restAt fold form s after before.Character)
 
 -- less is left after it
-abbrev pub Further : Bool → List ℕ → ℕ → Found → Type 0
-Further quoted s at Found.End = Unit {0}
-Further quoted s at (Found.At space o after) = left quoted s after < left quoted s at
+abbrev pub Further : Form → List ℕ → ℕ → Found → Type 0
+Further form s at Found.End = Unit {0}
+Further form s at (Found.At space o after) = left form s after < left form s at
 
 -- ---- octets of a stored string that are as prepared, but for folding: 21 to 7E, or a space before one of these that isn't the first of the string
 abbrev pub isGraphicNext : List ℕ → Bool
@@ -93,14 +96,14 @@ afterFirst fold b i (y ∷ s) = pick (eqb b (foldOctet fold y)) (Place.At (i + 1
 
 -- what is left of a stored string there, beside the octets from the same place on
 unfoldable pub sameFrom : Bool → List ℕ → List ℕ → ℕ → Bool
-sameFrom fold c x i = same (restAt fold false c i (beforeAt i)) (lettersAt fold false x i)
+sameFrom fold c x i = same (restAt fold Form.Stored c i (beforeAt i)) (lettersAt fold Form.Stored x i)
 
 -- two sides, and what a turn says of them
 abbrev pub ahead : Bool → List ℕ → Sides → List ℕ
-ahead fold c s = unpacked (s .word) (s .count) ++ restAt fold false c (s .at) (beforeAt (s .at))
+ahead fold c s = unpacked (s .word) (s .count) ++ restAt fold Form.Stored c (s .at) (beforeAt (s .at))
 
 unfoldable pub beside : Bool → List ℕ → List ℕ → Sides → Bool
-beside fold c x s = same (ahead fold c s) (lettersAt fold false x (s .i))
+beside fold c x s = same (ahead fold c s) (lettersAt fold Form.Stored x (s .i))
 
 abbrev pub reportTurn : Bool → List ℕ → List ℕ → Turn → Bool
 reportTurn fold c x (Turn.On s) = beside fold c x s
@@ -108,7 +111,7 @@ reportTurn fold c x (Turn.Ended r) = r
 
 -- a turn leaves less of the prepared string, or the same with less of the stored one
 unfoldable pub weight : Bool → List ℕ → Sides → ℕ
-weight fold c s = length (ahead fold c s) + left false c (s .at)
+weight fold c s = length (ahead fold c s) + left Form.Stored c (s .at)
 
 abbrev pub Less : Bool → List ℕ → Sides → Turn → Type 0
 Less fold c s (Turn.On t) = weight fold c t < weight fold c s

@@ -7,6 +7,7 @@ use lib.ListN.{length, getD}
 use lib.Dec.{leb, eqb}
 use Rattle.octets.specs.Pick.{pick, either}
 use Rattle.octets.specs.Octets.{baseFrom}
+use Rattle.octets.specs.Text.{within}
 use Rattle.der.specs.Kind as kind
 use Rattle.der.specs.Tag.{ownOctet, implicitOctet, wrapperOctet}
 use Rattle.rows.specs.Paper.{tableLimits}
@@ -23,9 +24,9 @@ firstOctet untagged k = pick (eqb k kind.choice) 0 (ownOctet k)
 firstOctet (explicit n) k = wrapperOctet n
 firstOctet (implicit n) k = implicitOctet n k
 
--- a basic kind: BOOLEAN to GeneralizedTime, or BIT STRING with names
+-- a basic kind: BOOLEAN to GeneralizedTime, BIT STRING with names, RDNSequence and RDN
 unfoldable pub isBasic : ℕ → Bool
-isBasic k = either (leb k kind.generalizedTime) (eqb k kind.namedBitString)
+isBasic k = either (leb k kind.generalizedTime) (either (eqb k kind.namedBitString) (within kind.rdnSequence kind.rdn k))
 
 -- how a member of a kind is tagged: 1 in a wrapper; 0 plain: of a basic kind, in no wrapper; 2 any other
 unfoldable pub how : ℕ → ℕ → ℕ

@@ -10,7 +10,7 @@ use Rattle.octets.specs.Octets.{octet, part}
 use Rattle.der.specs.Kind as kind
 use Rattle.der.specs.Tag.{wrapperOctet}
 use Rattle.der.specs.Header.{insideAt}
-use Rattle.der.specs.Contents.{legal}
+use Rattle.der.specs.Legal.{legal}
 use Rattle.der.specs.declared.Inside.{Inside}
 use Rattle.types.specs.Types.{Tagging, untagged, explicit, implicit, Member, NamedBit, Ty, basic, sequence, choice, listOf, Members, noMore, more}
 use Rattle.types.specs.Begins.{isMandatory}

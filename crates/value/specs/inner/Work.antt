@@ -11,7 +11,7 @@ use Rattle.octets.specs.Octets.{part, same}
 use Rattle.der.specs.Kind as kind
 use Rattle.der.specs.Tag.{class, number, tagOf, wrapperOctet}
 use Rattle.der.specs.Header.{insideAt}
-use Rattle.der.specs.Contents.{legal}
+use Rattle.der.specs.Legal.{legal}
 use Rattle.der.specs.Order.{notAbove}
 use Rattle.der.specs.declared.Inside.{Inside}
 use Rattle.rows.specs.Row.{rowAt, kindAt, namedAt, modeAt, numberAt, presenceAt, defaultAt}
