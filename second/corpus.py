@@ -13,6 +13,7 @@ import sys
 from collections import Counter
 
 import corpus_bits
+import corpus_names
 import draw
 import engine
 import questions
@@ -68,7 +69,7 @@ def hostile():
 
 
 def tables():
-    """All tables, each once."""
+    """All tables up to Q-2, each once."""
     found = dict.fromkeys(hostile().values())
     found.update(dict.fromkeys(case.inputs[0] for case in written.cases(LONGEST, written.BASE) if case.entry == "table"))
     for count, drawer, way in ((EDGES, draw.CaseDrawer(41), "edge"), (SMALL, draw.CaseDrawer(42), "of"),
@@ -123,7 +124,7 @@ def hostile_values():
 
 
 def value_cases():
-    """Tables and values, each pair once."""
+    """Tables and values up to Q-2, each pair once."""
     found = dict.fromkeys(hostile_values().values())
     found.update(dict.fromkeys(case.inputs for case in written.cases(LONGEST_VALUE, written.BASE) if case.entry == "value"))
     edges, drawer = draw.CaseDrawer(51), draw.CaseDrawer(52)
@@ -168,18 +169,33 @@ def given(octets):
     return len(octets).to_bytes(2, "big") + octets
 
 
+def groups():
+    """Tables, values, parts and questions: those up to Q-2, and after all of them those about names (Q-3), so that each case stays where it stands."""
+    several = tables(), value_cases(), parts(), questions.subjects(hostile_values().values())
+    yield several
+    earlier = set(several[0]), set(several[1])
+    yield ([table for table in corpus_names.tables() if table not in earlier[0]], [both for both in corpus_names.values() if both not in earlier[1]], [],
+           questions.name_subjects(several[3]))
+
+
 def cases():
     """What the program reads and prints, case by case: its kind, its octets and its line."""
-    for table in tables():
+    for group in groups():
+        yield from cases_of(*group)
+
+
+def cases_of(several_tables, several_values, several_parts, subjects):
+    """The cases of these tables, values, parts and questions."""
+    for table in several_tables:
         yield "t", b"t" + given(table), "%s %d\n" % engine.check_table(table)
-    for table, value in value_cases():
+    for table, value in several_values:
         line = " ".join(str(word) for word in engine.check_value(table, value)) + "\n"
         yield "v", b"v" + given(table) + given(value), line
-    for value, place, length in parts():
+    for value, place, length in several_parts:
         answer = engine.part(value, place, length)
         line = "refused %d\n" % answer[1] if answer[0] == "refused" else "part %s\n" % answer[1].hex().upper()
         yield "p", b"p" + given(value) + place.to_bytes(8, "big") + length.to_bytes(8, "big"), line
-    for (table, value), asked in questions.subjects(hostile_values().values()).items():
+    for (table, value), asked in subjects.items():
         head = b"q" + given(table) + given(value) + len(asked).to_bytes(2, "big")
         for question in asked:
             yield question[0], head + questions.octets_of(question), questions.answered(table, value, question)

@@ -1,17 +1,19 @@
-"""DER headers and contents, from the section "Stored value" of document 01 and from Q-2 of document 02."""
+"""DER headers and contents, from the section "Stored value" of document 01 and from Q-2 and Q-3 of document 02."""
 
 import calendar
 import re
 
-# Kinds of rows, as numbered in the section "Type table" and in Q-2.
+# Kinds of rows, as numbered in the section "Type table", in Q-2 and in Q-3.
 BOOLEAN, INTEGER, ENUMERATED, NULL, OBJECT_IDENTIFIER, OCTET_STRING = 1, 2, 3, 4, 5, 6
 BIT_STRING, UTF8_STRING, PRINTABLE_STRING, IA5_STRING, GENERALIZED_TIME = 7, 8, 9, 10, 11
 SEQUENCE, CHOICE, SEQUENCE_OF, SET_OF, MEMBER = 12, 13, 14, 15, 16
 NAMED_BIT_STRING, BIT_NAME = 17, 18
+RDN_SEQUENCE, RELATIVE_NAME = 19, 20
 
 STRING_KINDS = (UTF8_STRING, PRINTABLE_STRING, IA5_STRING)
 LIST_KINDS = (SEQUENCE_OF, SET_OF)
 BIT_KINDS = (BIT_STRING, NAMED_BIT_STRING)
+NAME_KINDS = (RDN_SEQUENCE, RELATIVE_NAME)
 # Rows that only follow another, by the kinds that they follow. All other rows are of types.
 FOLLOWERS = {SEQUENCE: MEMBER, CHOICE: MEMBER, NAMED_BIT_STRING: BIT_NAME}
 
@@ -22,8 +24,14 @@ UNIVERSAL_NUMBER = {
     BOOLEAN: 1, INTEGER: 2, ENUMERATED: 10, NULL: 5, OBJECT_IDENTIFIER: 6, OCTET_STRING: 4,
     BIT_STRING: 3, UTF8_STRING: 12, PRINTABLE_STRING: 19, IA5_STRING: 22,
     GENERALIZED_TIME: 24, SEQUENCE: 16, SEQUENCE_OF: 16, SET_OF: 17, NAMED_BIT_STRING: 3,
+    RDN_SEQUENCE: 16, RELATIVE_NAME: 17,
 }
-CONSTRUCTED_KINDS = (SEQUENCE, SEQUENCE_OF, SET_OF)
+# The kinds whose values hold values of other rows, and all those that have the constructed bit in their tag.
+NESTED_KINDS = (SEQUENCE, SEQUENCE_OF, SET_OF)
+CONSTRUCTED_KINDS = NESTED_KINDS + NAME_KINDS
+
+# Q-3: 0 to 16 RDNs, with 1 to 4 pairs in one.
+MOST_RDNS, MOST_PAIRS = 16, 4
 
 PRINTABLE = re.compile(rb"[A-Za-z0-9 '()+,\-./:=?]*")
 TIME = re.compile(r"([0-9]{4})([0-9]{2})([0-9]{2})([0-9]{2})([0-9]{2})([0-9]{2})"
@@ -165,8 +173,58 @@ def read_time(contents):
     return time
 
 
+def in_set_order(encodings):
+    """Whether the elements of a SET OF are in X.690 order: whole encodings, the shorter as if padded with zero octets; equals may repeat."""
+    longest = max(map(len, encodings), default=0)
+    padded = [encoding.ljust(longest, b"\0") for encoding in encodings]
+    return padded == sorted(padded)
+
+
+def split(contents):
+    """The values that stand one after another in the contents: the tag octet, the contents and the whole encoding of each."""
+    found, place = [], 0
+    while place < len(contents):
+        tag, start, stop = read_header(contents, place, len(contents))
+        found.append((tag, contents[start:stop], contents[place:stop]))
+        place = stop
+    return found
+
+
+def read_pair(contents):
+    """AttributeTypeAndValue: an OBJECT IDENTIFIER and one string of the three kinds; the type's arcs and the value's text."""
+    inner = split(contents)
+    if len(inner) != 2 or inner[0][0] != UNIVERSAL_NUMBER[OBJECT_IDENTIFIER]:
+        raise Bad("attribute type and value")
+    for kind in STRING_KINDS:
+        if inner[1][0] == UNIVERSAL_NUMBER[kind]:
+            return read_oid(inner[0][1]), read_string(kind, inner[1][1])
+    raise Bad("attribute value")
+
+
+def read_rdn(contents):
+    """RelativeDistinguishedName: a SET OF 1 to 4 pairs, as a list."""
+    pairs = split(contents)
+    if not 1 <= len(pairs) <= MOST_PAIRS:
+        raise Bad("pairs")
+    if any(tag != tag_octet(UNIVERSAL, True, UNIVERSAL_NUMBER[SEQUENCE]) for tag, _, _ in pairs):
+        raise Bad("pair")
+    if not in_set_order([encoding for _, _, encoding in pairs]):
+        raise Bad("SET OF order")
+    return [read_pair(inner) for _, inner, _ in pairs]
+
+
+def read_rdns(contents):
+    """RDNSequence: a SEQUENCE OF 0 to 16 RDNs, as a list."""
+    rdns = split(contents)
+    if len(rdns) > MOST_RDNS:
+        raise Bad("RDNs")
+    if any(tag != tag_octet(UNIVERSAL, True, UNIVERSAL_NUMBER[RELATIVE_NAME]) for tag, _, _ in rdns):
+        raise Bad("RDN")
+    return [read_rdn(inner) for _, inner, _ in rdns]
+
+
 def read_contents(kind, contents):
-    """The value that the contents octets of a kind 1..11 or 17 stand for, or Bad."""
+    """The value that the contents octets of a kind 1..11, 17, 19 or 20 stand for, or Bad."""
     if kind == BOOLEAN:
         return read_boolean(contents)
     if kind in (INTEGER, ENUMERATED):
@@ -187,4 +245,8 @@ def read_contents(kind, contents):
         return read_string(kind, contents)
     if kind == GENERALIZED_TIME:
         return read_time(contents)
+    if kind == RDN_SEQUENCE:
+        return read_rdns(contents)
+    if kind == RELATIVE_NAME:
+        return read_rdn(contents)
     raise Bad("no contents of this kind")

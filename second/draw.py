@@ -15,6 +15,7 @@ import table as types
 import value as values
 from draw_bits import BitDrawer
 from draw_forms import FormDrawer
+from draw_names import NameDrawer
 from draw_text import TextDrawer
 
 
@@ -55,11 +56,13 @@ class Case:
 
 
 class CaseDrawer:
-    """Draws one case after another from a seed, with named BIT STRINGs (Q-2 of document 02) on request."""
+    """Draws one case after another from a seed, with named BIT STRINGs (Q-2 of document 02) on request, or with them and names (Q-3)."""
 
-    def __init__(self, seed, limits=SMALL, bits=False):
-        self.dice, self.limits, self.bits = random.Random(seed), limits, bits
-        self.edges = BitDrawer(self.dice) if bits else FormDrawer(self.dice)
+    def __init__(self, seed, limits=SMALL, bits=False, names=False):
+        self.dice, self.limits = random.Random(seed), limits
+        self.edges = (NameDrawer if names else BitDrawer if bits else FormDrawer)(self.dice)
+        self.leaves = draw_types.LEAVES_WITH_NAMES if names else draw_types.LEAVES_WITH_BITS if bits else draw_types.LEAVES
+        self.rules = rules.RULES if names else rules.BASE_RULES
 
     def case(self):
         """One case of any entry; small ones are often close to the edge of a sentence."""
@@ -90,7 +93,7 @@ class CaseDrawer:
         least = dice.choice([0, 0, 40, 80, 80, 120])
         while True:
             room = 20 if dice.random() < 0.1 else dice.randint(100, limits.table)
-            root = draw_types.TypeDrawer(dice, room, limits.deepest, self.bits).type()
+            root = draw_types.TypeDrawer(dice, room, limits.deepest, self.leaves).type()
             rows = draw_types.lay_out(dice, root, dice.random() < 0.05)
             octets = draw_types.table_octets(rows)
             if len(rows) > limits.rows or not least <= len(octets) <= limits.table:
@@ -128,9 +131,9 @@ class CaseDrawer:
         """A drawer of texts for this table and value, or for one that is admitted."""
         try:
             rows = types.Table(table)
-            return TextDrawer(self.dice, rows, values.decode(rows, value))
+            return TextDrawer(self.dice, rows, values.decode(rows, value), self.rules)
         except types.NotAdmitted:
-            return TextDrawer(self.dice, types.Table(b"\x02"), None)
+            return TextDrawer(self.dice, types.Table(b"\x02"), None, self.rules)
 
     def table(self, where):
         """Inputs of the table check."""
@@ -201,8 +204,8 @@ class CaseDrawer:
 
 
 def corpus(seed, count, limits=SMALL):
-    """The first `count` cases of a seed, with named BIT STRINGs among them."""
-    drawer = CaseDrawer(seed, limits, bits=True)
+    """The first `count` cases of a seed, with named BIT STRINGs and names among them."""
+    drawer = CaseDrawer(seed, limits, names=True)
     return [drawer.case() for _ in range(count)]
 
 
@@ -246,6 +249,9 @@ def coverage(cases):
                     seen["rule says", rule.name + " " + answer[1]] += 1
                     if rule.read is rules.bits_of and answer[1] == "TRUE" and table.rows[target_of(table, item)].kind == der.NAMED_BIT_STRING:
                         seen["bits", "names" if item.value[0] == "{" else "digits"] += 1
+                    if rule in rules.NAME_RULES and answer[1] == "TRUE":
+                        for sign in "\\,+":
+                            seen["name", "with " + sign if sign in item.value else "without " + sign] += 1
         if case.entry == "list":
             for source, _, _ in case.answer[1]:
                 seen["source", source] += 1
@@ -260,7 +266,8 @@ def wanted():
                "ask": ["TRUE", "FALSE", "UNDEFINED"] + ["refused %d" % n for n in range(1, 6)],
                "list": ["listed"] + ["refused %d" % n for n in (1, 2, 3, 4, 6)]}
     things = [(entry, answer) for entry, several in answers.items() for answer in several]
-    things += [("kind", kind) for kind in range(1, 19)] + [("bits", way) for way in ("names", "digits")]
+    things += [("kind", kind) for kind in range(1, 21)] + [("bits", way) for way in ("names", "digits")]
+    things += [("name", way + sign) for way in ("with ", "without ") for sign in "\\,+"]
     things += [("tag mode", mode) for mode in range(3)] + [("presence", n) for n in range(3)]
     things += [("source", n) for n in range(3)] + [("untagged CHOICE", "member")]
     things += [("rule", rule.name) for rule in rules.RULES] + [("rule", "unknown")]

@@ -1,10 +1,12 @@
 """Drawn references and filter texts for one table and value."""
 
 import der
+import name_text
 import reference
 import rules
 import table as types
 from draw_values import TIMES, WORDS
+from samples import quoted
 
 ODD_REFERENCES = ["", ".", "*", "0", "1", "(1)", "content", "01", "-0", "+1", " a", "a.", ".a", "A",
                   "a..b", "a--b", "a-", "\u00e9", "--1", "-", "00", "a b", "1.", "*.*", "x(2.5)"]
@@ -28,10 +30,10 @@ def time_text(time):
 
 
 class TextDrawer:
-    """Draws for an admitted table, and for the tree of a value of it or None."""
+    """Draws for an admitted table, and for the tree of a value of it or None; now and then a rule of these that may not fit."""
 
-    def __init__(self, dice, table, tree):
-        self.dice, self.table, self.tree = dice, table, tree
+    def __init__(self, dice, table, tree, any_rules=rules.BASE_RULES):
+        self.dice, self.table, self.tree, self.any_rules = dice, table, tree, any_rules
 
     def reference(self):
         """An allowed reference and the type it ends at, often the one of several that names most."""
@@ -120,7 +122,7 @@ class TextDrawer:
         if odd < 0.04:
             shown = dice.choice(ODD_RULES)
         elif odd < 0.08:
-            shown = self.rule_text(dice.choice(rules.RULES))
+            shown = self.rule_text(dice.choice(self.any_rules))
         elif odd < 0.12:
             asserted = dice.choice(ODD_VALUES)
         elif odd < 0.17:
@@ -169,6 +171,8 @@ class TextDrawer:
                 digits = [format(int(bits[at:at + 4], 2), "X") for at in range(0, len(bits), 4)]
                 return "'" + "".join(digits) + "'H"
             return "'" + bits + "'B"
+        if rule in rules.NAME_RULES:
+            return self.name(rule, stored, near)
         if rule.read is rules.time_of:
             time = dice.choice(TIMES) if stored is None or near else time_text(stored)
             return '"' + time + '"'
@@ -197,6 +201,18 @@ class TextDrawer:
         dice = self.dice
         names = dice.sample(names, len(names)) + (dice.choices(names, k=dice.choice([0, 0, 0, 1, 2])) if names else [])
         return "{" + self.sp() + ("," + self.sp()).join(names) + self.sp() + "}"
+
+    def name(self, rule, stored, near):
+        """A name or an RDN as an RFC 4514 string, perhaps close to what is stored."""
+        dice = self.dice
+        whole = rule.read is rules.name_of
+        if near and dice.random() < 0.2:
+            return quoted(dice.choice(name_text.ODD_NAMES))
+        rdns = [[((2, 5, 4, 3), "a")]] if stored is None else stored if whole else [stored]
+        if near:
+            rdns = name_text.near_name(dice, rdns) if whole else [name_text.near_rdn(dice, rdns[0])]
+        rdns = [[(arcs, name_text.like(dice, string)) for arcs, string in rdn] for rdn in rdns]
+        return quoted(name_text.name_text(dice, rdns))
 
     def string(self, stored, near):
         """A quoted string, perhaps with spaces or letters changed."""

@@ -8,9 +8,10 @@ NAMES = ["a", "b", "c", "d", "n1", "xY", "x-y", "a-b-c", "content", "value", "it
          "abcdefghijklmnopqrstuvwx", "b-0", "seats"]
 INTEGERS = [0, 1, -1, 2, 3, 5, 127, 128, -128, -129, 255, 256, 32767, 32768, -32768,
             2 ** 31, 2 ** 32, 2 ** 63 - 1, -2 ** 63]
-# The kinds without inner types, as often as they are drawn, and as often with named BIT STRINGs among them.
+# The kinds without inner types, as often as they are drawn, and as often with named BIT STRINGs and with names among them.
 LEAVES = [1, 1, 2, 2, 2, 3, 4, 5, 6, 6, 7, 8, 9, 10, 11, 11]
 LEAVES_WITH_BITS = LEAVES + [der.NAMED_BIT_STRING] * 10 + [der.BIT_STRING] * 2
+LEAVES_WITH_NAMES = LEAVES_WITH_BITS + [der.RDN_SEQUENCE] * 10 + [der.RELATIVE_NAME] * 10
 BIT_NAMES = ["print", "perform", "record", "a", "ab", "aB", "a-b", "printing", "prin", "x9", "content",
              "abcdefghijklmnopqrstuvwx", "abcdefghijklmnopqrstuvwy"]
 BIT_NUMBERS = [0, 0, 1, 1, 2, 3, 6, 7, 8, 9, 15, 16, 31, 32, 62, 63]
@@ -57,11 +58,11 @@ def integer_octets(number):
 
 
 class TypeDrawer:
-    """Draws types within a number of octets for their table, with named BIT STRINGs on request."""
+    """Draws types within a number of octets for their table, from these leaves."""
 
-    def __init__(self, dice, room, deepest, bits=False):
+    def __init__(self, dice, room, deepest, leaves=tuple(LEAVES)):
         self.dice, self.room, self.deepest, self.made = dice, room, deepest, []
-        self.leaves = LEAVES_WITH_BITS if bits else LEAVES
+        self.leaves = leaves
 
     def type(self, depth=0):
         """One type; a finished one may be used again."""
@@ -184,6 +185,8 @@ def table_octets(rows):
 
 def break_rows(dice, rows):
     """Break one condition of the table in place; the name of the break."""
+    if any(kind in der.NAME_KINDS for kind, _ in rows) and dice.random() < 0.6:
+        return break_names(dice, rows)
     if any(kind == der.BIT_NAME for kind, _ in rows) and dice.random() < 0.7:
         return break_bits(dice, rows)
     members = [body for kind, body in rows if kind == 16]
@@ -271,4 +274,41 @@ def break_bits(dice, rows):
         pointer = dice.choice(pointers)
         place = 24 if len(pointer) == 38 else 0
         pointer[place:place + 2] = dice.choice([at, dice.choice(lists)]).to_bytes(2, "big")
+    return what
+
+
+def break_names(dice, rows):
+    """Break one condition around rows of kinds 19 and 20 in place, or come close to it; the name of the break."""
+    names = [at for at, (kind, _) in enumerate(rows) if kind in der.NAME_KINDS]
+    members = [at for at, (kind, _) in enumerate(rows) if kind == der.MEMBER]
+    pointers = [body for kind, body in rows if kind in (14, 15, 16)]
+    what = dice.choice(["kind", "kind", "body", "more", "chain"] + ["default", "between", "tags", "tags", "optional"] * bool(members)
+                       + ["points", "leaf"] * bool(pointers))
+    at = dice.choice(names)
+    body = rows[dice.choice(members)][1] if members else None
+    if what == "kind":
+        rows[at][0] = dice.choice([0, 12, 13, 14, 15, 16, 17, 18, 19, 20, 21])
+    elif what == "body":
+        rows[at][1].extend(dice.choice([b"\0", b"\1", b"\2", b"\x13", b"\x14", b"\0\1"]))
+    elif what == "more":
+        rows.insert(dice.randint(0, len(rows)), [dice.choice(der.NAME_KINDS), bytearray()])
+    elif what == "chain":
+        size, first = dice.choice([15, 16, 16, 17]), dice.choice([0, 1])
+        rows[:] = [[dice.choice([14, 15]), bytearray((first + row + 1).to_bytes(2, "big"))] for row in range(size)]
+        rows[:0] = [[2, bytearray()]] * first
+        rows.append([dice.choice(der.NAME_KINDS), bytearray()])
+    elif what == "default":
+        body[24:26], body[28:30], body[30] = at.to_bytes(2, "big"), bytes([2, 1]), dice.choice([0, 1, 255])
+    elif what == "between":
+        rows.insert(dice.choice(members), [dice.choice(der.NAME_KINDS), bytearray()])
+    elif what == "tags":
+        body[24:28] = at.to_bytes(2, "big") + dice.choice([b"\0\0", b"\0\0", b"\2\0", b"\1\0"])
+    elif what == "optional":
+        body[24:26], body[28] = at.to_bytes(2, "big"), 1
+    elif what == "points":
+        pointer = dice.choice(pointers)
+        place = 24 if len(pointer) == 38 else 0
+        pointer[place:place + 2] = dice.choice([at, at, at + 1, len(rows)]).to_bytes(2, "big")
+    else:
+        rows[dice.choice([place for place, (kind, _) in enumerate(rows) if kind not in (12, 13, 14, 15, 16, 17, 18)])][0] = dice.choice(der.NAME_KINDS)
     return what

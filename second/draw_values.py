@@ -9,6 +9,9 @@ WORDS = {der.UTF8_STRING: ["a", "B", " ", "e", "\u00e9", "\u20ac", "{", '"', "}"
          der.IA5_STRING: ["a", "A", " ", '"', "}", "@", "\x7f", "_"]}
 TIMES = ["20240229120000Z", "20231231235960Z", "00000101000000Z", "20000229000000.5Z",
          "20240301000000.000000001Z", "99991231235959.25Z", "19000228235959Z"]
+TYPES = ["2.5.4.3", "2.5.4.3", "2.5.4.3", "2.5.4.6", "2.5.4.10", "2.5", "0.0", "1.39.1", "2.40", "2.999", "2.5.4.4294967295"]
+NAME_WORDS = ["", "a", "A", "b", "a b", " a", "a  B", "+", ",", "a=b", "#a", "\\"]
+WIDE_WORDS = ["\u00e9", "\u00c9", "\u20ac", "a\"", "<", "\0", "a#"]
 BAD_TIMES = ["20230229120000Z", "19000229000000Z", "20240101240000Z", "20240101006000Z",
              "20240101000061Z", "20240101000000.50Z", "20240101000000.Z", "20240101000000",
              "20241301000000Z", "20240100000000Z", "20240431000000Z", "20240101000000.0123456789Z"]
@@ -111,7 +114,7 @@ class ValueDrawer:
         return self.encode(member.type, member.number if member.mode == 2 else None, unlike)
 
     def contents(self, kind, names=()):
-        """Contents octets of a kind 1..11 or 17; `names` are the names and numbers of bits."""
+        """Contents octets of a kind 1..11, 17, 19 or 20; `names` are the names and numbers of bits."""
         dice = self.dice
         if kind in BAD_CONTENTS and self.spoil("contents"):
             return bytes.fromhex(dice.choice(BAD_CONTENTS[kind]))
@@ -135,10 +138,37 @@ class ValueDrawer:
             if dice.random() < 0.25:
                 ones ^= 1 << dice.randrange(64)
             return bits_without_zeros(ones.to_bytes(8, "big") + (b"\1" if dice.random() < 0.04 else b""))
+        if kind == der.RDN_SEQUENCE:
+            count = dice.choice([16, 17]) if self.longest > 50 and dice.random() < 0.2 else dice.choice([0, 1, 1, 2, 2, 3])
+            return b"".join(self.header(0x31, self.rdn()) for _ in range(17 if self.spoil("contents") else count))
+        if kind == der.RELATIVE_NAME:
+            return self.rdn()
         if kind == der.GENERALIZED_TIME:
             return dice.choice(BAD_TIMES if self.spoil("contents") else TIMES).encode()
         return "".join(dice.choice(WORDS[kind])
                        for _ in range(dice.randint(0, self.longest))).encode("utf-8")
+
+    def rdn(self):
+        """Contents octets of an RDN; its pairs are in order."""
+        dice = self.dice
+        pairs = [self.pair() for _ in range(dice.choice([0, 5]) if self.spoil("missing") else dice.choice([1, 1, 1, 1, 2, 2, 3, 4]))]
+        if dice.random() < 0.1:
+            pairs[1:2] = pairs[:1]
+        return b"".join(sorted(pairs, reverse=self.spoil("order")))
+
+    def pair(self):
+        """An attribute type and value."""
+        dice, kind = self.dice, self.dice.choice(der.STRING_KINDS)
+        first, second, *others = (int(arc) for arc in dice.choice(TYPES).split("."))
+        oid = b"".join(subidentifier_octets(number) for number in [40 * first + second, *others])
+        oid = bytes.fromhex(dice.choice(BAD_CONTENTS[der.OBJECT_IDENTIFIER])) if self.spoil("contents") else oid
+        string = dice.choice(NAME_WORDS + WIDE_WORDS if kind == der.UTF8_STRING else NAME_WORDS)
+        string = string if kind != der.PRINTABLE_STRING else "".join(one for one in string if one not in "#\\")
+        value = bytes.fromhex(dice.choice(BAD_CONTENTS[kind])) if self.spoil("contents") else string.encode("utf-8")
+        inner = [self.header(6, oid), self.header(der.UNIVERSAL_NUMBER[kind], value)]
+        if self.spoil("missing"):
+            del inner[dice.randrange(2)]
+        return self.header(0x30, b"".join(inner) + (dice.choice([b"\0", b"\5\0", b"\x0c\0"]) if self.spoil("extra") else b""))
 
 
 def break_octets(dice, octets):

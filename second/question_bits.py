@@ -163,7 +163,7 @@ def zeros(found):
 def other_rules(found):
     """Each rule on a named BIT STRING; bitStringMatch with names on each other kind, on a count, on a CHOICE, a SEQUENCE and lists."""
     table, value = of(14, 1) + NAMED, of_bits(["1", "11", ""])
-    for rule in rules.RULES:
+    for rule in rules.BASE_RULES:
         for text in (rule.oid, rule.name, rule.name.upper(), rule.name + "x"):
             for asserted in (ANY_TEXT[rule.read], "{print}"):
                 found.filter(table, value, item("*", text, asserted))

@@ -71,7 +71,7 @@ def accepted(found):
     """Each value text of a kind, conforming or not, against each stored value of that kind, and against all."""
     for kind, texts in TEXTS.items():
         table, value = listed_values(kind)
-        for rule in rules.RULES:
+        for rule in rules.BASE_RULES:
             if kind not in rule.kinds:
                 continue
             for text in texts:
@@ -100,7 +100,7 @@ def by_name_and_number(found):
     subjects += [(strings, tlv(0x30, leaf(9, b"A")), "1"), (strings, tlv(0x30, leaf(9, b"A")), "0"),
                  (LICENCE, RECORD, None), (LICENCE, RECORD, "parts"), (LICENCE, RECORD, "parts.0")]
     for table, value, component in subjects:
-        for rule in rules.RULES:
+        for rule in rules.BASE_RULES:
             several = writings(rule, found.dice)
             for text in several[:2] + found.dice.sample(several[2:], 6):
                 found.filter(table, value, item(component, text, ANY_TEXT[rule.read]))

@@ -6,7 +6,7 @@ import der
 import rules
 import written
 from preparation import LAST, image, prepared
-from samples import choice, item, leaf, member, of, tlv
+from samples import choice, item, leaf, member, of, quoted, tlv
 
 CHARACTERS = [chr(code) for code in range(ord(LAST) + 1)]
 # caseExactMatch and caseIgnoreMatch, with whether they fold.
@@ -33,11 +33,6 @@ LISTS, FILTERS = 60, 20
 def text_of(character, fold):
     """The image of a character as a text."""
     return "".join(one for one, _ in image(character, fold))
-
-
-def quoted(string):
-    """A string as a value text."""
-    return '"%s"' % string.replace('"', '""')
 
 
 def of_strings(strings, kind=der.UTF8_STRING):

@@ -1,7 +1,7 @@
 """Listings and filters for crates/cases: tables and values, each with what is asked about it.
 
-Like corpus.py this module and those that it draws on, question_filters.py, question_places.py, question_strings.py and
-question_bits.py, choose cases; engine.py answers them.
+Like corpus.py this module and those that it draws on, question_filters.py, question_places.py, question_strings.py, question_bits.py and
+question_names.py, choose cases; engine.py answers them.
 """
 
 import random
@@ -11,6 +11,7 @@ import draw_values
 import engine
 import question_bits
 import question_filters
+import question_names
 import question_places
 import question_strings
 import written
@@ -124,9 +125,9 @@ def edges(found, seed):
         asked += 1
 
 
-def drawn(found, seed, limits, subjects, filters, listings, where=("none",), bits=False):
+def drawn(found, seed, limits, subjects, filters, listings, where=("none",), bits=False, names=False):
     """Drawn tables with drawn values, and so many drawn filters and listings about each."""
-    drawer = draw.CaseDrawer(seed, limits, bits)
+    drawer = draw.CaseDrawer(seed, limits, bits, names)
     dice = drawer.dice
     for _ in range(subjects):
         table, value = drawer.both(dice.choice(where))
@@ -147,7 +148,7 @@ def drawn(found, seed, limits, subjects, filters, listings, where=("none",), bit
 
 
 def subjects(hostile):
-    """All tables and values with their questions: a dict from (table, value) to a list of questions."""
+    """All tables and values with their questions up to Q-2: a dict from (table, value) to a list of questions."""
     found = Questions(81)
     of_the_paper(found)
     of_the_tests(found)
@@ -163,6 +164,17 @@ def subjects(hostile):
     drawn(found, 87, draw.SMALL, 40, 2, 1, ("table", "value", "value", "value"), bits=True)
     drawn(found, 88, draw.LARGE, 8, 6, 3, bits=True)
     return {subject: list(asked) for subject, asked in found.of.items()}
+
+
+def name_subjects(earlier):
+    """Those about names (Q-3), likewise, without questions that stand among the earlier ones."""
+    found = Questions(91)
+    question_names.ask(found)
+    drawn(found, 92, draw.SMALL, 36, 5, 2, names=True)
+    drawn(found, 93, draw.SMALL, 20, 2, 1, ("table", "value", "value", "value"), names=True)
+    drawn(found, 94, draw.LARGE, 5, 5, 2, names=True)
+    left = {subject: [question for question in asked if question not in earlier.get(subject, ())] for subject, asked in found.of.items()}
+    return {subject: asked for subject, asked in left.items() if asked}
 
 
 def answered(table, value, question):

@@ -22,7 +22,7 @@ class Named:
     """A named value: the three numbers of the listing, and what a rule is applied to.
 
     `row` is the type row (COUNT_TYPE for a count). `held` is the decoded contents for kinds
-    1..11 and 17 and for a CHOICE of them, the number for a count, and None otherwise.
+    1..11, 17, 19 and 20 and for a CHOICE of them, the number for a count, and None otherwise.
     """
 
     source: int
@@ -117,7 +117,7 @@ def _content(table, node):
     kind = table.rows[node.row].kind
     if kind == der.CHOICE:
         return _content(table, node.held[1])
-    return None if kind in der.CONSTRUCTED_KINDS else node.held
+    return None if kind in der.NESTED_KINDS else node.held
 
 
 class Walk:
@@ -232,14 +232,14 @@ class Walk:
                 yield from self._along(element, first, last, None, steps[1:])
 
     def _content(self, row, place, end, number):
-        """The decoded contents of a kind 1..11 or 17, or of the alternative of a CHOICE."""
+        """The decoded contents of a kind 1..11, 17, 19 or 20, or of the alternative of a CHOICE."""
         kind = self.table.rows[row].kind
         if kind == der.CHOICE:
             member = self._chosen(row, place, end)
             own, limit, inner, _ = self._entered(member, place, end)
             return self._content(self.table.rows[member].points, own, limit, inner)
         start, stop = self._header(row, place, end, number)
-        if kind in der.CONSTRUCTED_KINDS:
+        if kind in der.NESTED_KINDS:
             return None
         try:
             return der.read_contents(kind, self.octets[start:stop])

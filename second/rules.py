@@ -5,15 +5,16 @@ from dataclasses import dataclass
 from typing import Callable
 
 import der
+import names
 import table as types
+from dotted import OID_TEXT, arcs_of
 from preparation import prepared
 from reference import COUNT_TYPE
 
 INTEGER_TEXT = re.compile(r"0|-?[1-9][0-9]*")
-OID_TEXT = re.compile(r"(?:[01]\.(?:[0-9]|[123][0-9])|2\.(?:0|[1-9][0-9]*))(?:\.(?:0|[1-9][0-9]*))*")
 OCTETS_TEXT = re.compile(r"'((?:[0-9A-F]{2})*)'H")
 BITS_TEXT = re.compile(r"'(?:([01]*)'B|([0-9A-F]*)'H)")
-STRING_TEXT = re.compile(r'"((?:[^"]|"")+)"')
+STRING_TEXT = re.compile(r'"((?:[^"]|"")*)"')
 RULE_NAME = re.compile(r"[A-Za-z][A-Za-z0-9-]*")
 
 # The asserted value of a text that does not conform.
@@ -37,9 +38,7 @@ def integer_of(text):
 
 def oid_of(text):
     """OIDs are dotted, two arcs or more, first 0..2, second below 40 under 0 and 1."""
-    if not OID_TEXT.fullmatch(text):
-        return NOT_CONFORMING
-    return tuple(int(arc) for arc in text.split("."))
+    return arcs_of(text) if OID_TEXT.fullmatch(text) else NOT_CONFORMING
 
 
 def octets_of(text):
@@ -75,10 +74,29 @@ def named_bits_of(text, numbers):
     return "".join("1" if number in ones else "0" for number in range(max(ones, default=-1) + 1))
 
 
+def unquoted(text):
+    """What stands in a quoted text, `""` for a quote, or None."""
+    match = STRING_TEXT.fullmatch(text)
+    return match.group(1).replace('""', '"') if match else None
+
+
 def string_of(text):
     """Strings: quoted, `""` for a quote, at least one character."""
-    match = STRING_TEXT.fullmatch(text)
-    return match.group(1).replace('""', '"') if match else NOT_CONFORMING
+    return unquoted(text) or NOT_CONFORMING
+
+
+def name_of(text):
+    """Names (Q-3): quoted RFC 4514 strings with dotted attribute types, within Q-3's limits."""
+    string = unquoted(text)
+    name = None if string is None else names.name_of(string)
+    return NOT_CONFORMING if name is None else name
+
+
+def rdn_of(text):
+    """The same of exactly one RDN."""
+    string = unquoted(text)
+    rdn = None if string is None else names.rdn_of(string)
+    return NOT_CONFORMING if rdn is None else rdn
 
 
 def time_of(text):
@@ -126,7 +144,8 @@ class Rule:
 
 
 ANY = ()
-RULES = (
+# The rules of document 01, and those that Q-3 adds.
+BASE_RULES = (
     Rule("presentMatch", "1.2.36.79672281.1.13.5", ANY, null_of, always),
     Rule("booleanMatch", "2.5.13.13", (der.BOOLEAN,), boolean_of, equal),
     Rule("integerMatch", "2.5.13.14", (der.INTEGER,), integer_of, equal),
@@ -140,6 +159,11 @@ RULES = (
     Rule("generalizedTimeMatch", "2.5.13.27", (der.GENERALIZED_TIME,), time_of, equal),
     Rule("generalizedTimeOrderingMatch", "2.5.13.28", (der.GENERALIZED_TIME,), time_of, less),
 )
+NAME_RULES = (
+    Rule("distinguishedNameMatch", "2.5.13.1", (der.RDN_SEQUENCE,), name_of, names.same_name),
+    Rule("rdnMatch", "1.2.36.79672281.1.13.3", (der.RELATIVE_NAME,), rdn_of, names.same_rdn),
+)
+RULES = BASE_RULES + NAME_RULES
 BY_TEXT = {rule.oid: rule for rule in RULES} | {rule.name.lower(): rule for rule in RULES}
 
 

@@ -39,6 +39,33 @@ def bit_contents(bits):
     return bytes([unused]) + bytes(int(filled[at:at + 8], 2) for at in range(0, len(filled), 8))
 
 
+def oid_contents(text):
+    """Contents octets of a dotted OID."""
+    first, second, *others = (int(arc) for arc in text.split("."))
+    return b"".join(draw_values.subidentifier_octets(number) for number in [40 * first + second, *others])
+
+
+def pair(text, string, kind=der.UTF8_STRING):
+    """An attribute type and value: a dotted OID and a string, as a text or as octets."""
+    string = string.encode("utf-8") if isinstance(string, str) else string
+    return tlv(0x30, tlv(6, oid_contents(text)), leaf(kind, string))
+
+
+def rdn(*pairs):
+    """A RelativeDistinguishedName of these pairs, put in order."""
+    return tlv(0x31, *sorted(pairs))
+
+
+def name(*rdns):
+    """An RDNSequence."""
+    return tlv(0x30, *rdns)
+
+
+def quoted(string):
+    """A string as a value text."""
+    return '"%s"' % string.replace('"', '""')
+
+
 def of(kind, row):
     """A SEQUENCE OF (14) or SET OF (15) row."""
     return bytes([kind]) + row.to_bytes(2, "big")
@@ -119,3 +146,7 @@ def object_class(names=None, description=None, obsolete=None, mandatories=None):
 
 # The rights of a licence, from Q-2 of document 02.
 RIGHTS = (("print", 0), ("perform", 1), ("record", 2))
+
+# Tables of one row of kind 19 and of kind 20, from Q-3 of document 02, and X.520's types commonName, countryName and organizationName.
+NAME, RDN = bytes([der.RDN_SEQUENCE]), bytes([der.RELATIVE_NAME])
+CN, C, O = "2.5.4.3", "2.5.4.6", "2.5.4.10"

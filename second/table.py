@@ -19,12 +19,12 @@ NAME = re.compile(rb"([a-z][A-Za-z0-9]*(?:-[A-Za-z0-9]+)*)\x00*")
 
 BODY = {**{kind: 0 for kind in range(1, 12)},
         der.SEQUENCE: 1, der.CHOICE: 1, der.SEQUENCE_OF: 2, der.SET_OF: 2, der.MEMBER: 38,
-        der.NAMED_BIT_STRING: 1, der.BIT_NAME: 25}
+        der.NAMED_BIT_STRING: 1, der.BIT_NAME: 25, der.RDN_SEQUENCE: 0, der.RELATIVE_NAME: 0}
 FOLLOWING = frozenset(der.FOLLOWERS.values())
 
 
 class NotAdmitted(Exception):
-    """A condition of the section "Type table", or of Q-2 on rows 17 and 18, does not hold."""
+    """A condition of the section "Type table", or of Q-2 on rows 17 and 18, does not hold. Q-3 puts none on its rows 19 and 20."""
 
 
 def need(condition, what):

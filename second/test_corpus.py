@@ -1,5 +1,6 @@
 """Tests of the cases of crates/cases, read back from its files."""
 
+import hashlib
 import unittest
 from collections import Counter
 
@@ -8,12 +9,16 @@ import der
 import engine
 import filters
 import question_bits
+import question_names
 import question_strings
 import questions
 import reference
 import table as types
 import value as values
-from samples import LICENCE, RECORD, item, leaf
+from samples import LICENCE, NAME, RDN, RECORD, item, leaf
+
+# The cases up to Q-2, which stand first and stay as they are: the number of their octets and what these hash to.
+EARLIER = 7621207, "81f076a66690c82fe904757d95330bc913d0b746dabd1b07d82dda485b27efff"
 
 
 class Reader:
@@ -148,17 +153,48 @@ class Files(unittest.TestCase):
 
     def test_named_bits(self):
         """Tables, values and questions with rows of kind 17 or 18 stand in all answers."""
-        seen = Counter((kind, corpus.word_of(line)) for kind, inputs, line in self.cases if kind != "p" and self.has_bits(inputs[0]))
+        seen = Counter((kind, corpus.word_of(line)) for kind, inputs, line in self.cases
+                       if kind != "p" and self.has_rows(inputs[0], (der.NAMED_BIT_STRING, der.BIT_NAME)))
         for kind, words in (("t", ["admitted", "refused 2"]), ("v", ["good", "refused 4"]),
                             ("f", ["TRUE", "FALSE", "UNDEFINED", "refused 3", "refused 5"]), ("l", ["listed", "refused 3", "refused 6"])):
             for word in words:
                 self.assertGreaterEqual(seen[kind, word], 100, (kind, word))
 
-    def has_bits(self, octets):
-        """Whether the table holds a whole row of kind 17 or 18 that is where its rows begin."""
+    def test_names(self):
+        """Tables, values and questions with rows of kind 19, and those with rows of kind 20, stand in all answers."""
+        for row in der.NAME_KINDS:
+            seen = Counter((kind, corpus.word_of(line)) for kind, inputs, line in self.cases if kind != "p" and self.has_rows(inputs[0], (row,)))
+            for kind, words in (("t", ["admitted", "refused 2"]), ("v", ["good", "refused 4"]),
+                                ("f", ["TRUE", "FALSE", "UNDEFINED", "refused 3", "refused 5"]), ("l", ["listed", "refused 3", "refused 6"])):
+                for word in words:
+                    self.assertGreaterEqual(seen[kind, word], 25, (row, kind, word))
+
+    def test_asserted_names(self):
+        """Both rules accept and don't accept, by RFC 4514 strings with each character escaped that may be, and with hex pairs."""
+        seen = Counter()
+        for kind, inputs, line in self.cases:
+            if kind == "f" and line[0] in "TFU" and inputs[0] in (NAME, RDN, question_names.NAMES, question_names.RDNS):
+                text = inputs[2].decode()
+                found = [rule for rule in (question_names.WHOLE, question_names.ONE, "distinguishedNameMatch", "rdnMatch") if "rule %s," % rule in text]
+                if len(found) == 1 and text.startswith("item:"):
+                    seen.update((found[0], line[0], "\\" + sign) for sign in '\\"+,;<> #=' if "\\" + sign in text)
+                    seen[found[0], line[0], "of any kind"] += 1
+        for rule in (question_names.WHOLE, question_names.ONE):
+            for truth in "TFU":
+                self.assertGreaterEqual(seen[rule, truth, "of any kind"], 100)
+        for sign in '\\"+,;<> #=':
+            self.assertGreaterEqual(sum(seen[rule, "T", "\\" + sign] for rule, _, _ in [*seen]), 5, sign)
+
+    def test_earlier_cases_stay(self):
+        """What was there before Q-3 is there still, octet for octet, before the rest."""
+        octets = (corpus.FOLDER / "stdin").read_bytes()[:EARLIER[0]]
+        self.assertEqual((len(octets), hashlib.sha256(octets).hexdigest()), EARLIER)
+
+    def has_rows(self, octets, kinds):
+        """Whether the table holds a whole row of one of these kinds that is where its rows begin."""
         place = 0
         while place < len(octets) and octets[place] in types.BODY:
-            if octets[place] in (der.NAMED_BIT_STRING, der.BIT_NAME) and place + types.BODY[octets[place]] < len(octets):
+            if octets[place] in kinds and place + types.BODY[octets[place]] < len(octets):
                 return True
             place += 1 + types.BODY[octets[place]]
         return False

@@ -12,11 +12,12 @@ import table as types
 import value as values
 from bit_cases import Bits
 from edge_cases import Contents, Filters, Tables
+from name_cases import Names
 from preparation_cases import Preparation
 from rule_cases import Published, Rules
 from samples import LICENCE, RECORD, asked, item, listed, of, tlv
 
-__all__ = ["Bits", "Contents", "Filters", "Tables", "Preparation", "Published", "Rules"]
+__all__ = ["Bits", "Contents", "Filters", "Names", "Tables", "Preparation", "Published", "Rules"]
 
 COPIES = "parts.*.copies"
 

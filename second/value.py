@@ -10,7 +10,7 @@ import table as types
 class Node:
     """One decoded value: its type row, its own first octet, its whole length and what it holds.
 
-    `held` is the decoded contents of a kind 1..11 or 17, a dict from member row to Node for a
+    `held` is the decoded contents of a kind 1..11, 17, 19 or 20, a dict from member row to Node for a
     SEQUENCE, (alternative's row, Node) for a CHOICE, a list of Nodes for SEQUENCE OF, SET OF.
     """
 
@@ -108,10 +108,7 @@ class Decoder:
             place += node.length
             held.append(node)
         if self.table.rows[row].kind == der.SET_OF:
-            longest = max([node.length for node in held], default=0)
-            padded = [self.octets[node.place:node.place + node.length].ljust(longest, b"\0")
-                      for node in held]
-            if padded != sorted(padded):
+            if not der.in_set_order([self.octets[node.place:node.place + node.length] for node in held]):
                 raise der.Bad("SET OF order")
         return held
 
