@@ -1,6 +1,6 @@
 """Inputs that ask for much work: tables, values and filters at their limits. Every answer expected is the second program's."""
 
-from workloads import LONGEST_FILTER, LONGEST_VALUE, Question, bits, named_bits, samples
+from workloads import LONGEST_FILTER, LONGEST_VALUE, NAME_ROW, RDN_ROW, Question, attribute, bits, named_bits, rdn, samples
 
 choice, item, member, of, sequence, tlv = samples.choice, samples.item, samples.member, samples.of, samples.sequence, samples.tlv
 
@@ -9,6 +9,8 @@ NULL = tlv(5)
 PRESENT = item(None, "presentMatch", "NULL")
 DEEPEST = 16
 BIT_NAMES = [("m" * 23 + last, at) for at, last in enumerate("abcdefghijklmnop")]
+CN = "2.5.4.3"
+MOST_RDNS, MOST_PAIRS = 16, 4
 
 
 def asks(name, table, value, text=PRESENT):
@@ -191,7 +193,105 @@ def questions_of_nested_lists():
     yield asks("all-16-deep", rows, value, items(item(".".join("*" * (DEEPEST - 1)), "integerMatch", 2)))
 
 
+def pairs(values):
+    """An RDN of common names."""
+    return rdn(*(attribute(CN, value) for value in values))
+
+
+def holder(*values):
+    """A distinguished name of common names, stored in this order."""
+    return tlv(0x30, *(pairs([value]) for value in values))
+
+
+def text(values, between):
+    """The text of common names, in this order, with a comma or a plus between them."""
+    return between.join("%s=%s" % (CN, value) for value in values)
+
+
+def named(name, row, elements, asserted, many=False):
+    """One item or as many as fit, over a list of names or RDNs."""
+    one = item("*", "distinguishedNameMatch" if row == NAME_ROW else "rdnMatch", '"%s"' % asserted)
+    return asks(name, of(14, 1) + row, tlv(0x30, *elements), items(one) if many else one)
+
+
+def stored_holders():
+    """Names of as many RDNs and pairs as there may be; pairs that are long and alike, in order and out of order."""
+    shortest = rdn(*[attribute("0.0", "")] * MOST_PAIRS)
+    yield asks("64-pairs-each", of(14, 1) + NAME_ROW, tlv(0x30, contents(tlv(0x30, shortest * MOST_RDNS))))
+    yield asks("17th-rdn-last", of(14, 1) + NAME_ROW, tlv(0x30, contents(tlv(0x30, shortest * MOST_RDNS)), tlv(0x30, rdn(attribute("0.0", "")) * 17)))
+    alike = [attribute(CN, "a" * 1000 + last) for last in "abcd"]
+    yield asks("pairs-alike", RDN_ROW, tlv(0x31, *alike))
+    yield asks("pairs-out-of-order", RDN_ROW, tlv(0x31, alike[0], alike[1], alike[3], alike[2]))
+    yield asks("long-pair-at-end", RDN_ROW, tlv(0x31, *alike[:3], attribute(CN, "a" * 1000 + "*", 0x13)))
+
+
+def holders_of_pairs():
+    """Pairs that are alike but for their last character, so that each is compared with all others before its own; few long and many short ones."""
+    for name, letters, count, many in (("long-pairs-crosswise", 490, 2, False), ("pairs-crosswise", 20, 33, True)):
+        stem = "a" * letters
+        others = [pairs(stem + last for last in "abce")] * (count - 1)
+        asserted = text((stem + last for last in "dcba"), "+")
+        yield named(name, RDN_ROW, others + [pairs(stem + last for last in ("abce" if many else "abcd"))], asserted, many)
+    crossed, last = pairs("abcd"), pairs("abce")
+    asserted = ",".join([text("dcba", "+")] * MOST_RDNS)
+    yield named("64-pairs-first-differs", NAME_ROW, [tlv(0x30, last, crossed * (MOST_RDNS - 1))] * 6, asserted, True)
+    yield named("64-pairs-last-differs", NAME_ROW, [tlv(0x30, crossed * (MOST_RDNS - 1), last)] * 6, asserted, True)
+    yield named("pairs-of-one-kind", RDN_ROW, [pairs("aaab")] * 90, text("aaaa", "+"), True)
+    yield named("fewer-pairs", RDN_ROW, [pairs("aaa")] * 100, text("aaaa", "+"), True)
+
+
+def holders_of_rdns():
+    """Names of 16 RDNs and names of long values that are the same but for one octet, in the first or in the last RDN."""
+    same = "a" * (MOST_RDNS - 1)
+    for name, stored in (("first-rdn-differs", "b" + same), ("last-rdn-differs", same + "b")):
+        yield named(name, NAME_ROW, [holder(*stored)] * 20, text("a" * MOST_RDNS, ","), True)
+    yield named("15-rdns-against-16", NAME_ROW, [holder(*same)] * 22, text("a" * MOST_RDNS, ","), True)
+    long = "a" * 640
+    for name, stored in (("long-names-first-octet", ("b" + long[1:], long, long)), ("long-names-last-octet", (long, long, long[1:] + "b"))):
+        yield named(name, NAME_ROW, [holder(*stored), holder(long, long, long)], text([long] * 3, ","))
+    empty, short, seventeen = tlv(0x30), tlv(0x30, rdn(attribute("0.0", ""))), text("a" * (MOST_RDNS + 1), ",")
+    for name, element in (("2046-empty-names", empty), ("shortest-names", short)):
+        yield fills(name, NAME_ROW, element, "distinguishedNameMatch", '"%s,%s=' % (text(same, ","), CN), "a", '"')
+    yield named("shortest-names-in-items", NAME_ROW, [short] * 371, "0.0=a", True)
+    yield named("17-rdns-asserted", NAME_ROW, [short] * 371, seventeen, True)
+    yield fills("5-pairs-asserted", RDN_ROW, pairs("a"), "rdnMatch", '"%s=' % CN, "a", '+%s"' % text("bcde", "+"))
+
+
+def holders_of_escapes():
+    """Texts that are nothing but escapes, against short values and against those that they stand for, and texts that go wrong at their end."""
+    start = '"%s=' % CN
+    for name, stored, fill, end in (("hex-escapes", "a", "\\41", '"'), ("plain-escapes", ",", "\\,", '"'), ("escapes-of-two-octets", "\u00e9", "\\C3\\89", '"'),
+                                    ("escaped-quotes", "\"", '\\""', '"'), ("escaped-spaces", "a b", "\\ ", 'A\\20C"'),
+                                    ("escaped-hyphens", "a", "\\C2\\AD", 'b"'), ("escape-cut-off", "a", "\\41", '\\4"'),
+                                    ("octet-missing", "\u00e9", "\\C3\\89", '\\C3"'), ("space-last", "a", "a", ' "'), ("comma-last", "a", "a", ',"')):
+        yield fills(name, NAME_ROW, holder(stored), "distinguishedNameMatch", start, fill, end)
+    room = LONGEST_FILTER - len(item("*", "distinguishedNameMatch", start + 'B"'))
+    for name, letter, escape in (("hex-escapes-of-long", "a", "\\41"), ("escapes-of-long-accents", "\u00e9", "\\C3\\89")):
+        count = room // len(escape)
+        yield named(name, NAME_ROW, [contents(holder(letter * count + "a"))], "%s=%sB" % (CN, escape * count))
+    stored = holder("a" + " " * (LONGEST_VALUE - 30) + "b")
+    yield asks("spaces-in-holder", NAME_ROW, stored, items(item(None, "distinguishedNameMatch", '"%s=A c"' % CN)))
+
+
+def holders_of_types():
+    """Attribute types of many arcs, of a long arc, and alike but for their last arc."""
+    stored = tlv(0x30, rdn(attribute("1.2.3", "a")))
+    yield fills("long-type", NAME_ROW, stored, "distinguishedNameMatch", '"1.2.3', ".1", '=a"')
+    yield fills("long-arc-of-type", NAME_ROW, stored, "distinguishedNameMatch", '"1.2.', "3", '=a"')
+    yield fills("long-type-wrong-at-end", NAME_ROW, stored, "distinguishedNameMatch", '"1.2.3', ".1", '.01=a"')
+    arcs = "1.2" + ".1" * 30
+    yield named("last-arc-of-type", RDN_ROW, [rdn(attribute(arcs + ".1", "a"))] * 99, arcs + ".2=a", True)
+    crossed = [attribute("%s.%d" % (arcs, last), "") for last in range(1, 5)]
+    asserted = "+".join("%s.%d=" % (arcs, last) for last in (5, 3, 2, 1))
+    yield named("types-crosswise", RDN_ROW, [rdn(*crossed)] * 25, asserted, True)
+
+
+def questions_of_holders():
+    """All about distinguished names."""
+    return [*stored_holders(), *holders_of_pairs(), *holders_of_rdns(), *holders_of_escapes(), *holders_of_types()]
+
+
 def questions():
     """All of them."""
     return [*tables(), *values(), *questions_of_strings(), *questions_of_numbers(), *questions_of_digits(), *questions_of_named_bits(), *questions_of_names(),
-            *questions_of_lists(), *questions_of_nested_lists()]
+            *questions_of_lists(), *questions_of_nested_lists(), *questions_of_holders()]

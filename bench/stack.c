@@ -55,6 +55,8 @@ typedef struct {
 } leaf;
 
 #define OCTETS(text) text, sizeof text - 1
+#define PAIR_OF_A "\x30\x08\x06\x03\x55\x04\x03\x0c\x01" "a"
+#define RDN_OF_A "\x31\x0a" PAIR_OF_A
 
 static const leaf leaves[] = {
     {"presentMatch", 4, OCTETS("\x05\x00"), "presentMatch", "NULL", "", ""},
@@ -77,6 +79,14 @@ static const leaf leaves[] = {
     {"caseIgnoreMatch, accents", 8, OCTETS("\x0c\x04" "\xc2\xbc\xc3\x89"), "caseIgnoreMatch", "\"", "\xc2\xbc", "\""},
     {"generalizedTimeMatch", 11, OCTETS("\x18\x0f" "20240229120000Z"), "generalizedTimeMatch", "\"20240229120000.5Z\"", "", ""},
     {"generalizedTimeOrderingMatch", 11, OCTETS("\x18\x0f" "20240229120000Z"), "generalizedTimeOrderingMatch", "\"20240229120001Z\"", "", ""},
+    {"distinguishedNameMatch", 19, OCTETS("\x30\x0c" RDN_OF_A), "distinguishedNameMatch", "\"2.5.4.3=A\"", "", ""},
+    {"distinguishedNameMatch, empty", 19, OCTETS("\x30\x00"), "distinguishedNameMatch", "\"\"", "", ""},
+    {"distinguishedNameMatch, long", 19, OCTETS("\x30\x18" RDN_OF_A RDN_OF_A), "distinguishedNameMatch", "\"2.5.4.3=A,2.5.4.3=", "a", "\""},
+    {"distinguishedNameMatch, escapes", 19, OCTETS("\x30\x0c" RDN_OF_A), "distinguishedNameMatch", "\"2.5.4.3=", "\\41", "\""},
+    {"distinguishedNameMatch, accents", 19, OCTETS("\x30\x0c" RDN_OF_A), "distinguishedNameMatch", "\"2.5.4.3=", "\xc2\xbc", "\""},
+    {"distinguishedNameMatch, a long type", 19, OCTETS("\x30\x0c" RDN_OF_A), "distinguishedNameMatch", "\"2.5.4.3", ".3", "=a\""},
+    {"rdnMatch", 20, OCTETS(RDN_OF_A), "rdnMatch", "\"2.5.4.3=A\"", "", ""},
+    {"rdnMatch, long pairs", 20, OCTETS("\x31\x14" PAIR_OF_A PAIR_OF_A), "rdnMatch", "\"2.5.4.3=A+2.5.4.3=b+2.5.4.3=a+2.5.4.3=", "a", "\""},
 };
 
 /* What stands before and behind a nested filter, by turns. */

@@ -16,6 +16,10 @@ PARTS = 250
 SIZES = [64, 128, 256] + list(range(512, LONGEST_VALUE + 1, 512))
 EVENT_TABLE = b"\x08"  # one row, UTF8String
 RIGHTS = [("print", 0), ("perform", 1), ("record", 2)]
+NAME_ROW, RDN_ROW = bytes([19]), bytes([20])
+COUNTRY, ORGANIZATION, COMMON_NAME = "2.5.4.6", "2.5.4.10", "2.5.4.3"
+GIVEN_NAMES = ["Ann", "Ben", "Eva", "Ida", "Jan", "Kim", "Leo", "Mia", "Ole", "Pia"]
+FAMILY_NAMES = ["Berg", "Falk", "Holm", "Lind", "Moe", "Roy", "Sand", "Vik"]
 
 
 class Question:
@@ -125,6 +129,50 @@ def of_rights():
     yield Question("named-bits-zeros", "-", table, value, samples.item("parts.*.rights", "bitStringMatch", "'110'B"), "TRUE %d" % PARTS, timed=False)
 
 
+def base_128(number):
+    """A subidentifier's octets."""
+    octets = [number & 0x7F]
+    while number := number >> 7:
+        octets.append(0x80 | number & 0x7F)
+    return bytes(reversed(octets))
+
+
+def attribute(dotted, value, tag=0x0C):
+    """A pair of an attribute type and a value."""
+    first, second, *arcs = map(int, dotted.split("."))
+    return samples.tlv(0x30, samples.tlv(6, *map(base_128, [40 * first + second, *arcs])), samples.tlv(tag, value.encode()))
+
+
+def rdn(*pairs):
+    """A RelativeDistinguishedName of pairs in any order."""
+    return samples.tlv(0x31, *sorted(pairs))
+
+
+def holder(country, organization, name):
+    """A distinguished name of three RDNs."""
+    return samples.tlv(0x30, rdn(attribute(COUNTRY, country, 0x13)), rdn(attribute(ORGANIZATION, organization)), rdn(attribute(COMMON_NAME, name)))
+
+
+def holders_table():
+    """SEQUENCE { event UTF8String, holders SEQUENCE OF RDNSequence }."""
+    return samples.sequence(samples.member("event", 3), samples.member("holders", 4)) + b"\x08" + samples.of(14, 5) + NAME_ROW
+
+
+def of_holders():
+    """80 singers of two choirs, who hold a licence; the last of them is asked for. asn1c's code isn't asked."""
+    table, singers = holders_table(), ["%s %s" % (given, family) for family in FAMILY_NAMES for given in GIVEN_NAMES]
+    holders = [holder("AU", "Voces" if at % 3 == 0 else "\u00c9lan", singer) for at, singer in enumerate(singers)]
+    value = sized(LONGEST_VALUE, holders)
+
+    def asked(name, text, answer, timed=False):
+        return Question(name, "-", table, value, samples.item("holders.*", "distinguishedNameMatch", '"%s"' % text), answer, timed)
+
+    yield asked("holder-names", "2.5.4.3=Pia Vik,2.5.4.10=\u00c9lan,2.5.4.6=AU", "TRUE %d" % len(holders), timed=True)
+    yield asked("holder-names-varied", "2.5.4.3=\\50ia  VIK,2.5.4.10=\\20\u00e9\u00adlan\\ ,2.5.4.6=au", "TRUE %d" % len(holders))
+    yield asked("holder-names-turned", "2.5.4.6=AU,2.5.4.10=\u00c9lan,2.5.4.3=Pia Vik", "FALSE %d" % len(holders))
+    yield asked("holder-names-false", "2.5.4.3=Pia Vik,2.5.4.10=Voces,2.5.4.6=AU", "FALSE %d" % len(holders))
+
+
 # What the items of the two `or` filters assert. An item: the comparing in harness/by_hand.c, reference, rule, asserted value (a text or a number).
 
 
@@ -178,7 +226,7 @@ def of_items():
 
 def questions():
     """All questions."""
-    return list(of_parts()) + list(of_items()) + list(of_rights())
+    return list(of_parts()) + list(of_items()) + list(of_rights()) + list(of_holders())
 
 
 def further_of_bits():
@@ -193,6 +241,34 @@ def further_of_bits():
         yield far, bits(digits), samples.item(None, "bitStringMatch", text)
         yield samples.of(15, 1) + far, samples.tlv(0x31, bits(digits), bits(digits)), samples.item("*", "2.5.13.16", text)
     yield bytes([7]), bits("11"), samples.item(None, "bitStringMatch", "{}")
+
+
+def further_of_names():
+    """Distinguished names and RDNs: escapes, pairs in any order, types and texts close to good ones, wrappers, a reference that goes inside."""
+    legg, several = holder("AU", "Adacel", "Steven Legg"), rdn(attribute(COMMON_NAME, "a"), attribute(COMMON_NAME, "B", 0x13), attribute("2.999", ""))
+    odd = samples.tlv(0x30, several, rdn(attribute(COMMON_NAME, 'x"', 0x16)))
+    names = samples.of(14, 1) + NAME_ROW, samples.tlv(0x30, samples.tlv(0x30), odd, legg)
+    texts = ["", "2.5.4.3=steven  LEGG,2.5.4.10=adacel,2.5.4.6=au", "2.5.4.3=\\53teven\\20Legg,2.5.4.10=Adacel,2.5.4.6=AU",
+             "2.5.4.3=x\\\"\",2.5.4.3=b+2.999=+2.5.4.3=A", "2.5.4.3=x\\22,2.5.4.3=b+2.999=\\ +2.5.4.3=\\61", "2.5.4.3=x,2.5.4.3=b+2.5.4.3=A",
+             "2.5.4.6=AU,2.5.4.10=Adacel,2.5.4.3=Steven Legg", "2.5.4.3=Steven Legg, 2.5.4.10=Adacel,2.5.4.6=AU", "cn=Steven Legg,o=Adacel,c=AU",
+             "2.5.4.4294967299=Steven Legg,2.5.4.10=Adacel,2.5.4.6=AU", "2.5.4.3=#53,2.5.4.10=\\Adacel,2.5.4.6=AU"]
+    for text in texts:
+        yield (*names, samples.item("*", "distinguishedNameMatch", '"%s"' % text))
+    places = ([attribute(COMMON_NAME, "a"), attribute(COMMON_NAME, "A", 0x16)], [attribute(COMMON_NAME, "\u00e9"), attribute("1.2.4294967295", "a", 0x13)])
+    rdns = samples.of(15, 1) + RDN_ROW, samples.tlv(0x31, *sorted(rdn(*pairs) for pairs in places))
+    for text in ("2.5.4.3=a+2.5.4.3=a", "1.2.4294967295=a+2.5.4.3=\\c3\\89", "2.5.4.3=a", "2.5.4.3=\u00c9+1.2.4294967296=a", "2.5.4.3=\\C3+1.2.4294967295=a",
+                 "2.5.4.3=a+2.5.4.3=a+2.5.4.3=a+2.5.4.3=a+2.5.4.3=a", "2.5.4.3=a,2.5.4.3=a", ""):
+        yield (*rdns, samples.item("*", "rdnMatch", '"%s"' % text))
+    members = samples.member("holder", 4, 2, 0), samples.member("place", 5, 2, 1, 1), samples.member("other", 4, 1, 2, 1)
+    record = samples.sequence(*members) + NAME_ROW + RDN_ROW
+    value = samples.tlv(0x30, samples.tlv(0xA0, legg[2:]), samples.tlv(0xA1, attribute(COMMON_NAME, "Hall")), samples.tlv(0xA2, odd))
+    for reference, rule, text in (("holder", "2.5.13.1", texts[1]), ("place", "1.2.36.79672281.1.13.3", "2.5.4.3=HALL"),
+                                  ("other", "distinguishedNameMatch", texts[3]), ("holder.-1", "rdnMatch", "2.5.4.3=Steven Legg"),
+                                  ("place", "distinguishedNameMatch", "2.5.4.3=HALL")):
+        yield record, value, samples.item(reference, rule, '"%s"' % text)
+    sixteen = NAME_ROW, samples.tlv(0x30, rdn(attribute("0.0", "")) * 16)
+    for count in (15, 16, 17):
+        yield (*sixteen, samples.item(None, "distinguishedNameMatch", '"%s"' % ",".join(["0.0="] * count)))
 
 
 def further():
@@ -212,7 +288,7 @@ def further():
              (bytes([11]), samples.leaf(11, b"20240229120000Z"), "not:" + samples.item(None, "generalizedTimeMatch", '"20240229120000Z"')),
              (samples.LICENCE, samples.RECORD, "and:{%s,or:{},%s}" % (samples.item("parts.0", "integerMatch", 2), samples.item("x", "integerMatch", 2)))]
     asked += [(*strings, samples.item("*", rule, '"%s"' % text)) for rule in ("caseIgnoreMatch", "caseExactMatch") for text in texts + stored]
-    asked += further_of_bits()
+    asked += [*further_of_bits(), *further_of_names()]
     return [Question("further-%d" % at, "-", *question, samples.asked(*question), timed=False) for at, question in enumerate(asked)]
 
 

@@ -16,7 +16,7 @@
 #include "question.h"
 #include "tezqulom.h"
 
-enum { MOST_QUESTIONS = 160, LONGEST = 5000 };
+enum { MOST_QUESTIONS = 256, LONGEST = 5000 };
 static const double SAMPLE_NS = 50e6, BATCH_NS = 1e6;
 static const uint64_t BUDGET = 65535;
 

@@ -6,6 +6,10 @@ use std::cmp::Ordering;
 pub const CONSTRUCTED: u8 = 0x20;
 /// The class bits of a context tag.
 pub const CONTEXT: u8 = 0x80;
+/// The tag octet of SEQUENCE and SEQUENCE OF.
+pub const SEQUENCE: u8 = 16 | CONSTRUCTED;
+/// The tag octet of SET OF.
+pub const SET: u8 = 17 | CONSTRUCTED;
 
 /// One encoded value in a buffer: its tag octet and where it stands.
 #[derive(Clone, Copy, Debug, PartialEq, Eq)]
@@ -44,6 +48,11 @@ impl Element {
     pub fn children<'v>(&self, octets: &'v [u8]) -> Children<'v> {
         Children { octets, place: self.start, limit: self.end }
     }
+}
+
+/// The elements that are these octets, one after another; the last is `None` if it doesn't fit.
+pub fn elements(octets: &[u8]) -> Children<'_> {
+    Children { octets, place: 0, limit: octets.len() }
 }
 
 /// An iterator over elements that stand one after another.
@@ -86,7 +95,8 @@ pub fn integer(contents: &[u8]) -> i64 {
     contents.iter().fold(sign, |n, &b| (n << 8) | i64::from(b))
 }
 
-const MAX_SUBIDENTIFIERS: usize = 32;
+/// An OBJECT IDENTIFIER has at most so many subidentifiers.
+pub const MAX_SUBIDENTIFIERS: usize = 32;
 
 /// Splits off one subidentifier: its number and the octets after it.
 pub fn subidentifier(octets: &[u8]) -> Option<(u32, &[u8])> {
@@ -104,6 +114,16 @@ pub fn subidentifier(octets: &[u8]) -> Option<(u32, &[u8])> {
         }
     }
     None
+}
+
+/// Puts a subidentifier behind others.
+pub fn put_subidentifier(number: u32, octets: &mut Vec<u8>) {
+    for shift in [28, 21, 14, 7] {
+        if number >> shift > 0 {
+            octets.push(0x80 | (number >> shift) as u8);
+        }
+    }
+    octets.push(number as u8 & 0x7F);
 }
 
 pub fn is_object_identifier(contents: &[u8]) -> bool {
@@ -235,6 +255,13 @@ mod tests {
         assert!(!is_object_identifier(&[]));
         assert!(is_object_identifier(&[1; 32]));
         assert!(!is_object_identifier(&[1; 33]));
+        for number in
+            [0, 1, 0x7F, 0x80, 0x3FFF, 0x4000, 0x1F_FFFF, 0x20_0000, 0x0FFF_FFFF, 0x1000_0000, u32::MAX]
+        {
+            let mut octets = Vec::new();
+            put_subidentifier(number, &mut octets);
+            assert_eq!(subidentifier(&octets), Some((number, &[][..])));
+        }
     }
 
     #[test]

@@ -3,15 +3,18 @@
 //! A case is a drawn table with a drawn value of its type, either of them broken now and then, and
 //! questions about them. Small domains make equal values likely.
 
+mod names;
+
 use crate::table::{Basic, BitName, Form, Member, Presence, Table, Tagging, Type};
 use crate::{check_table, der, list};
+use names::Kind;
 
 const QUESTIONS: usize = 12;
 /// No input of a case is longer (docs/CASES.md): one octet more than the limits.
 const LONGEST_TABLE: usize = 4993;
 const LONGEST_VALUE: usize = 4097;
 const LONGEST_FILTER: usize = 2049;
-const RULES: [(&str, &str); 12] = [
+const RULES: [(&str, &str); 14] = [
     ("presentMatch", "1.2.36.79672281.1.13.5"),
     ("booleanMatch", "2.5.13.13"),
     ("integerMatch", "2.5.13.14"),
@@ -24,6 +27,8 @@ const RULES: [(&str, &str); 12] = [
     ("caseExactMatch", "2.5.13.5"),
     ("generalizedTimeMatch", "2.5.13.27"),
     ("generalizedTimeOrderingMatch", "2.5.13.28"),
+    ("distinguishedNameMatch", "2.5.13.1"),
+    ("rdnMatch", "1.2.36.79672281.1.13.3"),
 ];
 
 /// Numbers drawn by SplitMix64.
@@ -64,7 +69,7 @@ impl Draw {
         let octet = match self.below(3) {
             0 => self.next() as u8,
             1 => self.pick(b"\"{},.*: 0-'aT"),
-            _ => self.below(20) as u8,
+            _ => self.below(22) as u8,
         };
         match self.below(5) {
             0 => octets.insert(at, octet),
@@ -101,6 +106,9 @@ impl Draw {
 
     /// One case.
     pub fn case(&mut self) -> Vec<u8> {
+        if self.once_in(16) {
+            return self.long_names();
+        }
         let mut table = self.table();
         let mut value = Vec::new();
         let mut questions = Vec::new();
@@ -118,6 +126,8 @@ impl Draw {
             self.broken(&mut table);
         } else if self.once_in(10) {
             table = self.other_bit_names(&table);
+        } else if self.once_in(20) {
+            table = self.other_kind(&table);
         }
         table.truncate(LONGEST_TABLE);
         value.truncate(LONGEST_VALUE);
@@ -160,16 +170,19 @@ impl Draw {
 
     fn loose_table(&mut self) -> Vec<u8> {
         let most = self.pick(&[4, 10, 20, 40]);
-        // Some tables have many named bit strings, the others none.
-        let named_bits = self.once_in(3);
+        // Some tables have many named bit strings or distinguished names, the others none.
+        let (named_bits, names) = (self.below(5) < 2, self.below(5) < 2);
         let mut rows: Vec<Vec<u8>> = Vec::new();
         // Rows that wait for a type: which, where their row number stands, and whether they are alternatives.
         let mut waiting: Vec<(usize, usize, bool)> = Vec::new();
         loop {
             let row = rows.len();
             let open = row + waiting.len() < most;
-            let kind = if named_bits && self.once_in(if row == 0 { 10 } else { 3 }) {
+            let rarely = if row == 0 { 10 } else { 3 };
+            let kind = if named_bits && self.once_in(rarely) {
                 17
+            } else if names && self.once_in(rarely) {
+                self.pick(&[19, 19, 20])
             } else if open && (row == 0 || self.once_in(2)) {
                 12 + self.below(4) as u8
             } else {
@@ -281,6 +294,16 @@ impl Draw {
                     rows[from][at..at + 2].copy_from_slice(&(other as u16).to_be_bytes());
                 }
             }
+        }
+        rows.concat()
+    }
+
+    /// The table with another kind in one of its rows that have no body, if it has any: a name most often.
+    fn other_kind(&mut self, table: &[u8]) -> Vec<u8> {
+        let mut rows = rows(table);
+        let bare: Vec<usize> = (0..rows.len()).filter(|&at| rows[at].len() == 1).collect();
+        if !bare.is_empty() {
+            rows[self.pick(&bare)][0] = self.pick(&[19, 19, 20, 20, 1, 2, 8, 21]);
         }
         rows.concat()
     }
@@ -408,6 +431,8 @@ impl Draw {
                 }
                 elements.concat()
             }
+            Form::RdnSequence => self.stored(Kind::RdnSequence),
+            Form::Rdn => self.stored(Kind::Rdn),
         };
         encoded(tag.or(ty.form.tag()).unwrap_or(0), &contents)
     }
@@ -440,6 +465,13 @@ impl Draw {
                     if self.once_in(10) {
                         let name = String::from_utf8_lossy(self.pick(names).name).into_owned();
                         text += self.pick(&[&name, &name, "0", "1", "*", "content"]);
+                        return (text, Some(ty));
+                    }
+                    break;
+                }
+                Form::RdnSequence | Form::Rdn => {
+                    if self.once_in(10) {
+                        text += self.pick(&["0", "1", "-1", "*", "1.1", "rdnSequence", "type", "content"]);
                         return (text, Some(ty));
                     }
                     break;
@@ -485,7 +517,12 @@ impl Draw {
         }
         let mut items = 0;
         let deepest = self.pick(&[1, 1, 2, 3, 5, 17]);
-        let mut filter = self.filter(root, deepest, &mut items).into_bytes();
+        let filter = self.filter(root, deepest, &mut items).into_bytes();
+        self.filter_question(filter)
+    }
+
+    /// The question that a filter is, broken now and then.
+    fn filter_question(&mut self, mut filter: Vec<u8>) -> Vec<u8> {
         if self.once_in(8) {
             self.broken(&mut filter);
         }
@@ -532,6 +569,9 @@ impl Draw {
             Some((Form::Choice(members), _)) if members.iter().all(|m| is_string(&m.ty)) => {
                 (&[8, 9], self.asserted(Basic::Utf8String))
             }
+            Some((Form::RdnSequence, _)) => (&[12], self.asserted_name(Kind::RdnSequence)),
+            Some((Form::Rdn, _)) => (&[13], self.asserted_name(Kind::Rdn)),
+            Some(_) if self.once_in(12) => (&[12, 13], self.asserted_name(Kind::Rdn)),
             Some(_) => (&[0], "NULL".to_string()),
         };
         let mut text = text.into_bytes();

@@ -136,11 +136,20 @@ pub fn prepared(mut text: Vec<u8>, case: Case) -> Vec<u8> {
         return text;
     }
     let mut found = Vec::with_capacity(text.len());
-    pieces(&text, case, |piece| {
+    prepare_onto(&text, case, &mut found);
+    found
+}
+
+/// Puts the prepared text behind what was found before.
+pub fn prepare_onto(text: &[u8], case: Case, found: &mut Vec<u8>) {
+    let start = found.len();
+    pieces(text, case, |piece| {
         found.extend(piece);
         true
     });
-    found
+    if case == Case::Fold {
+        found[start..].make_ascii_lowercase();
+    }
 }
 
 /// Whether a text is prepared to this one, which has no capitals of ASCII if case is folded.
@@ -164,6 +173,9 @@ mod tests {
 
     fn shown(text: &str, case: Case) -> String {
         let octets = prepared(text.as_bytes().to_vec(), case);
+        let mut onto = b"Before ".to_vec();
+        prepare_onto(text.as_bytes(), case, &mut onto);
+        assert_eq!(onto, [b"Before ", &octets[..]].concat());
         assert!(is_prepared_to(text.as_bytes(), case, &octets));
         assert!(!is_prepared_to(text.as_bytes(), case, &[&octets[..], b"x"].concat()));
         String::from_utf8(octets).expect("UTF-8")

@@ -99,7 +99,7 @@ impl<'t> Reference<'t> {
 fn resolve_step<'t>(ty: &'t Type<'t>, identifier: &[u8]) -> Option<(Step<'t>, Target<'t>)> {
     let find = |members: &[Member]| members.iter().position(|m| m.name == identifier);
     match &ty.form {
-        Form::Basic(_) | Form::NamedBits(_) => None,
+        Form::Basic(_) | Form::NamedBits(_) | Form::RdnSequence | Form::Rdn => None,
         Form::Sequence(members) => {
             let at = find(members)?;
             let member = &members[at];

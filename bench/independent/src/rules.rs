@@ -1,9 +1,11 @@
 //! Matching rules: their names, the types they are for, asserted values, acceptance.
 
 use crate::der;
+use crate::names::Name;
 use crate::prepare::{is_prepared_to, prepared, Case};
 use crate::reference::Target;
 use crate::table::{Basic, BitName, Form, Tagging, Type};
+use std::borrow::Cow;
 use std::cmp::Ordering;
 
 #[derive(Clone, Copy, Debug, PartialEq, Eq)]
@@ -20,9 +22,11 @@ pub enum Rule {
     CaseExact,
     GeneralizedTime,
     GeneralizedTimeOrdering,
+    DistinguishedName,
+    Rdn,
 }
 
-const RULES: [(&str, &str, Rule); 12] = [
+const RULES: [(&str, &str, Rule); 14] = [
     ("presentMatch", "1.2.36.79672281.1.13.5", Rule::Present),
     ("booleanMatch", "2.5.13.13", Rule::Boolean),
     ("integerMatch", "2.5.13.14", Rule::Integer),
@@ -35,6 +39,8 @@ const RULES: [(&str, &str, Rule); 12] = [
     ("caseExactMatch", "2.5.13.5", Rule::CaseExact),
     ("generalizedTimeMatch", "2.5.13.27", Rule::GeneralizedTime),
     ("generalizedTimeOrderingMatch", "2.5.13.28", Rule::GeneralizedTimeOrdering),
+    ("distinguishedNameMatch", "2.5.13.1", Rule::DistinguishedName),
+    ("rdnMatch", "1.2.36.79672281.1.13.3", Rule::Rdn),
 ];
 
 impl Rule {
@@ -61,6 +67,8 @@ impl Rule {
             Rule::BitString => is(Basic::BitString) || bit_names(target).is_some(),
             Rule::CaseIgnore | Rule::CaseExact => is_string(ty),
             Rule::GeneralizedTime | Rule::GeneralizedTimeOrdering => is(Basic::GeneralizedTime),
+            Rule::DistinguishedName => matches!(ty.form, Form::RdnSequence),
+            Rule::Rdn => matches!(ty.form, Form::Rdn),
         }
     }
 }
@@ -89,12 +97,12 @@ pub fn is_name(text: &[u8]) -> bool {
 }
 
 pub fn is_dotted(text: &[u8]) -> bool {
-    subidentifiers(text).is_some()
+    subidentifiers(text).is_some_and(|mut numbers| numbers.all(|number| number.is_some()))
 }
 
 /// The subidentifiers of a dotted OID: the first two arcs are joined. One that doesn't fit is given as
-/// the largest number, which no stored one has.
-fn subidentifiers(text: &[u8]) -> Option<Vec<u64>> {
+/// the largest number, which no stored one has. The text is no dotted OID if there is `None` among them.
+pub fn subidentifiers(text: &[u8]) -> Option<impl Iterator<Item = Option<u64>> + '_> {
     let mut arcs = text.split(|&b| b == b'.').map(arc);
     let first = arcs.next()??;
     let second = arcs.next()??;
@@ -102,7 +110,7 @@ fn subidentifiers(text: &[u8]) -> Option<Vec<u64>> {
         return None;
     }
     let joined = second.saturating_add(40 * first);
-    std::iter::once(Some(joined)).chain(arcs).collect()
+    Some(std::iter::once(Some(joined)).chain(arcs))
 }
 
 fn arc(digits: &[u8]) -> Option<u64> {
@@ -129,6 +137,8 @@ pub enum Matcher<'f> {
     /// Whether case counts, and the prepared string.
     Text(Case, Vec<u8>),
     Time(Relation, &'f [u8]),
+    DistinguishedName(Name),
+    Rdn(Name),
 }
 
 /// How a stored value that is accepted compares with the asserted one.
@@ -163,7 +173,9 @@ impl<'f> Matcher<'f> {
             }),
             Rule::Integer => Matcher::Integer(Relation::Equal, integer(text)?),
             Rule::IntegerOrdering => Matcher::Integer(Relation::Less, integer(text)?),
-            Rule::ObjectIdentifier => Matcher::ObjectIdentifier(subidentifiers(text)?),
+            Rule::ObjectIdentifier => {
+                Matcher::ObjectIdentifier(subidentifiers(text)?.collect::<Option<_>>()?)
+            }
             Rule::OctetString => Matcher::Octets(Relation::Equal, octets(text)?),
             Rule::OctetStringOrdering => Matcher::Octets(Relation::Less, octets(text)?),
             Rule::BitString => match bit_names(target) {
@@ -177,6 +189,8 @@ impl<'f> Matcher<'f> {
             Rule::CaseExact => Matcher::Text(Case::Keep, prepared(string(text)?, Case::Keep)),
             Rule::GeneralizedTime => Matcher::Time(Relation::Equal, time(text)?),
             Rule::GeneralizedTimeOrdering => Matcher::Time(Relation::Less, time(text)?),
+            Rule::DistinguishedName => Matcher::DistinguishedName(Name::rdn_sequence(&unquoted(text)?)?),
+            Rule::Rdn => Matcher::Rdn(Name::rdn(&unquoted(text)?)?),
         })
     }
 
@@ -202,6 +216,8 @@ impl<'f> Matcher<'f> {
             },
             Matcher::Text(case, asserted) => is_prepared_to(contents, *case, asserted),
             Matcher::Time(relation, asserted) => relation.holds(der::compare_times(contents, asserted)),
+            Matcher::DistinguishedName(asserted) => asserted.is_same_sequence(contents),
+            Matcher::Rdn(asserted) => asserted.is_same_rdn(contents),
         }
     }
 
@@ -331,9 +347,17 @@ fn double_quoted(text: &[u8]) -> Option<&[u8]> {
     text.strip_prefix(b"\"")?.strip_suffix(b"\"")
 }
 
-/// A quoted string of at least one character, each doubled quote made one.
+/// A quoted string of at least one character.
 fn string(text: &[u8]) -> Option<Vec<u8>> {
+    unquoted(text).filter(|found| !found.is_empty()).map(Cow::into_owned)
+}
+
+/// A quoted string, each doubled quote made one.
+fn unquoted(text: &[u8]) -> Option<Cow<'_, [u8]>> {
     let inner = double_quoted(text)?;
+    if !inner.contains(&b'"') {
+        return Some(Cow::Borrowed(inner));
+    }
     let mut found = Vec::with_capacity(inner.len());
     let mut rest = inner.iter();
     while let Some(&b) = rest.next() {
@@ -342,7 +366,7 @@ fn string(text: &[u8]) -> Option<Vec<u8>> {
         }
         found.push(b);
     }
-    (!found.is_empty()).then_some(found)
+    Some(Cow::Owned(found))
 }
 
 fn time(text: &[u8]) -> Option<&[u8]> {
@@ -366,8 +390,10 @@ mod tests {
 
     #[test]
     fn identifiers() {
-        assert_eq!(subidentifiers(b"2.999.3"), Some(vec![1079, 3]));
-        assert_eq!(subidentifiers(b"1.39"), Some(vec![79]));
+        let numbers = |text: &[u8]| subidentifiers(text)?.collect::<Option<Vec<_>>>();
+        assert_eq!(numbers(b"2.999.3"), Some(vec![1079, 3]));
+        assert_eq!(numbers(b"1.39"), Some(vec![79]));
+        assert_eq!(numbers(b"2.5..3"), None);
         for bad in ["", "2", "3.1", "1.40", "2.05", "2..5", "2.5.", "iso", "99999999999999999999999.1"] {
             assert!(!is_dotted(bad.as_bytes()), "{bad}");
         }

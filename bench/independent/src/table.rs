@@ -23,6 +23,8 @@ const MEMBER_BODY: usize = 38;
 const NAMED_BITS: u8 = 17;
 const BIT_NAME: u8 = 18;
 const BIT_NAME_BODY: usize = NAME + 1;
+const RDN_SEQUENCE: u8 = 19;
+const RDN: u8 = 20;
 
 /// A type that has no parts.
 #[derive(Clone, Copy, Debug, PartialEq, Eq)]
@@ -58,7 +60,8 @@ impl Basic {
         })
     }
 
-    fn tag(self) -> u8 {
+    /// The universal tag octet.
+    pub fn tag(self) -> u8 {
         match self {
             Basic::Boolean => 1,
             Basic::Integer => 2,
@@ -145,6 +148,10 @@ pub enum Form<'t> {
     Choice(Vec<Member<'t>>),
     SequenceOf(Rc<Type<'t>>),
     SetOf(Rc<Type<'t>>),
+    /// A distinguished name.
+    RdnSequence,
+    /// One RelativeDistinguishedName.
+    Rdn,
 }
 
 /// A name of a bit, with the number of the bit from 0.
@@ -188,7 +195,7 @@ impl<'t> Type<'t> {
             other => other.tag().map_or(Tags::NONE, Tags::one),
         };
         let below = match &form {
-            Form::Basic(_) | Form::NamedBits(_) => 0,
+            Form::Basic(_) | Form::NamedBits(_) | Form::RdnSequence | Form::Rdn => 0,
             Form::Sequence(members) | Form::Choice(members) => {
                 members.iter().map(|m| m.ty.chain).max().unwrap_or(0)
             }
@@ -204,8 +211,8 @@ impl Form<'_> {
         match self {
             Form::Basic(basic) => Some(basic.tag()),
             Form::NamedBits(_) => Some(Basic::BitString.tag()),
-            Form::Sequence(_) | Form::SequenceOf(_) => Some(16 | der::CONSTRUCTED),
-            Form::SetOf(_) => Some(17 | der::CONSTRUCTED),
+            Form::Sequence(_) | Form::SequenceOf(_) | Form::RdnSequence => Some(der::SEQUENCE),
+            Form::SetOf(_) | Form::Rdn => Some(der::SET),
             Form::Choice(_) => None,
         }
     }
@@ -237,6 +244,8 @@ impl<'t> Table<'t> {
                 NAMED_BITS => Form::NamedBits(bit_names().filter(|names| is_bit_list(names))?),
                 SEQUENCE_OF => Form::SequenceOf(named(body, &types)?),
                 SET_OF => Form::SetOf(named(body, &types)?),
+                RDN_SEQUENCE => Form::RdnSequence,
+                RDN => Form::Rdn,
                 _ => Form::Basic(Basic::from_kind(kind)?),
             };
             types[at] = Some(Type::new(form)?);
@@ -258,6 +267,7 @@ fn split(octets: &[u8]) -> Option<Vec<Row<'_>>> {
             SEQUENCE_OF | SET_OF => 2,
             MEMBER => MEMBER_BODY,
             BIT_NAME => BIT_NAME_BODY,
+            RDN_SEQUENCE | RDN => 0,
             _ => Basic::from_kind(kind).map(|_| 0)?,
         };
         if rows.len() == MAX_ROWS || after.len() < size {

@@ -421,3 +421,775 @@ fn members_of_named_bits() {
     let every = b"item:{component \"given.*\",rule bitStringMatch,value {print}}";
     assert_eq!(ask(&table, &value, every, 1), Err(5));
 }
+
+// Q-3: distinguished names.
+
+const RDN_SEQUENCE: u8 = 19;
+const RDN: u8 = 20;
+const CN: &[u8] = &[0x55, 4, 3];
+const O: &[u8] = &[0x55, 4, 10];
+const C: &[u8] = &[0x55, 4, 6];
+
+/// A pair of a type and a value that is a UTF8String.
+fn pair(ty: &[u8], value: &str) -> Vec<u8> {
+    pair_of(ty, 0x0C, value.as_bytes())
+}
+
+fn pair_of(ty: &[u8], tag: u8, value: &[u8]) -> Vec<u8> {
+    encoded(0x30, &[encoded(6, ty), encoded(tag, value)].concat())
+}
+
+/// The contents of a stored RDN from a text like `cn=a+o=b`, the pairs in their order.
+fn rdn(text: &str) -> Vec<u8> {
+    let mut pairs: Vec<Vec<u8>> = text
+        .split('+')
+        .map(|text| match text.split_once('=') {
+            Some(("cn", value)) => pair(CN, value),
+            Some(("o", value)) => pair(O, value),
+            Some(("c", value)) => pair(C, value),
+            _ => panic!("{text}"),
+        })
+        .collect();
+    pairs.sort();
+    pairs.concat()
+}
+
+/// The contents of a stored name from a text like `c=AU/o=Adacel`, in the order of the text.
+fn name(text: &str) -> Vec<u8> {
+    text.split('/').filter(|rdn| !rdn.is_empty()).flat_map(|text| encoded(0x31, &rdn(text))).collect()
+}
+
+/// The answer of distinguishedNameMatch for contents and what stands between the quotes of the value text.
+fn name_match(contents: &[u8], asserted: &str) -> Result<(Truth, u64), u8> {
+    let filter = format!("item:{{rule distinguishedNameMatch,value \"{asserted}\"}}");
+    ask(&[RDN_SEQUENCE], &encoded(0x30, contents), filter.as_bytes(), BUDGET)
+}
+
+/// The same of rdnMatch.
+fn rdn_match(contents: &[u8], asserted: &str) -> Result<(Truth, u64), u8> {
+    let filter = format!("item:{{rule rdnMatch,value \"{asserted}\"}}");
+    ask(&[RDN], &encoded(0x31, contents), filter.as_bytes(), BUDGET)
+}
+
+/// The answer of rdnMatch for one RDN, which that of distinguishedNameMatch for a name of this RDN has to be too.
+fn both_match(contents: &[u8], asserted: &str) -> Result<(Truth, u64), u8> {
+    let answer = rdn_match(contents, asserted);
+    assert_eq!(name_match(&encoded(0x31, contents), asserted), answer, "{asserted}");
+    answer
+}
+
+const LEGG: &str = "c=AU/o=Adacel/cn=Steven Legg";
+
+/// 3-1: the text has the RDN first that is stored last.
+#[test]
+fn names_by_position() {
+    for (stored, asserted, expected) in [
+        (LEGG, "2.5.4.3=Steven Legg,2.5.4.10=Adacel,2.5.4.6=AU", TRUE),
+        (LEGG, "2.5.4.3=STEVEN  legg,2.5.4.10=aDACEL,2.5.4.6=au", TRUE),
+        (LEGG, "2.5.4.6=AU,2.5.4.10=Adacel,2.5.4.3=Steven Legg", FALSE),
+        (LEGG, "2.5.4.10=Adacel,2.5.4.3=Steven Legg,2.5.4.6=AU", FALSE),
+        (LEGG, "2.5.4.10=Adacel,2.5.4.6=AU", FALSE),
+        (LEGG, "2.5.4.3=Steven Legg,2.5.4.10=Adacel", FALSE),
+        (LEGG, "2.5.4.3=Steven Legg,2.5.4.10=Adacel,2.5.4.6=AU,2.5.4.6=AU", FALSE),
+        (LEGG, "2.5.4.3=Steven Legg,2.5.4.10=Adacel,2.5.4.6=AT", FALSE),
+        (LEGG, "2.5.4.3=Steven Leg,2.5.4.10=Adacel,2.5.4.6=AU", FALSE),
+        (LEGG, "2.5.4.3=Steven Leggs,2.5.4.10=Adacel,2.5.4.6=AU", FALSE),
+        (LEGG, "2.5.4.10=Steven Legg,2.5.4.3=Adacel,2.5.4.6=AU", FALSE),
+        (LEGG, "2.5.4.3=Steven Legg+2.5.4.10=Adacel+2.5.4.6=AU", FALSE),
+        ("cn=a/cn=b", "2.5.4.3=b,2.5.4.3=a", TRUE),
+        ("cn=a/cn=b", "2.5.4.3=a,2.5.4.3=b", FALSE),
+        ("cn=a/cn=b", "2.5.4.3=b,2.5.4.3=b", FALSE),
+        ("cn=a+o=b/cn=c", "2.5.4.3=c,2.5.4.10=b+2.5.4.3=a", TRUE),
+        ("cn=a+o=b/cn=c", "2.5.4.10=b+2.5.4.3=c,2.5.4.3=a", FALSE),
+    ] {
+        assert_eq!(name_match(&name(stored), asserted), expected, "{stored} {asserted}");
+    }
+}
+
+/// 3-2: the pairs of a stored RDN are in the order of a SET OF, by their whole encodings; asserted ones in any.
+#[test]
+fn order_of_pairs() {
+    let (one, other) = (pair(O, "b"), pair(CN, "aa"));
+    assert!(one < other, "the shorter one comes first, though its type does not");
+    for (pairs, good) in [
+        ([one.clone(), other.clone()], true),
+        ([other, one], false),
+        ([pair(CN, "a"), pair(CN, "a")], true),
+        ([pair(CN, "a"), pair(CN, "b")], true),
+        ([pair(CN, "b"), pair(CN, "a")], false),
+        ([pair(CN, "A"), pair(CN, "a")], true),
+        ([pair(CN, "a"), pair(CN, "A")], false),
+        ([pair_of(CN, 0x0C, b"b"), pair_of(CN, 0x13, b"a")], true),
+        ([pair_of(CN, 0x13, b"a"), pair_of(CN, 0x0C, b"b")], false),
+    ] {
+        let contents = pairs.concat();
+        let expected = if good { Ok(()) } else { Err(4) };
+        assert_eq!(check_value(&[RDN], &encoded(0x31, &contents)), expected, "{contents:02X?}");
+        let sequence = encoded(0x30, &encoded(0x31, &contents));
+        assert_eq!(check_value(&[RDN_SEQUENCE], &sequence), expected, "{contents:02X?}");
+    }
+    assert_eq!(both_match(&rdn("o=b+cn=aa"), "2.5.4.3=aa+2.5.4.10=b"), TRUE);
+    assert_eq!(both_match(&rdn("o=b+cn=aa"), "2.5.4.10=b+2.5.4.3=aa"), TRUE);
+}
+
+/// 3-3, 3-4: pairs match one to one; a type may stand more than once, and so may a pair.
+#[test]
+fn pairs_one_to_one() {
+    for (stored, asserted, expected) in [
+        ("cn=a+cn=b", "2.5.4.3=b+2.5.4.3=a", TRUE),
+        ("cn=a+cn=b", "2.5.4.3=a+2.5.4.3=b", TRUE),
+        ("cn=a+cn=b", "2.5.4.3=a+2.5.4.3=a", FALSE),
+        ("cn=a+cn=b", "2.5.4.3=b+2.5.4.3=B", FALSE),
+        ("cn=a+cn=b", "2.5.4.3=a", FALSE),
+        ("cn=a+cn=b", "2.5.4.3=b", FALSE),
+        ("cn=a", "2.5.4.3=a+2.5.4.3=b", FALSE),
+        ("cn=a", "2.5.4.3=b+2.5.4.3=a", FALSE),
+        ("cn=a", "2.5.4.3=a+2.5.4.3=a", FALSE),
+        ("cn=a+cn=a", "2.5.4.3=a+2.5.4.3=A", TRUE),
+        ("cn=A+cn=a", "2.5.4.3=a+2.5.4.3=a", TRUE),
+        ("cn=a+cn=a", "2.5.4.3=a", FALSE),
+        ("cn=a+cn=a", "2.5.4.3=a+2.5.4.3=b", FALSE),
+        ("cn=a+cn=a", "2.5.4.3=b+2.5.4.3=a", FALSE),
+        ("cn=a+cn=a+cn=b", "2.5.4.3=b+2.5.4.3=a+2.5.4.3=b", FALSE),
+        ("cn=a+cn=a+cn=b", "2.5.4.3=a+2.5.4.3=b+2.5.4.3=a", TRUE),
+        ("cn=a+o=b", "2.5.4.3=b+2.5.4.10=a", FALSE),
+        ("cn=a+o=a", "2.5.4.10=a+2.5.4.3=a", TRUE),
+        ("cn=a+cn=b+cn=c+cn=d", "2.5.4.3=d+2.5.4.3=c+2.5.4.3=b+2.5.4.3=a", TRUE),
+        ("cn=a+cn=b+cn=c+cn=d", "2.5.4.3=c+2.5.4.3=a+2.5.4.3=d+2.5.4.3=b", TRUE),
+        ("cn=a+cn=b+cn=c+cn=d", "2.5.4.3=d+2.5.4.3=c+2.5.4.3=b+2.5.4.3=b", FALSE),
+        ("cn=a+cn=b+cn=c+cn=d", "2.5.4.3=d+2.5.4.3=c+2.5.4.3=b", FALSE),
+        ("cn=a+cn=b+cn=c", "2.5.4.3=d+2.5.4.3=c+2.5.4.3=b+2.5.4.3=a", FALSE),
+    ] {
+        assert_eq!(both_match(&rdn(stored), asserted), expected, "{stored} {asserted}");
+    }
+    // One to four out of three, in all orders: they match if they are the same in some order.
+    let mut all = vec![String::new()];
+    for at in 0.. {
+        if all[at].len() == 4 {
+            break;
+        }
+        all.extend(["a", "b", "c"].map(|value| all[at].clone() + value));
+    }
+    let sorted = |values: &str| {
+        let mut values: Vec<char> = values.chars().collect();
+        values.sort();
+        values
+    };
+    let text = |ty: &str, values: &str| {
+        values.chars().map(|value| format!("{ty}={value}")).collect::<Vec<_>>().join("+")
+    };
+    for stored in &all[1..] {
+        let contents = rdn(&text("cn", stored));
+        for asserted in &all[1..] {
+            let expected = if sorted(stored) == sorted(asserted) { TRUE } else { FALSE };
+            assert_eq!(rdn_match(&contents, &text("2.5.4.3", asserted)), expected, "{stored} {asserted}");
+        }
+    }
+}
+
+/// 3-5, 3-7 to 3-11, 3-17: values, by what stands between the GSER quotes after `2.5.4.3=`. The last of each
+/// line is the prepared value, `None` where the text doesn't conform.
+#[test]
+fn asserted_values() {
+    let all = "`~!@$%^&*()-_[]{}|:'/?.=#";
+    for (text, expected) in [
+        // Empty values, spaces at the ends.
+        ("", Some("")),
+        ("\\ ", Some("")),
+        ("\\20", Some("")),
+        ("\\20\\ ", Some("")),
+        ("a", Some("a")),
+        (" ", None),
+        ("  ", None),
+        (" a", None),
+        ("a ", None),
+        ("a\\  ", None),
+        (" \\ a", None),
+        ("\\20a\\ ", Some("a")),
+        ("\\  a  \\ ", Some("a")),
+        ("a b", Some("a b")),
+        ("A \u{A0}\\20  B", Some("a b")),
+        ("\u{A0}a\u{A0}", Some("a")),
+        ("\\C2\\A0a\\AD", None),
+        ("\\C2\\A0a\\C2\\AD", Some("a")),
+        // Hexadecimal pairs are octets, and all octets together have to be UTF-8.
+        ("\\c3\\A9", Some("é")),
+        ("\\C3\\a9", Some("é")),
+        ("É", Some("é")),
+        ("\\C3a", None),
+        ("\\C3", None),
+        ("\\A9", None),
+        ("\\C3é", None),
+        ("\\C3\\C3\\A9", None),
+        ("\\Adacel", None),
+        ("\\C2\\Adacel", Some("acel")),
+        ("\\41\\62", Some("ab")),
+        ("\\411", Some("a1")),
+        ("\\E6\\BC\\A2", Some("漢")),
+        ("\\E6\\BC", None),
+        ("\\ED\\A0\\80", None),
+        ("\\C0\\80", None),
+        ("\\F4\\8F\\BF\\BF", Some("\u{10FFFF}")),
+        ("\\F4\\90\\80\\80", None),
+        ("\\FF", None),
+        // Two layers of quoting.
+        ("x\\\"\"", Some("x\"")),
+        ("x\"\"", None),
+        ("\"\"x\"\"", None),
+        ("x\\22", Some("x\"")),
+        ("\\\"\"\\\"\"", Some("\"\"")),
+        // What may follow a backslash, and what may stand without one.
+        ("\\\\\\+\\,\\;\\<\\>\\ \\#\\=", Some("\\+,;<> #=")),
+        ("=", Some("=")),
+        ("==a=", Some("==a=")),
+        ("\\=", Some("=")),
+        ("\\-", None),
+        ("\\n", None),
+        ("\\/", None),
+        ("\\'", None),
+        ("\\*", None),
+        ("\\é", None),
+        ("\\\u{1}", None),
+        ("\\", None),
+        ("a\\", None),
+        ("\\4", None),
+        ("\\4g", None),
+        ("\\g4", None),
+        ("\\4 ", None),
+        ("\\x41", None),
+        ("a\\\\", Some("a\\")),
+        ("a\\\\\\", None),
+        (";", None),
+        ("a;b", None),
+        ("<", None),
+        ("a>", None),
+        (all, Some(all)),
+        // A number sign.
+        ("#", None),
+        ("#a", None),
+        ("#0C0161", None),
+        ("\\#a", Some("#a")),
+        ("\\23", Some("#")),
+        ("a#", Some("a#")),
+        ("a#b", Some("a#b")),
+        ("\\ #", Some("#")),
+        // Controls.
+        ("a\u{1}b", Some("ab")),
+        ("\t", Some("")),
+        ("\u{7F}a", Some("a")),
+        ("a\tb", Some("a b")),
+        ("a\0b", None),
+        ("\0", None),
+        ("a\\00b", Some("ab")),
+        ("\\0", None),
+    ] {
+        let asserted = format!("2.5.4.3={text}");
+        let Some(prepared) = expected else {
+            assert_eq!(both_match(&pair(CN, "a"), &asserted), UNDEFINED, "{text:?}");
+            continue;
+        };
+        assert_eq!(both_match(&pair(CN, prepared), &asserted), TRUE, "{text:?}");
+        assert_eq!(both_match(&pair(CN, &format!("  {prepared} \u{AD}")), &asserted), TRUE, "{text:?}");
+        assert_eq!(both_match(&pair(CN, &format!("{prepared}x")), &asserted), FALSE, "{text:?}");
+        assert_eq!(both_match(&pair(O, prepared), &asserted), FALSE, "{text:?}");
+    }
+    assert_eq!(both_match(&pair(CN, "straße"), "2.5.4.3=STRASSE"), TRUE);
+    assert_eq!(both_match(&pair(CN, "\u{B4}"), "2.5.4.3=\\20\\20\u{B4}"), TRUE);
+    assert_eq!(both_match(&pair(CN, "\u{B4}"), "2.5.4.3=\u{301}"), FALSE);
+}
+
+/// 3-6: nothing stands around a comma, a plus or an equals sign.
+#[test]
+fn separators() {
+    let stored = name("cn=b/cn=a");
+    assert_eq!(name_match(&stored, "2.5.4.3=a,2.5.4.3=b"), TRUE);
+    for text in [
+        "2.5.4.3=a, 2.5.4.3=b",
+        "2.5.4.3=a ,2.5.4.3=b",
+        "2.5.4.3=a;2.5.4.3=b",
+        "2.5.4.3=a,,2.5.4.3=b",
+        "2.5.4.3=a,2.5.4.3=b,",
+        ",2.5.4.3=a,2.5.4.3=b",
+        "2.5.4.3 =a,2.5.4.3=b",
+        "2.5.4.3=a,2.5.4.3",
+        "2.5.4.3=a,2.5.4.3=b+",
+        "2.5.4.3=a+,2.5.4.3=b",
+        "2.5.4.3=a,+2.5.4.3=b",
+        "2.5.4.3=a+ 2.5.4.3=b",
+        "2.5.4.3=a +2.5.4.3=b",
+        "2.5.4.3= a,2.5.4.3=b",
+        " 2.5.4.3=a,2.5.4.3=b",
+        "2.5.4.3=a,2.5.4.3=b ",
+        "2.5.4.3=a,b",
+        "2.5.4.3=a+b",
+        "2.5.4.3:a",
+        "a",
+        ",",
+        "+",
+        "=",
+        "=a",
+        " ",
+    ] {
+        assert_eq!(name_match(&stored, text), UNDEFINED, "{text:?}");
+    }
+    assert_eq!(name_match(&name("cn=,2.5.4.3:b"), "2.5.4.3=\\,2.5.4.3:b"), TRUE);
+    assert_eq!(name_match(&name("cn=/cn="), "2.5.4.3=,2.5.4.3="), TRUE);
+    assert_eq!(both_match(&rdn("cn=+cn="), "2.5.4.3=+2.5.4.3="), TRUE);
+}
+
+/// 3-12: types are dotted and of any size; those beyond the stored limits equal nothing.
+#[test]
+fn attribute_types() {
+    let (ones, threes) = ([&[0x2A][..], &[1; 31]].concat(), ".1".repeat(31));
+    for (ty, dotted) in [
+        (CN, "2.5.4.3".to_string()),
+        (&[0], "0.0".to_string()),
+        (&[39], "0.39".to_string()),
+        (&[40], "1.0".to_string()),
+        (&[79], "1.39".to_string()),
+        (&[80], "2.0".to_string()),
+        (&[0x7F], "2.47".to_string()),
+        (&[0x81, 0], "2.48".to_string()),
+        (&[0x88, 0x37], "2.999".to_string()),
+        (&[0x8F, 0xFF, 0xFF, 0xFF, 0x7F], "2.4294967215".to_string()),
+        (&[0x2A, 0x8F, 0xFF, 0xFF, 0xFF, 0x7F], "1.2.4294967295".to_string()),
+        (&[0x2A, 0x81, 0x80, 0x00], "1.2.16384".to_string()),
+        (&[9, 0x92, 0x26, 0x89, 0x93, 0xF2, 0x2C, 100, 1, 25], "0.9.2342.19200300.100.1.25".to_string()),
+        (&ones, format!("1.2{threes}")),
+    ] {
+        assert_eq!(both_match(&pair(ty, "a"), &format!("{dotted}=a")), TRUE, "{dotted}");
+        assert_eq!(both_match(&pair(ty, "a"), &format!("{dotted}.1=a")), FALSE, "{dotted}");
+        assert_eq!(both_match(&pair(ty, "a"), &format!("{dotted}.0=a")), FALSE, "{dotted}");
+        let other = format!("{dotted}.1");
+        assert_eq!(both_match(&pair(CN, "a"), &format!("{other}=a")), FALSE, "{other}");
+    }
+    for (dotted, expected) in [
+        ("2.5.4.4294967299".to_string(), FALSE),
+        ("2.5.4.18446744073709551619".to_string(), FALSE),
+        ("2.5.4.340282366920938463463374607431768211459".to_string(), FALSE),
+        ("2.4294967216".to_string(), FALSE),
+        ("2.4294967301.4.3".to_string(), FALSE),
+        ("2.18446744073709551621.4.3".to_string(), FALSE),
+        (format!("2.5.4.{}", "3".repeat(1900)), FALSE),
+        (format!("2.5.4.3{}", ".1".repeat(900)), FALSE),
+        (format!("2.5.4{}", ".3".repeat(38)), FALSE),
+        (format!("1.2{threes}.1"), FALSE),
+        ("2.5.4".to_string(), FALSE),
+        ("2.5.4.3.0".to_string(), FALSE),
+        ("1.40".to_string(), UNDEFINED),
+        ("0.40.1".to_string(), UNDEFINED),
+        ("3.1".to_string(), UNDEFINED),
+        ("2".to_string(), UNDEFINED),
+        ("".to_string(), UNDEFINED),
+        ("2.5.4.03".to_string(), UNDEFINED),
+        ("02.5.4.3".to_string(), UNDEFINED),
+        ("2.5.4.".to_string(), UNDEFINED),
+        (".2.5.4.3".to_string(), UNDEFINED),
+        ("2.5..4.3".to_string(), UNDEFINED),
+        ("2.5.4.-3".to_string(), UNDEFINED),
+        ("2.5.4.3 ".to_string(), UNDEFINED),
+        (" 2.5.4.3".to_string(), UNDEFINED),
+        ("OID.2.5.4.3".to_string(), UNDEFINED),
+        ("oid.2.5.4.3".to_string(), UNDEFINED),
+        ("cn".to_string(), UNDEFINED),
+        ("CN".to_string(), UNDEFINED),
+        ("2.5.4.3;lang-en".to_string(), UNDEFINED),
+        ("\\32.5.4.3".to_string(), UNDEFINED),
+        (format!("{}.1", "9".repeat(100)), UNDEFINED),
+        (format!("2.5.4.3{}.01", ".1".repeat(40)), UNDEFINED),
+    ] {
+        assert_eq!(both_match(&pair(CN, "a"), &format!("{dotted}=a")), expected, "{dotted}");
+    }
+    // Each pair is read, also behind one that equals nothing.
+    assert_eq!(both_match(&rdn("cn=a"), "2.5.4.4294967299=a+2.5.4.3=#"), UNDEFINED);
+    assert_eq!(both_match(&rdn("cn=a+o=b"), "2.5.4.3=a+2.5.4.4294967306=b"), FALSE);
+    assert_eq!(name_match(&name("cn=a/cn=b"), "2.5.4.3=b,2.5.4.4294967299=a"), FALSE);
+}
+
+/// 3-13, 3-21: no RDN, and as many as there may be; the same of pairs.
+#[test]
+fn limits_of_names() {
+    assert_eq!(name_match(&[], ""), TRUE);
+    assert_eq!(name_match(&name("cn="), ""), FALSE);
+    assert_eq!(name_match(&[], "2.5.4.3="), FALSE);
+    assert_eq!(name_match(&[], " "), UNDEFINED);
+    assert_eq!(rdn_match(&rdn("cn="), ""), UNDEFINED);
+    assert_eq!(rdn_match(&rdn("cn=a"), "2.5.4.3=a,2.5.4.3=a"), UNDEFINED);
+    assert_eq!(rdn_match(&rdn("cn=a"), "2.5.4.3=a,"), UNDEFINED);
+    assert_eq!(rdn_match(&rdn("cn=a"), ",2.5.4.3=a"), UNDEFINED);
+
+    let rdns = |count: usize| name(&vec!["cn=a"; count].join("/"));
+    let pairs = |count: usize| rdn(&vec!["cn=a"; count].join("+"));
+    let text = |count: usize, between: &str| vec!["2.5.4.3=a"; count].join(between);
+    assert_eq!(name_match(&rdns(16), &text(16, ",")), TRUE);
+    assert_eq!(name_match(&rdns(15), &text(16, ",")), FALSE);
+    assert_eq!(name_match(&rdns(16), &text(15, ",")), FALSE);
+    assert_eq!(name_match(&rdns(16), &text(17, ",")), UNDEFINED);
+    assert_eq!(name_match(&rdns(17), &text(16, ",")), Err(4));
+    assert_eq!(check_value(&[RDN_SEQUENCE], &encoded(0x30, &rdns(16))), Ok(()));
+    assert_eq!(check_value(&[RDN_SEQUENCE], &encoded(0x30, &rdns(17))), Err(4));
+    assert_eq!(both_match(&pairs(4), &text(4, "+")), TRUE);
+    assert_eq!(both_match(&pairs(3), &text(4, "+")), FALSE);
+    assert_eq!(both_match(&pairs(4), &text(3, "+")), FALSE);
+    assert_eq!(both_match(&pairs(4), &text(5, "+")), UNDEFINED);
+    assert_eq!(both_match(&pairs(5), &text(4, "+")), Err(4));
+    assert_eq!(both_match(&[], "2.5.4.3=a"), Err(4));
+    assert_eq!(check_value(&[RDN], &[0x31, 0]), Err(4));
+    assert_eq!(check_value(&[RDN_SEQUENCE], &[0x30, 0]), Ok(()));
+    // 16 RDNs of four pairs each.
+    let full = encoded(0x31, &pairs(4)).repeat(16);
+    let whole = vec![text(4, "+"); 16].join(",");
+    assert_eq!(name_match(&full, &whole), TRUE);
+    assert_eq!(name_match(&full, &whole.replacen('a', "b", 1)), FALSE);
+    assert_eq!(name_match(&full, &format!("{whole}+2.5.4.3=a")), UNDEFINED);
+    assert_eq!(name_match(&full, &format!("{whole},2.5.4.3=a")), UNDEFINED);
+    // A value has no limit but the sizes of the whole value and of the filter.
+    let long = "a".repeat(1900);
+    assert_eq!(both_match(&rdn(&format!("cn={long}")), &format!("2.5.4.3={long}")), TRUE);
+    assert_eq!(both_match(&rdn(&format!("cn={long}b")), &format!("2.5.4.3={long}c")), FALSE);
+}
+
+/// 3-14, 3-19: each rule is for one kind, and its value is a quoted string.
+#[test]
+fn rules_of_names() {
+    let (whole, one) = (encoded(0x30, &name("cn=a")), encoded(0x31, &rdn("cn=a")));
+    let list = [14, 0, 1, RDN];
+    for (table, value, rule, text, expected) in [
+        (&[RDN_SEQUENCE][..], &whole, "distinguishedNameMatch", "\"2.5.4.3=A\"", TRUE),
+        (&[RDN_SEQUENCE], &whole, "DISTINGUISHEDnamematch", "\"2.5.4.3=A\"", TRUE),
+        (&[RDN_SEQUENCE], &whole, "2.5.13.1", "\"2.5.4.3=A\"", TRUE),
+        (&[RDN_SEQUENCE], &whole, "1.2.36.79672281.1.13.3", "\"2.5.4.3=A\"", UNDEFINED),
+        (&[RDN_SEQUENCE], &whole, "rdnMatch", "\"2.5.4.3=A\"", UNDEFINED),
+        (&[RDN_SEQUENCE], &whole, "presentMatch", "NULL", TRUE),
+        (&[RDN_SEQUENCE], &whole, "caseIgnoreMatch", "\"a\"", UNDEFINED),
+        (&[RDN_SEQUENCE], &whole, "objectIdentifierMatch", "2.5.4.3", UNDEFINED),
+        (&[RDN], &one, "rdnMatch", "\"2.5.4.3=A\"", TRUE),
+        (&[RDN], &one, "RDNMATCH", "\"2.5.4.3=A\"", TRUE),
+        (&[RDN], &one, "1.2.36.79672281.1.13.3", "\"2.5.4.3=A\"", TRUE),
+        (&[RDN], &one, "distinguishedNameMatch", "\"2.5.4.3=A\"", UNDEFINED),
+        (&[RDN], &one, "presentMatch", "NULL", TRUE),
+        (&[RDN], &one, "caseExactMatch", "\"a\"", UNDEFINED),
+        (&list, &whole, "distinguishedNameMatch", "\"2.5.4.3=A\"", UNDEFINED),
+        (&list, &whole, "rdnMatch", "\"2.5.4.3=A\"", UNDEFINED),
+        (&[15, 0, 1, 2], &encoded(0x31, &[2, 1, 5]), "rdnMatch", "\"2.5.4.3=A\"", UNDEFINED),
+        (&[8], &encoded(0x0C, b"a"), "distinguishedNameMatch", "\"2.5.4.3=A\"", UNDEFINED),
+        (&[RDN_SEQUENCE], &whole, "distinguishedNameMatch", "  \"2.5.4.3=A\"  ", TRUE),
+        (&[RDN_SEQUENCE], &whole, "distinguishedNameMatch", "rdnSequence:\"2.5.4.3=A\"", UNDEFINED),
+        (&[RDN_SEQUENCE], &whole, "distinguishedNameMatch", "2.5.4.3=A", UNDEFINED),
+        (&[RDN_SEQUENCE], &whole, "distinguishedNameMatch", "{\"2.5.4.3=A\"}", UNDEFINED),
+        (&[RDN_SEQUENCE], &whole, "distinguishedNameMatch", "\"2.5.4.3=A\" \"\"", UNDEFINED),
+        (&[RDN_SEQUENCE], &whole, "distinguishedNameMatch", "'2.5.4.3=A'", UNDEFINED),
+        (&[RDN_SEQUENCE], &whole, "distinguishedNameMatch", "NULL", UNDEFINED),
+        (&[RDN_SEQUENCE], &whole, "distinguishedNameMatch", "\"2.5.4.3=A\"\"", Err(3)),
+        (&[RDN_SEQUENCE], &whole, "distinguishedNameMatch", "\"2.5.4.3=A", Err(3)),
+        (&[RDN_SEQUENCE], &whole, "distinguishedNameMatch", "\"2.5.4.3=}\"", FALSE),
+        (&[RDN_SEQUENCE], &whole, "distinguishedNameMatch", "\"\"", FALSE),
+        (&[RDN_SEQUENCE], &whole, "distinguishedNameMatch", "\"\"\"\"", UNDEFINED),
+    ] {
+        let filter = format!("item:{{rule {rule},value {text}}}");
+        assert_eq!(ask(table, value, filter.as_bytes(), BUDGET), expected, "{filter}");
+    }
+}
+
+/// 3-15: no reference goes inside. The list of RDNs is another type, into which references go.
+#[test]
+fn references_to_names() {
+    let table = [
+        vec![12, 4],
+        member("event", 5, 0, 0, 0, &[]),
+        member("holder", 7, 0, 0, 1, &[]),
+        member("place", 8, 2, 1, 1, &[]),
+        member("holders", 6, 1, 0, 0, &[]),
+        vec![8, 14, 0, 7, RDN_SEQUENCE, RDN],
+    ]
+    .concat();
+    assert_eq!(check_table(&table), Ok(9));
+    let names: Vec<u8> = ["", LEGG, "cn=a"].iter().flat_map(|text| encoded(0x30, &name(text))).collect();
+    let holders = encoded(0xA0, &encoded(0x30, &names));
+    let parts =
+        [encoded(0x0C, b"e"), encoded(0x30, &name("cn=a")), encoded(0xA1, &rdn("cn=a+cn=b")), holders];
+    let value = encoded(0x30, &parts.concat());
+    assert_eq!(check_value(&table, &value), Ok(()));
+    let listed = |reference: &str| {
+        let mut room = [0; 9];
+        list(&table, &value, Some(reference.as_bytes()), true, &mut room)
+            .map(|count| room[..3 * count].to_vec())
+    };
+    assert_eq!(listed("holder"), Ok(vec![0, 5, 14]));
+    assert_eq!(listed("place"), Ok(vec![0, 19, 22]));
+    assert_eq!(listed("holders.*"), Ok(vec![0, 45, 2, 0, 47, 54, 0, 101, 14]));
+    assert_eq!(listed("holders.0"), Ok(vec![2, 43, 3]));
+    for inside in
+        ["1", "-1", "0", "*", "2", "content", "rdnSequence", "1.1", "1.1.type", "*.*.value", "(1.2)", ""]
+    {
+        for reference in ["holder", "place", "holders.1", "holders.*"] {
+            assert_eq!(listed(&format!("{reference}.{inside}")), Err(3), "{reference} {inside}");
+        }
+    }
+    for (reference, rule, text, expected) in [
+        ("holder", "distinguishedNameMatch", "\"2.5.4.3=a\"", Ok((Truth::True, 1))),
+        ("holder.-1", "rdnMatch", "\"2.5.4.3=a\"", UNDEFINED),
+        ("holder.1", "rdnMatch", "\"2.5.4.3=a\"", UNDEFINED),
+        ("holder.*", "presentMatch", "NULL", UNDEFINED),
+        ("holder.0", "integerMatch", "1", UNDEFINED),
+        ("place", "rdnMatch", "\"2.5.4.3=b+2.5.4.3=a\"", Ok((Truth::True, 1))),
+        ("place", "rdnMatch", "\"2.5.4.3=b\"", Ok((Truth::False, 1))),
+        ("place", "distinguishedNameMatch", "\"2.5.4.3=b\"", UNDEFINED),
+        ("holders", "distinguishedNameMatch", "\"\"", UNDEFINED),
+        ("holders.*", "distinguishedNameMatch", "\"\"", Ok((Truth::True, 1))),
+        ("holders.*", "distinguishedNameMatch", "\"2.5.4.3=A\"", Ok((Truth::True, 3))),
+        ("holders.*", "distinguishedNameMatch", "\"2.5.4.3=b\"", Ok((Truth::False, 3))),
+        ("holders.4", "distinguishedNameMatch", "\"2.5.4.3=b\"", Ok((Truth::False, 0))),
+        ("holders.4", "distinguishedNameMatch", "\"cn=b\"", UNDEFINED),
+        ("holders.0", "distinguishedNameMatch", "\"\"", UNDEFINED),
+        ("holders.-1", "presentMatch", "NULL", Ok((Truth::True, 1))),
+    ] {
+        let filter = format!("item:{{component \"{reference}\",rule {rule},value {text}}}");
+        assert_eq!(ask(&table, &value, filter.as_bytes(), BUDGET), expected, "{filter}");
+    }
+    let every = b"item:{component \"holders.*\",rule distinguishedNameMatch,value \"2.5.4.3=A\"}";
+    assert_eq!(ask(&table, &value, every, 2), Err(5));
+    // Without the optional members nothing is named.
+    let short = encoded(0x30, &[&parts[0][..], &parts[3]].concat());
+    let absent = b"item:{component \"place\",rule rdnMatch,value \"2.5.4.3=a\"}";
+    assert_eq!(ask(&table, &short, absent, BUDGET), Ok((Truth::False, 0)));
+    // In a list of RDNs each is matched by rdnMatch.
+    let rdns = [14, 0, 1, RDN];
+    let three = encoded(0x30, &name("cn=a/cn=b/cn=c"));
+    let last = b"item:{component \"-1\",rule rdnMatch,value \"2.5.4.3=C\"}";
+    assert_eq!(ask(&rdns, &three, last, BUDGET), TRUE);
+    let any = b"item:{component \"*\",rule rdnMatch,value \"2.5.4.3=b\"}";
+    assert_eq!(ask(&rdns, &three, any, BUDGET), Ok((Truth::True, 2)));
+    assert_eq!(check_value(&rdns, &encoded(0x30, &name(&["cn=a"; 20].join("/")))), Ok(()));
+}
+
+/// 3-16, 3-20: the kinds of stored values.
+#[test]
+fn stored_values_of_names() {
+    for (tag, value, good) in [
+        (0x0C, &b"a"[..], true),
+        (0x13, b"a", true),
+        (0x16, b"a", true),
+        (0x0C, b"", true),
+        (0x13, b"", true),
+        (0x16, b"", true),
+        (0x0C, "\u{E9}\u{10FFFF}\0".as_bytes(), true),
+        (0x0C, b"\xC3", false),
+        (0x0C, b"\xED\xA0\x80", false),
+        (0x13, b"Az 09'()+,-./:=?", true),
+        (0x13, b"a*", false),
+        (0x13, b"a@b", false),
+        (0x13, b"_", false),
+        (0x13, b"&", false),
+        (0x13, b"\xC3\xA9", false),
+        (0x16, b"\0\x7F*@_", true),
+        (0x16, b"\x80", false),
+        (0x16, b"\xC3\xA9", false),
+        // TeletexString, BMPString, UniversalString, NumericString, VisibleString, OCTET STRING, constructed and others.
+        (0x14, b"a", false),
+        (0x1E, b"\0a", false),
+        (0x1C, b"\0\0\0a", false),
+        (0x12, b"1", false),
+        (0x1A, b"a", false),
+        (0x04, b"a", false),
+        (0x2C, b"\x0C\x01a", false),
+        (0x33, b"\x13\x01a", false),
+        (0x36, b"\x16\x01a", false),
+        (0x8C, b"a", false),
+        (0x80, b"a", false),
+        (0xA0, b"\x0C\x01a", false),
+        (0x4C, b"a", false),
+        (0xCC, b"a", false),
+        (0x06, b"\x2A", false),
+        (0x05, b"", false),
+        (0x02, b"\x01", false),
+        (0x30, b"", false),
+        (0x31, b"", false),
+    ] {
+        let contents = pair_of(CN, tag, value);
+        let expected = if good { Ok(()) } else { Err(4) };
+        assert_eq!(check_value(&[RDN], &encoded(0x31, &contents)), expected, "{tag:02X} {value:02X?}");
+        if good && value == b"a" {
+            assert_eq!(both_match(&contents, "2.5.4.3=\\41"), TRUE);
+            assert_eq!(both_match(&contents, "2.5.4.3=b"), FALSE);
+        }
+    }
+    assert_eq!(both_match(&pair_of(CN, 0x16, b" A\0\x09B\x7F"), "2.5.4.3=a b"), TRUE);
+
+    let long = [&[0x2A][..], &[1; 32]].concat();
+    for (oid, good) in [
+        (&[0x55][..], true),
+        (&[0], true),
+        (&long[..32], true),
+        (&long, false),
+        (&[], false),
+        (&[0x81], false),
+        (&[0x80, 1], false),
+        (&[0x2A, 0x80, 1], false),
+        (&[0x2A, 0x8F, 0xFF, 0xFF, 0xFF, 0x7F], true),
+        (&[0x2A, 0x90, 0x80, 0x80, 0x80, 0], false),
+    ] {
+        let expected = if good { Ok(()) } else { Err(4) };
+        assert_eq!(check_value(&[RDN], &encoded(0x31, &pair(oid, "a"))), expected, "{oid:02X?}");
+    }
+
+    let (ty, value) = (encoded(6, CN), encoded(0x0C, b"a"));
+    let good = encoded(0x30, &[&ty[..], &value].concat());
+    assert_eq!(check_value(&[RDN], &encoded(0x31, &good)), Ok(()));
+    let with_length = |at: usize, length: &[u8]| {
+        // The header of the pair (0), of the type (2) or of the value (7) with another length, the pair's as it has to be.
+        let mut octets = good.clone();
+        octets.splice(at + 1..at + 2, length.iter().copied());
+        if at > 0 {
+            octets[1] = octets.len() as u8 - 2;
+        }
+        octets
+    };
+    for wrong in [
+        encoded(0x30, &ty),
+        encoded(0x30, &value),
+        encoded(0x30, &[]),
+        encoded(0x30, &[&value[..], &ty].concat()),
+        encoded(0x30, &[&ty[..], &ty].concat()),
+        encoded(0x30, &[&ty[..], &value, &value].concat()),
+        encoded(0x30, &[&ty[..], &value, &[5, 0]].concat()),
+        encoded(0x30, &[&ty[..], &value, &[0]].concat()),
+        encoded(0x30, &[&[0x0D][..], &ty[1..], &value].concat()),
+        encoded(0x30, &[&[0x26][..], &ty[1..], &value].concat()),
+        encoded(0x30, &[&[0x86][..], &ty[1..], &value].concat()),
+        encoded(0x31, &[&ty[..], &value].concat()),
+        encoded(0x10, &[&ty[..], &value].concat()),
+        encoded(0xB0, &[&ty[..], &value].concat()),
+        [&ty[..], &value].concat(),
+        with_length(0, &[0x81, 8]),
+        with_length(0, &[7]),
+        with_length(0, &[9]),
+        with_length(2, &[0x81, 3]),
+        with_length(2, &[0x82, 0, 3]),
+        with_length(2, &[0x80]),
+        with_length(7, &[0x81, 1]),
+        with_length(7, &[2]),
+        with_length(7, &[0]),
+        with_length(7, &[0x83, 0, 0, 1]),
+    ] {
+        assert_eq!(check_value(&[RDN], &encoded(0x31, &wrong)), Err(4), "{wrong:02X?}");
+        assert_eq!(
+            check_value(&[RDN_SEQUENCE], &encoded(0x30, &encoded(0x31, &wrong))),
+            Err(4),
+            "{wrong:02X?}"
+        );
+    }
+    let one = encoded(0x31, &good);
+    for (table, value, expected) in [
+        (RDN_SEQUENCE, encoded(0x30, &one), Ok(())),
+        (RDN_SEQUENCE, encoded(0x31, &one), Err(4)),
+        (RDN_SEQUENCE, encoded(0x10, &one), Err(4)),
+        (RDN_SEQUENCE, encoded(0xA0, &one), Err(4)),
+        (RDN_SEQUENCE, encoded(0x30, &good), Err(4)),
+        (RDN_SEQUENCE, encoded(0x30, &encoded(0x30, &good)), Err(4)),
+        (RDN_SEQUENCE, encoded(0x30, &encoded(0x11, &good)), Err(4)),
+        (RDN_SEQUENCE, encoded(0x30, &encoded(0xB1, &good)), Err(4)),
+        (RDN_SEQUENCE, encoded(0x30, &[0x31, 0]), Err(4)),
+        (RDN_SEQUENCE, encoded(0x30, &[&one[..], &[0x31, 0]].concat()), Err(4)),
+        (RDN_SEQUENCE, encoded(0x30, &[&one[..], &[5, 0]].concat()), Err(4)),
+        (RDN_SEQUENCE, encoded(0x30, &[&one[..], &[0x31]].concat()), Err(4)),
+        (RDN_SEQUENCE, [encoded(0x30, &one), vec![0]].concat(), Err(4)),
+        (RDN, one.clone(), Ok(())),
+        (RDN, encoded(0x30, &good), Err(4)),
+        (RDN, encoded(0x11, &good), Err(4)),
+        (RDN, encoded(0x30, &one), Err(4)),
+        (RDN, encoded(0x31, &one), Err(4)),
+    ] {
+        assert_eq!(check_value(&[table], &value), expected, "{value:02X?}");
+    }
+    // RDNs stand in any order, also if one is above the next.
+    assert_eq!(check_value(&[RDN_SEQUENCE], &encoded(0x30, &name("cn=b/cn=a"))), Ok(()));
+    // Lengths of two and three octets, up to the whole value.
+    for letters in [118, 127, 128, 200, 255, 256, 4060] {
+        let text = "a".repeat(letters);
+        assert_eq!(check_value(&[RDN_SEQUENCE], &encoded(0x30, &name(&format!("cn={text}")))), Ok(()));
+    }
+}
+
+/// 3-18: tags, defaults, chains.
+#[test]
+fn tables_of_names() {
+    let chain = |count: u8, last: u8| -> Vec<u8> {
+        (1..=count).flat_map(|next| [14, 0, next]).chain([last]).collect()
+    };
+    let one = |mode: u8, number: u8, presence: u8, default: &[u8], last: u8| {
+        check_table(&[vec![12, 1], member("a", 2, mode, number, presence, default), vec![last]].concat())
+    };
+    for kind in [RDN_SEQUENCE, RDN] {
+        assert_eq!(check_table(&[kind]), Ok(1));
+        assert_eq!(check_table(&[kind, 0]), Err(2));
+        assert_eq!(check_table(&[kind; 128]), Ok(128));
+        assert_eq!(check_table(&[kind; 129]), Err(2));
+        assert_eq!(check_table(&[2, kind, 2]), Ok(3));
+        assert_eq!(check_table(&[14, 0, 1, kind]), Ok(2));
+        assert_eq!(check_table(&[15, 0, 1, kind]), Ok(2));
+        assert_eq!(check_table(&[14, 0, 0, kind]), Err(2));
+        assert_eq!(check_table(&chain(15, kind)), Ok(16));
+        assert_eq!(check_table(&chain(16, kind)), Err(2));
+        for (mode, number) in [(0, 0), (1, 0), (1, 30), (2, 1)] {
+            assert_eq!(one(mode, number, 0, &[], kind), Ok(3));
+            assert_eq!(one(mode, number, 1, &[], kind), Ok(3));
+            for default in [&[][..], &[0], &[1], &[0x30, 0]] {
+                assert_eq!(one(mode, number, 2, default, kind), Err(2), "{default:02X?}");
+            }
+        }
+        // A member or a bit name can't follow it.
+        assert_eq!(check_table(&[vec![kind], member("a", 2, 0, 0, 0, &[]), vec![2]].concat()), Err(2));
+        assert_eq!(check_table(&[vec![17, 1, kind], vec![2]].concat()), Err(2));
+        assert_eq!(check_table(&[vec![12, 1, kind], vec![2]].concat()), Err(2));
+    }
+    assert_eq!(check_table(&[21]), Err(2));
+
+    // Two members of these types, with the second type after the first.
+    let two = |group: u8, presence: u8, first: &[u8], second: &[u8]| {
+        let other = 3 + if matches!(first[0], 14 | 15) { 2 } else { 1 };
+        let members = [member("a", 3, 0, 0, presence, &[]), member("b", other, 0, 0, 0, &[])].concat();
+        let mut rows = [&[group, 2][..], &members, first].concat();
+        if matches!(first[0], 14 | 15) {
+            rows.push(2);
+        }
+        rows.extend(second);
+        check_table(&rows).is_ok()
+    };
+    for (group, presence) in [(13, 0), (12, 1)] {
+        assert!(!two(group, presence, &[RDN_SEQUENCE], &[12, 0]));
+        assert!(!two(group, presence, &[14, 0, 4], &[RDN_SEQUENCE]));
+        assert!(!two(group, presence, &[RDN_SEQUENCE], &[RDN_SEQUENCE]));
+        assert!(!two(group, presence, &[15, 0, 4], &[RDN]));
+        assert!(!two(group, presence, &[RDN], &[RDN]));
+        assert!(two(group, presence, &[RDN], &[RDN_SEQUENCE]));
+        assert!(two(group, presence, &[RDN_SEQUENCE], &[RDN]));
+        assert!(two(group, presence, &[15, 0, 4], &[RDN_SEQUENCE]));
+        assert!(two(group, presence, &[14, 0, 4], &[RDN]));
+        assert!(two(group, presence, &[RDN], &[12, 0]));
+    }
+    assert!(two(12, 0, &[RDN_SEQUENCE], &[12, 0]));
+
+    // Under an implicit tag they stay constructed; an explicit one is around their own.
+    for (kind, tag, contents) in [(RDN_SEQUENCE, 0x30, name("cn=a")), (RDN, 0x31, rdn("cn=a"))] {
+        let check = |mode: u8, octets: &[u8]| {
+            let table = [vec![12, 1], member("a", 2, mode, 1, 0, &[]), vec![kind]].concat();
+            check_value(&table, &encoded(0x30, octets))
+        };
+        assert_eq!(check(2, &encoded(0xA1, &contents)), Ok(()));
+        assert_eq!(check(2, &encoded(0x81, &contents)), Err(4));
+        assert_eq!(check(2, &encoded(0xA1, &encoded(tag, &contents))), Err(4));
+        assert_eq!(check(2, &encoded(tag, &contents)), Err(4));
+        assert_eq!(check(1, &encoded(0xA1, &encoded(tag, &contents))), Ok(()));
+        assert_eq!(check(1, &encoded(0xA1, &contents)), Err(4));
+    }
+    // A CHOICE of a name is no name for the rules, its alternative is.
+    let table = [vec![13, 1], member("rdnSequence", 2, 0, 0, 0, &[]), vec![RDN_SEQUENCE]].concat();
+    let value = encoded(0x30, &name("cn=a"));
+    let asked = |component: &str| {
+        let filter = format!("item:{{{component}rule distinguishedNameMatch,value \"2.5.4.3=a\"}}");
+        ask(&table, &value, filter.as_bytes(), BUDGET)
+    };
+    assert_eq!(asked(""), UNDEFINED);
+    assert_eq!(asked("component \"rdnSequence\","), TRUE);
+}

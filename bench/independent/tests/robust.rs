@@ -5,6 +5,7 @@ mod common;
 use common::{licence_table, LICENCE};
 use independent::cases::{read_case, read_question, Case, Input, Question};
 use independent::{ask, check_table, check_value, list, part, Truth};
+use std::collections::BTreeMap;
 
 /// Numbers drawn by SplitMix64.
 struct Draw(u64);
@@ -28,7 +29,7 @@ impl Draw {
         for _ in 0..self.below(3) {
             let at = self.below(octets.len() + 1);
             let octet =
-                [self.next() as u8, b"\"{},.* 0-'"[self.below(10)], self.below(20) as u8][self.below(3)];
+                [self.next() as u8, b"\"{},.* 0-'"[self.below(10)], self.below(22) as u8][self.below(3)];
             match self.below(3) {
                 0 => octets.insert(at, octet),
                 1 if at < octets.len() => drop(octets.remove(at)),
@@ -96,32 +97,46 @@ fn kinds(table: &[u8]) -> Vec<u8> {
     found
 }
 
-/// Drawn questions are answered. A good part of them is about named bits, with each kind of answer.
+/// Drawn questions are answered. A good part of them is about named bits and about names, with each kind of answer.
 #[test]
 fn drawn_questions() {
     let mut draw = independent::draw::Draw::new(1);
-    let (mut questions, mut about_bits) = (0, 0);
-    let mut answers = std::collections::BTreeMap::new();
+    let (mut questions, mut about_bits, mut about_names, mut long) = (0, 0, 0, 0);
+    let (mut bit_answers, mut name_answers) = (BTreeMap::new(), BTreeMap::new());
     for _ in 0..4000 {
         let drawn = draw.case();
         let mut input = Input::new(&drawn);
         let Some(Case::Questions(table, value, count)) = read_case(&mut input) else { continue };
-        let named_bits = kinds(table).contains(&17);
+        let kinds = kinds(table);
+        let named_bits = kinds.contains(&17);
+        let names = kinds.contains(&19) || kinds.contains(&20);
         for _ in 0..count {
             questions += 1;
             about_bits += usize::from(named_bits);
+            about_names += usize::from(names);
             if let Question::Filter(filter, budget) = read_question(&mut input).expect("a question") {
                 let answer = ask(table, value, filter, budget).map(|(truth, _)| format!("{truth:?}"));
-                if named_bits && filter.windows(22).any(|word| word == b"bitStringMatch,value {") {
-                    *answers.entry(answer).or_insert(0) += 1;
+                let has = |text: &[u8]| filter.windows(text.len()).any(|word| word == text);
+                if named_bits && has(b"bitStringMatch,value {") {
+                    *bit_answers.entry(answer.clone()).or_insert(0) += 1;
+                }
+                if names && (has(b"distinguishedNameMatch,value \"") || has(b"rdnMatch,value \"")) {
+                    *name_answers.entry(answer).or_insert(0) += 1;
+                    long += usize::from(value.len() > 1000 || filter.len() > 500);
                 }
             }
         }
     }
     assert!(about_bits * 6 > questions, "{about_bits} of {questions}");
-    for answer in
-        ["True", "False", "Undefined"].map(|truth| Ok(truth.to_string())).into_iter().chain((1..=5).map(Err))
-    {
-        assert!(answers.get(&answer).is_some_and(|&count| count > 10), "{answer:?} in {answers:?}");
+    assert!(about_names * 5 > questions, "{about_names} of {questions}");
+    assert!(long > 500, "{long} of {questions}");
+    for answers in [bit_answers, name_answers] {
+        for answer in ["True", "False", "Undefined"]
+            .map(|truth| Ok(truth.to_string()))
+            .into_iter()
+            .chain((1..=5).map(Err))
+        {
+            assert!(answers.get(&answer).is_some_and(|&count| count > 10), "{answer:?} in {answers:?}");
+        }
     }
 }
