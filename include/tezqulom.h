@@ -7,7 +7,7 @@
  * Every function takes any octets and any numbers, and answers for all of them: nothing has to be checked first. As for every C function, a pointer
  * and the length after it are memory that may be read (for `room`: written) for the whole call; where the length is 0 nothing is read, and the
  * pointer may be any. `room` shares no memory with the other arguments. Nothing is allocated, nothing is kept between calls, and only
- * tezqulom_list and tezqulom_quote write, into `room` alone. So calls may run on several threads at once.
+ * tezqulom_list, tezqulom_quote and tezqulom_escape write, into `room` alone. So calls may run on several threads at once.
  */
 #ifndef TEZQULOM_H
 #define TEZQULOM_H
@@ -45,6 +45,10 @@ extern "C" {
 #define TEZQULOM_MAX_DEPTH 16   /* of a filter */
 #define TEZQULOM_MAX_ITEMS 64   /* of a filter */
 
+/* Limits of a distinguished name. A stored one beyond them is refused 4; an asserted one doesn't conform, and its item is Undefined. */
+#define TEZQULOM_MAX_RDNS 16 /* RDNs of a name */
+#define TEZQULOM_MAX_PAIRS 4 /* pairs of a type and a value in an RDN, 1 at least */
+
 /* Numbers of room that are enough for every listing of a value of so many octets, and of any value. */
 #define TEZQULOM_ROOM_FOR(octets) (((octets) < TEZQULOM_MAX_VALUE ? (octets) : TEZQULOM_MAX_VALUE) / 2 * 3)
 #define TEZQULOM_MAX_ROOM TEZQULOM_ROOM_FOR(TEZQULOM_MAX_VALUE)
@@ -58,9 +62,10 @@ extern "C" {
 #endif
 #endif
 
-/* What an answer's `number` is: done, a refusal by its number, from tezqulom_ask alone a truth, or from tezqulom_quote alone why nothing is quoted. */
+/* What an answer's `number` is: done, a refusal by its number, from tezqulom_ask alone a truth, or from tezqulom_quote and tezqulom_escape alone why
+ * nothing is written. */
 enum {
-    TEZQULOM_DONE = 0,          /* admitted, good, listed, a part, quoted */
+    TEZQULOM_DONE = 0,          /* admitted, good, listed, a part, quoted, escaped */
     TEZQULOM_REFUSED_SIZE = 1,  /* a size or the budget is not within its limits */
     TEZQULOM_REFUSED_TABLE = 2, /* the table is not admitted */
     TEZQULOM_REFUSED_FORM = 3,  /* the filter is not of the form, or over depth or items; a listing's reference is malformed or not allowed */
@@ -71,12 +76,12 @@ enum {
     TEZQULOM_FALSE = 16,
     TEZQULOM_TRUE = 17,
     TEZQULOM_UNDEFINED = 18,
-    TEZQULOM_QUOTE_EMPTY = 32,  /* the text is empty */
+    TEZQULOM_QUOTE_EMPTY = 32,  /* the text is empty; from tezqulom_quote alone */
     TEZQULOM_QUOTE_UTF8 = 33,   /* the text is not valid UTF-8 */
-    TEZQULOM_QUOTE_ROOM = 34    /* the room is under the octets of the quoted text */
+    TEZQULOM_QUOTE_ROOM = 34    /* the room is under the octets of the quoted or escaped text */
 };
 
-/* An answer: a number from above, and a count, which is 0 with a refusal and where nothing is quoted. */
+/* An answer: a number from above, and a count, which is 0 with a refusal and where nothing is written. */
 typedef struct tezqulom_answer {
     uint64_t number;
     uint64_t count;
@@ -109,6 +114,12 @@ TEZQULOM_WARN_UNUSED tezqulom_answer tezqulom_ask(const uint8_t *table, uint64_t
 /* A text as a filter's value text has it: between quotes, each quote of it twice. TEZQULOM_DONE with the number of octets, written from room[0] on; or
  * TEZQULOM_QUOTE_EMPTY, _UTF8 or _ROOM with the room as it was. No text so quoted can end its item. Room of twice the text and 2 octets is enough. */
 TEZQULOM_WARN_UNUSED tezqulom_answer tezqulom_quote(const uint8_t *text, uint64_t text_length, uint8_t *room, uint64_t room_length);
+
+/* The value of an attribute as it stands in the text of a distinguished name (RFC 4514 section 2.4): a backslash before each of " + , ; < > \ and before
+ * a space that is first or last and a # that is first, NUL as \00. TEZQULOM_DONE with the number of octets, written from room[0] on, none for an empty
+ * text; or TEZQULOM_QUOTE_UTF8 or _ROOM with the room as it was. No text so escaped can end its pair; the whole name is then quoted for a filter. Room of
+ * three times the text is enough. */
+TEZQULOM_WARN_UNUSED tezqulom_answer tezqulom_escape(const uint8_t *text, uint64_t text_length, uint8_t *room, uint64_t room_length);
 
 /* A sentence about an answer's number, in lower case and without a full stop, so that it can stand after a name and a colon; one for any other number
  * too. It is kept by the library, and is not to be written to. */

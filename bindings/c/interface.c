@@ -132,6 +132,43 @@ static void check_tables(void)
     check(with_members(TEZQULOM_MAX_MEMBERS + 1) == TEZQULOM_REFUSED_TABLE, "more members");
 }
 
+/* Writes a name of so many RDNs, each of so many equal pairs; the number of its octets. */
+static uint64_t name_of(uint8_t *name, int rdns, int pairs)
+{
+    static const uint8_t pair[] = {0x30, 0x07, 0x06, 0x03, 0x55, 0x04, 0x03, 0x13, 0x00}; /* 2.5.4.3, an empty PrintableString */
+    uint64_t at = 4, contents;
+    int i, j;
+    for (i = 0; i < rdns; i++) {
+        name[at++] = 0x31;
+        name[at++] = (uint8_t)(pairs * (int)sizeof pair);
+        for (j = 0; j < pairs; j++, at += sizeof pair)
+            memcpy(name + at, pair, sizeof pair);
+    }
+    contents = at - 4;
+    check(contents >= 256, "a length of two octets");
+    name[0] = 0x30;
+    name[1] = 0x82;
+    name[2] = (uint8_t)(contents / 256);
+    name[3] = (uint8_t)(contents % 256);
+    return at;
+}
+
+/* The refusal of a name of so many RDNs, each of so many pairs, or another answer's number. */
+static uint64_t named(int rdns, int pairs)
+{
+    static const uint8_t table[] = {0x13}; /* row 0: RDNSequence */
+    uint8_t name[TEZQULOM_MAX_VALUE];
+    uint64_t length = name_of(name, rdns, pairs);
+    return tezqulom_check_value(table, sizeof table, name, length).number;
+}
+
+static void check_names(void)
+{
+    check(named(TEZQULOM_MAX_RDNS, TEZQULOM_MAX_PAIRS) == TEZQULOM_DONE, "the most RDNs and pairs");
+    check(named(TEZQULOM_MAX_RDNS + 1, TEZQULOM_MAX_PAIRS) == TEZQULOM_REFUSED_VALUE, "more RDNs");
+    check(named(TEZQULOM_MAX_RDNS, TEZQULOM_MAX_PAIRS + 1) == TEZQULOM_REFUSED_VALUE, "more pairs");
+}
+
 /* The longest value that names most: a list of NULLs. */
 static void check_room(void)
 {
@@ -160,6 +197,7 @@ int main(void)
     check_filters();
     check_tables();
     check_room();
+    check_names();
     printf("version %s\n", TEZQULOM_VERSION);
     for (number = 0; number < 64; number++)
         if (strcmp(tezqulom_text(number), tezqulom_text(UINT64_MAX)) != 0)

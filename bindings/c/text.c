@@ -28,9 +28,9 @@ const char *tezqulom_text(uint64_t number)
     case TEZQULOM_QUOTE_EMPTY:
         return "the text to quote is empty";
     case TEZQULOM_QUOTE_UTF8:
-        return "the text to quote is not UTF-8";
+        return "the text to quote or escape is not UTF-8";
     case TEZQULOM_QUOTE_ROOM:
-        return "the room is too small for the quoted text";
+        return "the room is too small for the quoted or escaped text";
     default:
         return "this number is no answer of the interface";
     }

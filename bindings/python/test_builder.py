@@ -12,12 +12,14 @@ import tezqulom
 import tezqulom.builder as build
 import tezqulom.inputs
 import tezqulom.rows
-from tezqulom import Count, Default, Kind, Refused, Stored, Truth, clauses, filters, records
+from tezqulom import Count, Default, Kind, Refusal, Refused, Stored, Truth, clauses, filters, records
+from tezqulom.der import encoded
 from tezqulom.rows import Table
 
 ROOT = pathlib.Path(__file__).resolve().parents[2]
 sys.path.insert(0, str(ROOT / "second"))
 
+import corpus_names  # noqa: E402
 import draw  # noqa: E402
 from samples import CLASSES, EXAMPLE, LICENCE, RECORD  # noqa: E402
 
@@ -79,6 +81,32 @@ class Descriptions(unittest.TestCase):
         table = Table(build.build(build.Sequence(rights=build.Optional(build.Implicit(0, build.BitString(RIGHTS))), plain=build.BitString())))
         self.assertEqual(table.text().splitlines(), [
             "SEQUENCE", "  rights [0] IMPLICIT BIT STRING {print(0), perform(1), record(2)} OPTIONAL", "  plain BIT STRING"])
+
+    def test_names(self):
+        self.assertEqual((build.build(build.RDNSequence()), build.build(build.RelativeDistinguishedName())), (b"\x13", b"\x14"))
+        table = Table(build.build(build.Sequence(holder=build.RDNSequence(), agent=build.Optional(build.Implicit(0, build.RelativeDistinguishedName())),
+                                                 others=build.SetOf(build.RDNSequence()))))
+        self.assertEqual(table.text().splitlines(), ["SEQUENCE", "  holder RDNSequence", "  agent [0] IMPLICIT RelativeDistinguishedName OPTIONAL",
+                                                     "  others SET OF", "    * RDNSequence"])
+        self.assertEqual(tezqulom.check_table(table.octets), 8)
+        lists = build.RDNSequence()
+        for _ in range(15):
+            lists = build.SequenceOf(lists)
+        self.assertEqual(tezqulom.check_table(build.build(lists)), 16)
+        with self.assertRaisesRegex(build.TableError, "more than 16 types in one another"):
+            build.build(build.SequenceOf(lists))
+
+    def test_names_errors(self):
+        for sentence, given in [
+                ("^b: members a and b start with the same tag", build.Sequence(a=build.Optional(build.RDNSequence()), b=build.Sequence())),
+                ("^b: members a and b start", build.Sequence(a=build.Optional(build.SequenceOf(build.Integer())), b=build.RDNSequence())),
+                ("^b: alternatives a and b start", build.Choice(a=build.RelativeDistinguishedName(), b=build.SetOf(build.Null()))),
+                ("^b: alternatives a and b start", build.Choice(a=build.RDNSequence(), b=build.RDNSequence())),
+                ("^a: a default on RDNSequence; only", build.Sequence(a=build.Default(build.RDNSequence(), 1))),
+                ("^a: RDNSequence is no description; write RDNSequence()", build.Sequence(a=build.RDNSequence))]:
+            with self.assertRaisesRegex(build.TableError, sentence):
+                build.build(given)
+        self.assertEqual(tezqulom.check_table(build.build(build.Choice(a=build.RDNSequence(), b=build.RelativeDistinguishedName()))), 5)
 
     def test_defaults(self):
         for kind, default, contents in [(build.Boolean(), True, b"\xff"), (build.Boolean(), False, b"\0"), (build.Integer(), -129, b"\xff\x7f"),
@@ -188,6 +216,29 @@ class Pyasn1(unittest.TestCase):
         self.assertEqual(Table(table).text().splitlines()[1:], ["  a [0] IMPLICIT BIT STRING {print(0), perform(1), record(2)}", "  b BIT STRING"])
         for names in (["print"], ["perform", "record"], ["print", "record"]):
             self.assertEqual(encoder.encode(rights(",".join(names))), records.encoded_bits(RIGHTS_TABLE, None, names))
+
+    def rdns(self, value=None, pair_tag=None):
+        """X.501's RDNSequence and RelativeDistinguishedName, as pyasn1's classes."""
+        pair = self.sequence(namedtype.NamedType("type", univ.ObjectIdentifier()), namedtype.NamedType("value", univ.Any() if value is None else value))
+        rdn = type("RDN", (univ.SetOf,), {"componentType": pair() if pair_tag is None else pair().subtype(implicitTag=pair_tag)})
+        return type("RDNs", (univ.SequenceOf,), {"componentType": rdn()}), rdn
+
+    def test_names(self):
+        rdns, rdn = self.rdns()
+        self.assertEqual((build.build(rdns), build.build(rdn), build.build(rdns())), (b"\x13", b"\x14", b"\x13"))
+        context = tag.Tag(tag.tagClassContext, tag.tagFormatConstructed, 0)
+        name = type("Name", (univ.Choice,), {"componentType": namedtype.NamedTypes(namedtype.NamedType("rdnSequence", rdns()))})
+        table = build.build(self.sequence(namedtype.NamedType("a", rdns().subtype(implicitTag=context)), namedtype.OptionalNamedType("b", name())))
+        self.assertEqual(Table(table).text().splitlines()[1:], ["  a [0] IMPLICIT RDNSequence", "  b CHOICE OPTIONAL", "    rdnSequence RDNSequence"])
+        record = rdns()
+        for at, (kind, value) in enumerate((("2.5.4.6", "AU"), ("2.5.4.3", "Steven Legg"))):
+            record[at][0]["type"] = kind
+            record[at][0]["value"] = encoder.encode(char.PrintableString(value))
+        self.assertEqual(encoder.encode(record), records.encoded_name(b"\x13", None, "2.5.4.3=Steven Legg,2.5.4.6=AU"))
+        self.assertEqual(Table(build.build(self.rdns(char.UTF8String())[0])).text().splitlines()[:2], ["SEQUENCE OF", "  * SET OF"])
+        for other in (self.rdns(univ.Any().subtype(explicitTag=context)), self.rdns(None, context)):
+            for given in other:
+                self.assertRaises(build.TableError, build.build, given)
 
     def test_no_row(self):
         application = tag.Tag(tag.tagClassApplication, tag.tagFormatSimple, 1)
@@ -367,6 +418,90 @@ class Causes(unittest.TestCase):
         self.assertEqual(line.cause, "the rule octetStringMatch is not for the type there")
         self.assertEqual(filters.why_filter(RIGHTS_TABLE, "item:{rule bitStringMatch,value {print}"),
                          "at character 33: the value's quotes or braces are not closed")
+
+    def test_name_tables(self):
+        """Tables near one with names: a cause exactly where the engine refuses."""
+        table = build.build(build.Sequence(a=build.Optional(build.RDNSequence()), b=build.SetOf(build.RelativeDistinguishedName()), c=build.RDNSequence()))
+        kinds = (0, 1, 2, 12, 14, 15, 17, 18, 19, 20, 21)
+        changed = [table[:at] + bytes([octet]) + table[at + 1:] for at in range(len(table)) for octet in (*kinds, table[at] ^ 1)]
+        moved = [table[:at] + row + table[at:] for at in range(len(table) + 1) for row in (b"\x13", b"\x14", b"\x13\0")]
+        for octets in changed + moved + [table[:at] for at in range(1, len(table))] + [table[at:] for at in range(1, len(table))]:
+            cause = clauses.why_table(octets)
+            self.assertEqual(cause is None, clauses.admitted(octets), octets.hex())
+            self.assertNotIn(NOT_FOUND, str(cause), octets.hex())
+        self.assertEqual(str(clauses.why_table(b"\x15")), "row 0: at octet 0: there is no kind 21")
+
+    def test_name_values(self):
+        """The second program's stored names, most of them near misses: a cause exactly where the engine refuses, and the tree of good ones."""
+        good, causes = 0, set()
+        for table, value in corpus_names.values():
+            try:
+                fault = records.why_value(table, value)
+            except Refused as refused:
+                self.assertIn(refused.refusal, (Refusal.SIZE, Refusal.TABLE))
+                continue
+            self.assertNotIn(NOT_FOUND, str(fault), (table.hex(), value.hex()))
+            causes.add(re.sub("[0-9]+|[0-9A-F]{2,}", "", str(fault)))
+            if fault is None:
+                good += 1
+                self.compare_tree(table, value)
+        self.assertGreaterEqual((good, len(causes)), (500, 50))
+
+    def test_name_sentences(self):
+        table = build.build(build.Sequence(n=build.Integer(), holder=build.Explicit(1, build.RDNSequence()),
+                                           r=build.Optional(build.RelativeDistinguishedName())))
+        pair = bytes.fromhex("30080603550403130161")
+        for sentence, holder, last in [
+                ("at octet 204, holder: 17 RDNs, more than 16", [[pair]] * 17, None), ("at octet 21, holder: RDN 2: 0 pairs, not 1 to 4", [[pair], []], None),
+                ("at octet 9, holder: RDN 1: 5 pairs, not 1 to 4", [[pair] * 5], None),
+                ("at octet 18, holder: RDN 1, pair 1, value: tag octet 1E is of none of the three string kinds", [[pair.replace(b"\x13", b"\x1e")]], None),
+                ("at octet 18, holder: RDN 1, pair 1, value: PrintableString with contents 40", [[pair[:-1] + b"@"]], None),
+                ("at octet 13, holder: RDN 1, pair 1, type: OBJECT IDENTIFIER with contents 550483", [[pair.replace(b"\4\3", b"\4\x83")]], None),
+                ("at octet 21, holder: RDN 1, pair 2: it is less than the element before it, and elements of a SET OF do not fall",
+                 [[pair[:-1] + b"b", pair]], None),
+                ("at octet 9, holder: RDN 1: tag octet 30 where 31 is needed (SET OF)", [pair], None),
+                ("at octet 9, r: 5 pairs, not 1 to 4", [], [pair] * 5), ("at octet 9, r: 0 pairs, not 1 to 4", [], []),
+                ("at octet 11, r: pair 1: tag octet 31 where 30 is needed (SEQUENCE)", [], [b"\x31" + pair[1:]])]:
+            inner = encoded(0x30, b"".join(encoded(0x31, b"".join(rdn)) if isinstance(rdn, list) else rdn for rdn in holder))
+            value = encoded(0x30, b"\2\1\5" + encoded(0xA1, inner) + (b"" if last is None else encoded(0x31, b"".join(last))))
+            self.assertEqual(str(records.why_value(table, value)), sentence)
+
+    def test_encoded_name(self):
+        table = build.build(build.Sequence(n=build.Integer(), h=build.Implicit(0, build.RDNSequence()), rs=build.SequenceOf(build.RelativeDistinguishedName())))
+        text, rdns = "2.5.4.3=Steven Legg,2.5.4.6=AU", [[("2.5.4.6", "AU")], [("2.5.4.3", "Steven Legg")]]
+        octets = bytes.fromhex("3023310b3009060355040613024155311430120603550403130b53746576656e204c656767")
+        self.assertEqual((records.encoded_name(table, "h", text), records.encoded_name(table, "h", rdns)), (octets, octets))
+        self.assertEqual((records.encoded_name(table, "h", "").hex(), records.encoded_name(table, "h", []).hex()), ("3000", "3000"))
+        self.assertEqual((records.encoded_name(table, "rs.*", "2.5.4.6=AU"), records.encoded_name(table, "rs.1", rdns[0])), (octets[2:15],) * 2)
+        value = encoded(0x30, b"\2\1\5" + b"\xa0" + octets[1:] + encoded(0x30, octets[2:15]))
+        self.assertEqual([part.value for reference in ("h", "rs.*") for part in records.parts(table, value, reference)], [text, "2.5.4.6=AU"])
+        self.compare_tree(table, value)
+        one = tezqulom.item(None, "rdnMatch", tezqulom.quoted_name("2.5.4.6=au"))
+        self.assertEqual([answer.truth.name for _, answer in records.each(table, value, "rs.*", one)], ["TRUE"])
+        for error, reference, name in [(tezqulom.NotName, "h", "cn=a"), (tezqulom.NotName, "rs.*", text), (tezqulom.NotName, "h", [[]]),
+                                       (ValueError, "n", text), (ValueError, None, text), (ValueError, "rs.0", text), (TypeError, "h", rdns[0]),
+                                       (TypeError, "rs.*", rdns), (TypeError, "h", 5), (Refused, "h.1", text), (Refused, "x", text)]:
+            self.assertRaises(error, records.encoded_name, table, reference, name)
+
+    def test_name_undefined(self):
+        """Why an item about a name is Undefined."""
+        name, rdn = records.encoded_name(b"\x13", None, "2.5.4.3=a"), records.encoded_name(b"\x14", None, "2.5.4.3=a")
+        start = "the value %s doesn't conform for the rule %s"
+        for cause, table, rule, text in [
+                (": at character 1 of the name: a dotted type and = are needed", b"\x13", "distinguishedNameMatch", '"cn=a"'),
+                (': at character 10 of the name: " is not escaped', b"\x13", "distinguishedNameMatch", '"2.5.4.3=x"""'),
+                (": the name has 17 RDNs, more than 16", b"\x13", "2.5.13.1", '"%s"' % ",".join(["2.5=a"] * 17)),
+                (": an RDN has 5 pairs, not 1 to 4", b"\x14", "rdnMatch", '"%s"' % "+".join(["2.5=a"] * 5)),
+                (": it has 2 RDNs, not one", b"\x14", "rdnMatch", '"2.5=a,2.5=b"'), (": it has 0 RDNs, not one", b"\x14", "rdnMatch", '""'),
+                (": it is no quoted string", b"\x13", "distinguishedNameMatch", "2.5.4.3=a"),
+                (": it is no quoted string", b"\x13", "distinguishedNameMatch", 'rdnSequence:"2.5.4.3=a"'), ("", b"\x13", "presentMatch", '"2.5.4.3=a"')]:
+            line, = filters.explain(table, name if table == b"\x13" else rdn, tezqulom.item(None, rule, text))
+            self.assertEqual((line.truth, line.cause), (Truth.UNDEFINED, start % (text, rule) + cause))
+        for table, value, rule in ((b"\x13", name, "rdnMatch"), (b"\x14", rdn, "distinguishedNameMatch"), (b"\x13", name, "caseIgnoreMatch")):
+            line, = filters.explain(table, value, tezqulom.item(None, rule, '"2.5.4.3=a"'))
+            self.assertEqual(line.cause, "the rule %s is not for the type there" % rule)
+        line, = filters.explain(b"\x13", name, tezqulom.item("1", "presentMatch", "NULL"))
+        self.assertEqual(line.cause, 'the reference "1" is malformed, or the table\'s type doesn\'t allow it')
 
     def test_undefined(self):
         for cause, text in [('the reference "seat" is malformed', 'item:{component "seat",rule presentMatch,value NULL}'),

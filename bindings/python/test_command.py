@@ -17,6 +17,7 @@ import zipfile
 import backend
 import tezqulom
 from tezqulom import command, inputs
+from tezqulom.distinguished import encoded_name, encoded_rdn
 from tezqulom.library import library
 from tezqulom.values import encoded
 
@@ -87,9 +88,11 @@ class Statuses(Command):
                    "parts.*.copies", "item:{rule integerMatch,value 3}")
         self.gives(0, "nothing is refused\n", "why", "table", "record", TRUE)
         self.gives(0, '"a""b"\n', "quote", 'a"b')
+        for value, text in [('a"b, c', 'a\\"b\\, c'), ("", ""), (" #", "\\ #"), ("#", "\\#"), ("é\\", "é\\\\")]:
+            self.gives(0, text + "\n", "escape", value)
         self.gives(0, "tezqulom %s\n" % tezqulom.__version__, "--version")
         self.assertIn("Exit status", self.gives(0, None, "--help"))
-        for name in ("show", "ask", "list", "check", "why", "explain", "each", "run", "table", "quote"):
+        for name in ("show", "ask", "list", "check", "why", "explain", "each", "run", "table", "quote", "escape"):
             self.assertIn("usage: tezqulom " + name, self.gives(0, None, name, "--help"))
 
     def test_show(self):
@@ -131,7 +134,8 @@ class Statuses(Command):
         for arguments in ([], ["foo"], ["ask"], ["ask", "table", "record"], ["ask", "table", "record", TRUE, "x"], ["--foo"],
                           ["ask", "table", "record", TRUE, "--budget", "x"], ["ask", "table", "record", TRUE, "--budget", "-1"],
                           ["check", "-", "-"], ["run", "table", TRUE], ["run", "table", TRUE, "record", "--sqlite", "db", "select 1"], ["table"],
-                          ["table", "a.py", "--show", "table"], ["run", "table", TRUE, "record", "--undefined", "x", "--refused", "x"], ["quote", ""]):
+                          ["table", "a.py", "--show", "table"], ["run", "table", TRUE, "record", "--undefined", "x", "--refused", "x"], ["quote", ""],
+                          ["escape"], ["escape", b"\xff"]):
             done = self.run_(*arguments, stdin=LICENCE)
             self.assertEqual((done.returncode, done.stdout), (64, b""), arguments)
             self.assertTrue(done.stderr.startswith(b"tezqulom: "))
@@ -184,7 +188,73 @@ class Statuses(Command):
         self.assertEqual(said(0, "each", "table", "record", "parts.*.copies", "item:{rule integerMatch,value 3}")[1]["answer"], "TRUE")
         self.assertEqual(said(0, "explain", "table", "record", TRUE)[0]["truth"], "TRUE")
         self.assertEqual(said(0, "quote", "a"), {"quoted": '"a"'})
+        self.assertEqual(said(0, "escape", "a,b"), {"escaped": "a\\,b"})
         self.assertEqual(said(0, "table", "--show", "table")["text"].splitlines()[0], "SEQUENCE")
+
+
+class Names(Command):
+    """Distinguished names: shown as a filter takes them, and asked about."""
+
+    HOLDERS = {"legg": "2.5.4.3=Steven Legg,2.5.4.10=Adacel,2.5.4.6=AU", "none": "", "odd": '2.5.4.3=x\\"+2.5.4.5=\\ \x1b,2.5.4.6=AU'}
+
+    def setUp(self):
+        super().setUp()
+        (self.folder / "holders.py").write_text("from tezqulom.builder import *\ntable = Sequence(event=UTF8String(), holder=RDNSequence(), agent=Optional("
+                                                "Implicit(0, RelativeDistinguishedName())))\n")
+        for name, text in self.HOLDERS.items():
+            (self.folder / name).write_bytes(encoded(0x30, b"\x0c\2e1" + encoded_name(text)))
+        agent = b"\xa0" + encoded_rdn([("2.5.4.3", "Élan")])[1:]
+        (self.folder / "agent").write_bytes(encoded(0x30, b"\x0c\2e1" + encoded_name("") + agent))
+        (self.folder / "empty-rdn").write_bytes(encoded(0x30, b"\x0c\2e1\x30\2\x31\0"))
+
+    def made(self):
+        self.gives(0, "", "table", "holders.py", "-o", "holders")
+
+    def test_table(self):
+        self.made()
+        self.gives(0, "holders: admitted, 7 rows\nlegg: good\n", "check", "holders", "legg")
+        self.gives(0, "SEQUENCE\n  event UTF8String\n  holder RDNSequence\n  agent [0] IMPLICIT RelativeDistinguishedName OPTIONAL\n", "table", "--show",
+                   "holders")
+        (self.folder / "two.py").write_text("from tezqulom.builder import *\ntable = Choice(a=RDNSequence(), b=Sequence())\n")
+        self.gives(3, "", "table", "two.py", error="two.py: b: alternatives a and b start with the same tag\n")
+
+    def test_show(self):
+        self.made()
+        for name, line in [("legg", '    6  holder RDNSequence "2.5.4.3=Steven Legg,2.5.4.10=Adacel,2.5.4.6=AU"\n'), ("none", '    6  holder RDNSequence ""\n'),
+                           ("odd", '    6  holder RDNSequence "2.5.4.3=x\\""+2.5.4.5=\\ \\1B,2.5.4.6=AU"\n')]:
+            self.gives(0, line, "show", "holders", name, "holder")
+        self.assertIn("         agent RelativeDistinguishedName (absent)\n", self.gives(0, None, "show", "holders", "legg"))
+        self.gives(0, 'stored 8 16 agent RelativeDistinguishedName "2.5.4.3=Élan"\n', "list", "holders", "agent", "agent")
+
+    def test_ask(self):
+        self.made()
+        for name, reference, rule, text, status, answer in [
+                ("legg", "holder", "distinguishedNameMatch", '"2.5.4.3=STEVEN LEGG,2.5.4.10=adacel,2.5.4.6=au"', 0, "TRUE 1"),
+                ("legg", "holder", "distinguishedNameMatch", '"2.5.4.6=AU,2.5.4.10=Adacel,2.5.4.3=Steven Legg"', 1, "FALSE 1"),
+                ("legg", "holder", "distinguishedNameMatch", '"cn=Steven Legg"', 2, "UNDEFINED 0"),
+                ("agent", "agent", "rdnMatch", '"2.5.4.3=élan"', 0, "TRUE 1"),
+                ("none", "agent", "rdnMatch", '"2.5.4.3=élan"', 1, "FALSE 0"), ("none", "holder", "distinguishedNameMatch", '""', 0, "TRUE 1")]:
+            self.gives(status, answer + "\n", "ask", "holders", name, tezqulom.item(reference, rule, text))
+        for name in self.HOLDERS:
+            shown = self.gives(0, None, "show", "holders", name, "holder").split(" RDNSequence ")[1].rstrip("\n")
+            self.gives(0, "TRUE 1\n", "ask", "holders", name, tezqulom.item("holder", "distinguishedNameMatch", shown))
+        text = tezqulom.item("holder", "distinguishedNameMatch", '"2.5.4.3=x\\"",2.5.4.6 =AU"')
+        self.gives(2, 'UNDEFINED 0  %s\n  because the value "2.5.4.3=x\\"",2.5.4.6 =AU" doesn\'t conform for the rule distinguishedNameMatch: '
+                   "at character 13 of the name: a dotted type and = are needed\n" % text, "explain", "holders", "odd", text)
+
+    def test_refused(self):
+        self.made()
+        self.gives(3, "empty-rdn: refused 4: the value is not one of the table's type: at octet 8, holder: RDN 1: 0 pairs, not 1 to 4\n", "why", "holders",
+                   "empty-rdn")
+        self.gives(3, "REFUSED 3\n", "list", "holders", "legg", "holder.1", error="the reference: refused 3")
+
+    def test_json(self):
+        self.made()
+        for name, text in self.HOLDERS.items():
+            shown, = json.loads(self.gives(0, None, "show", "holders", name, "holder", "--json"))
+            listed, = json.loads(self.gives(0, None, "list", "holders", name, "holder", "--json"))
+            for found in (shown, listed):
+                self.assertEqual((found["kind"], found["value"]), ("RDNSequence", text))
 
 
 class NamedBits(Command):
@@ -382,7 +452,7 @@ class ManPage(unittest.TestCase):
 
     def test_page(self):
         text = self.PAGE.read_text()
-        for name in ("show", "ask", "list", "check", "why", "explain", "each", "run", "table", "quote"):
+        for name in ("show", "ask", "list", "check", "why", "explain", "each", "run", "table", "quote", "escape"):
             self.assertIn("\n.B %s\n" % name, text.replace("\n.BR %s" % name, "\n.B %s\n" % name).replace("\n.BI \"%s " % name, "\n.B %s\n" % name))
         self.assertIn(tezqulom.__version__, text)
 

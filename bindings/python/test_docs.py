@@ -1,4 +1,4 @@
-"""The examples of the README's first steps and of the GUIDE's cookbook and rights, each run."""
+"""The examples of the README's first steps and of the GUIDE's cookbook, rights and holders, each run."""
 
 import doctest
 import os
@@ -106,13 +106,29 @@ class Examples(unittest.TestCase):
         title = "Rights as named bits"
         self.fill(title)
         self.play(section(GUIDE, title), 6)
-        table = (self.folder / "rights.table").read_bytes()
+        self.questions(title, self.rows(title, "rights.table"), "def", 7)
+        self.interact(title, 9)
+
+    def rows(self, title, name):
+        """A table that the builder has made, which is that of the section's rows."""
+        table = (self.folder / name).read_bytes()
         rows = re.findall(r"^\| \d \| (\d+) \| ([^|]+) \|", section(GUIDE, title), flags=re.MULTILINE)
         written = [re.sub("00 x ([0-9]+)", lambda zeros: "00" * int(zeros[1]), octets.replace("`", "")) for _, octets in rows]
         self.assertEqual(table.hex(), "".join(written).replace(" ", "").lower())
         self.assertEqual([int(place) for place, _ in rows], [len(bytes.fromhex("".join(written[:at]))) for at in range(len(rows))])
-        self.questions(title, table, "def", 7)
-        self.interact(title, 9)
+        return table
+
+    def test_holders(self):
+        """As the rights; and the holder that is taken apart is the record's."""
+        title = "Holders as distinguished names"
+        self.fill(title)
+        self.play(section(GUIDE, title), 6)
+        self.questions(title, self.rows(title, "holders.table"), "pqr", 16)
+        apart = re.findall(r"^\| (\d+) \| (`[0-9A-F][^|]+) \|", section(GUIDE, title), flags=re.MULTILINE)
+        octets = [bytes.fromhex(one.replace("`", "")) for _, one in apart]
+        self.assertEqual([int(place) for place, _ in apart], [6 + len(b"".join(octets[:at])) for at in range(len(apart))])
+        self.assertEqual(self.records(title)["p"][6:60], b"".join(octets))
+        self.interact(title, 12)
 
     def test_bindings(self):
         code = re.search(r"```python\n(.*?)```", (ROOT / "docs" / "BINDINGS.md").read_text(encoding="utf-8"), flags=re.DOTALL).group(1)

@@ -8,6 +8,7 @@ import multiprocessing
 import os
 import pathlib
 import pickle
+import random
 import re
 import subprocess
 import sys
@@ -15,21 +16,28 @@ import unittest
 from collections import Counter
 
 import tezqulom
+import tezqulom.der
+import tezqulom.distinguished
 import tezqulom.engine
+import tezqulom.filters
 import tezqulom.values
-from tezqulom import Answer, Count, Default, Kind, Refusal, Refused, Stored, Time, Truth, bit_list, quoted, value_of
-from tezqulom.library import library
+from tezqulom import (Answer, Count, Default, Kind, NotName, Refusal, Refused, Stored, Time, Truth, bit_list, escaped, name_text, quoted, quoted_name,
+                      rdns_of, value_of)
+from tezqulom.distinguished import encoded_name, encoded_rdn
+from tezqulom.library import WRITERS, library
 
 ROOT = pathlib.Path(__file__).resolve().parents[2]
 sys.path.insert(0, str(ROOT / "second"))
 
 import draw  # noqa: E402
+import names as second_names  # noqa: E402
+from name_text import ODD_NAMES  # noqa: E402
 from samples import LICENCE, RECORD, item  # noqa: E402
 
 COPIES = "parts.*.copies"
 P1 = item(COPIES, "integerMatch", "3")
 UNWRITTEN = 9999
-SMALL_CASES, LARGE_CASES = 9000, 300
+SMALL_CASES, LARGE_CASES, NAME_CASES = 9000, 300, 3000
 SOURCES = {Stored: 0, Default: 1, Count: 2}
 
 # The answers of each entry that have to come; refusal 7 never does.
@@ -42,7 +50,7 @@ ANSWERS = {"table": ["admitted", "refused 1", "refused 2"],
 
 def load_tests(_loader, tests, _pattern):
     """The examples in the module's docstrings are tests too."""
-    for module in (tezqulom, tezqulom.engine, tezqulom.values):
+    for module in (tezqulom, tezqulom.der, tezqulom.distinguished, tezqulom.engine, tezqulom.values):
         tests.addTests(doctest.DocTestSuite(module))
     return tests
 
@@ -159,7 +167,10 @@ class Document(unittest.TestCase):
                 ("filter_text", tezqulom.ask, [LICENCE, RECORD, 7]), ("budget", tezqulom.ask, [LICENCE, RECORD, P1, "1"]),
                 ("budget", tezqulom.ask, [LICENCE, RECORD, P1, 1.0]), ("place", tezqulom.part, [RECORD, "0", 1]),
                 ("length", tezqulom.part, [RECORD, 0, None]), ("reference", tezqulom.listing, [LICENCE, RECORD, 1]),
-                ("room", tezqulom.list_into, [LICENCE, RECORD, None, True, 5]), ("text", quoted, [5])]:
+                ("room", tezqulom.list_into, [LICENCE, RECORD, None, True, 5]), ("text", quoted, [5]), ("value", escaped, [5]), ("text", rdns_of, [b""]),
+                ("name", name_text, ["2.5.4.3=a"]), ("name", name_text, [[("2.5.4.3", "a")]]), ("name", name_text, [[["2.5.4.3=a"]]]),
+                ("name", name_text, [[{"2.5.4.3": "a"}]]), ("name", name_text, [[[("2.5.4.3", b"a")]]]), ("name", name_text, [5]), ("name", name_text, [{()}]),
+                ("name", encoded_rdn, [[[("2.5.4.3", "a")]]])]:
             with self.assertRaisesRegex(TypeError, "^%s: " % name):
                 entry(*inputs)
         with self.assertRaisesRegex(ValueError, "^filter_text: "):
@@ -250,6 +261,196 @@ class NamedBits(unittest.TestCase):
             self.assertRaises(ValueError, value_of, Kind.NAMED_BIT_STRING, bytes.fromhex(octets))
 
 
+COUNTRY, ORGANISATION, COMMON, SERIAL = "2.5.4.6", "2.5.4.10", "2.5.4.3", "2.5.4.5"
+HOLDER = [[(COUNTRY, "AU")], [(ORGANISATION, "Adacel")], [(COMMON, "Steven Legg")]]
+HOLDER_TEXT = "2.5.4.3=Steven Legg,2.5.4.10=Adacel,2.5.4.6=AU"
+DRAWN = 'aB "#+,;<>\\=\0\n\x7fé\u00a0\U0001f600'
+
+
+class DistinguishedNames(unittest.TestCase):
+    """Kinds 19 and 20 with distinguishedNameMatch and rdnMatch; document 02's Q-3."""
+
+    def truth(self, stored, asserted, table=b"\x13", rule="distinguishedNameMatch"):
+        answer = tezqulom.ask(table, stored, tezqulom.item(None, rule, '"%s"' % asserted.replace('"', '""')))
+        self.assertEqual(answer.tests, answer.truth is not Truth.UNDEFINED)
+        return answer.truth.name
+
+    def test_order(self):
+        """The text has the last RDN first; RDNs are compared by position."""
+        stored = encoded_name(HOLDER)
+        for asserted, truth in [
+                (HOLDER_TEXT, "TRUE"), ("2.5.4.6=AU,2.5.4.10=Adacel,2.5.4.3=Steven Legg", "FALSE"), ("2.5.4.10=Adacel,2.5.4.6=AU", "FALSE"),
+                (HOLDER_TEXT + ",2.5.4.6=AU", "FALSE"), ("2.5.4.3=Steven Legg,2.5.4.10=Adacel+2.5.4.6=AU", "FALSE"), ("", "FALSE"),
+                ("2.5.4.3=STEVEN  legg,2.5.4.10=\\41\\64acel,2.5.4.6=\\ au\\20", "TRUE"), ("2.5.4.3=Steven Leg,2.5.4.10=Adacel,2.5.4.6=AU", "FALSE"),
+                ("2.5.4.4=Steven Legg,2.5.4.10=Adacel,2.5.4.6=AU", "FALSE"), ("2.5.4.4294967299=Steven Legg,2.5.4.10=Adacel,2.5.4.6=AU", "FALSE"),
+                ("cn=Steven Legg,o=Adacel,c=AU", "UNDEFINED"), ("2.5.4.3=Steven Legg, 2.5.4.10=Adacel,2.5.4.6=AU", "UNDEFINED"),
+                ("2.5.4.3=Steven Legg;2.5.4.10=Adacel;2.5.4.6=AU", "UNDEFINED"), ("2.5.4.3=Steven Legg,2.5.4.10=\\Adacel,2.5.4.6=AU", "UNDEFINED")]:
+            self.assertEqual(self.truth(stored, asserted), truth, asserted)
+        self.assertEqual([self.truth(b"\x30\0", text) for text in ("", "2.5.4.3=")], ["TRUE", "FALSE"])
+
+    def test_pairs(self):
+        """Pairs in an RDN match one to one, in any order; equal ones may repeat."""
+        for pairs, asserted, truth in [
+                ([(COMMON, "a"), (SERIAL, "7")], "2.5.4.3=A+2.5.4.5=7", "TRUE"), ([(COMMON, "a"), (SERIAL, "7")], "2.5.4.5=7+2.5.4.3=A", "TRUE"),
+                ([(COMMON, "a"), (SERIAL, "7")], "2.5.4.5=a+2.5.4.3=7", "FALSE"), ([(COMMON, "a"), (SERIAL, "7")], "2.5.4.3=a", "FALSE"),
+                ([(COMMON, "a"), (COMMON, "b")], "2.5.4.3=b+2.5.4.3=a", "TRUE"), ([(COMMON, "a"), (COMMON, "a")], "2.5.4.3=a+2.5.4.3=A", "TRUE"),
+                ([(COMMON, "a"), (COMMON, "a")], "2.5.4.3=a+2.5.4.3=b", "FALSE"), ([(COMMON, "a"), (COMMON, "b")], "2.5.4.3=a+2.5.4.3=a", "FALSE"),
+                ([(COMMON, "a"), (COMMON, "a")], "2.5.4.3=a", "FALSE"), ([(COMMON, " ")], "2.5.4.3=", "TRUE"), ([(COMMON, "")], "2.5.4.3=\\20", "TRUE"),
+                ([(COMMON, "Élan")], "2.5.4.3=\\c3\\A9LAN", "TRUE"), ([(COMMON, "é")], "2.5.4.3=e\u0301", "FALSE"), ([(COMMON, "é")], "2.5.4.3=e", "FALSE"),
+                ([(COMMON, "a")], "2.5.4.3=a,2.5.4.3=a", "UNDEFINED"), ([(COMMON, "a")], "", "UNDEFINED")]:
+            self.assertEqual(self.truth(encoded_rdn(pairs), asserted, b"\x14", "rdnMatch"), truth, (pairs, asserted))
+
+    def test_kinds_of_strings(self):
+        """A stored value's kind doesn't matter, and other kinds are not stored."""
+        for tag, good in ((0x0C, True), (0x13, True), (0x16, True), (0x14, False), (0x1E, False), (0x04, False), (0x2C, False), (0x80, False)):
+            rdn = bytes.fromhex("310A30080603550403%02X0141" % tag)
+            if good:
+                self.assertEqual(self.truth(rdn, "2.5.4.3=a", b"\x14", "rdnMatch"), "TRUE")
+                self.assertEqual(value_of(Kind.RDN, rdn), "2.5.4.3=A")
+            else:
+                self.refused(b"\x14", rdn)
+
+    def refused(self, table, value):
+        with self.assertRaises(Refused) as caught:
+            tezqulom.check_value(table, value)
+        self.assertIs(caught.exception.refusal, Refusal.VALUE, value.hex())
+
+    def test_limits(self):
+        """16 RDNs and 4 pairs are stored and asserted; with one more the value is refused and the item Undefined."""
+        one, four = (COMMON, "a"), [(COMMON, text) for text in "abcd"]
+        most = encoded_name([four] * 16)
+        self.assertIsNone(tezqulom.check_value(b"\x13", most))
+        self.assertEqual(self.truth(most, name_text([four] * 16)), "TRUE")
+        for text, pairs in (("2.5.4.3=a," * 16 + "2.5.4.3=a", 1), ("2.5.4.3=a" + "+2.5.4.3=a" * 4, 5)):
+            self.assertEqual(self.truth(most, text), "UNDEFINED")
+            self.assertRaises(NotName, rdns_of, text)
+            rdns = [[one] * pairs] * (17 if pairs == 1 else 1)
+            for entry in (name_text, quoted_name, encoded_name):
+                self.assertRaises(NotName, entry, rdns)
+        pair = bytes.fromhex("30080603550403130161")
+        self.refused(b"\x14", b"\x31\x32" + pair * 5)
+        self.refused(b"\x14", b"\x31\0")
+        self.refused(b"\x13", b"\x30\2\x31\0")
+        self.refused(b"\x13", b"\x30\x81\xcc" + (b"\x31\x0a" + pair) * 17)
+        self.refused(b"\x14", b"\x31\x14" + pair[:-1] + b"b" + pair)
+        for empty in ([[]], [[one], []]):
+            self.assertRaises(NotName, name_text, empty)
+
+    def test_rules(self):
+        """Each rule is for its own kind; presentMatch is for both; names and OIDs of the rules."""
+        name, rdn = encoded_name(HOLDER[:1]), encoded_rdn(HOLDER[0])
+        for table, value, rule, truth in [
+                (b"\x13", name, "distinguishedNameMatch", "TRUE"), (b"\x13", name, "2.5.13.1", "TRUE"), (b"\x13", name, "DISTINGUISHEDNAMEMATCH", "TRUE"),
+                (b"\x14", rdn, "rdnMatch", "TRUE"), (b"\x14", rdn, "1.2.36.79672281.1.13.3", "TRUE"), (b"\x13", name, "rdnMatch", "UNDEFINED"),
+                (b"\x14", rdn, "distinguishedNameMatch", "UNDEFINED"), (b"\x0e\0\1\x14", name, "distinguishedNameMatch", "UNDEFINED"),
+                (b"\x13", name, "caseIgnoreMatch", "UNDEFINED"), (b"\x08", b"\x0c\1a", "distinguishedNameMatch", "UNDEFINED")]:
+            self.assertEqual(self.truth(value, "2.5.4.6=au", table, rule), truth, (table, rule))
+        for table, value in ((b"\x13", name), (b"\x14", rdn)):
+            self.assertIs(tezqulom.ask(table, value, tezqulom.item(None, "presentMatch", "NULL")).truth, Truth.TRUE)
+            self.assertIs(tezqulom.ask(table, value, tezqulom.item("1", "presentMatch", "NULL")).truth, Truth.UNDEFINED)
+            with self.assertRaises(Refused) as caught:
+                tezqulom.listing(table, value, "-1")
+            self.assertIs(caught.exception.refusal, Refusal.FORM)
+        for text in ("2.5.4.6=AU", 'rdnSequence:"2.5.4.6=AU"', "{}", "'00'H"):
+            self.assertIs(tezqulom.ask(b"\x13", name, tezqulom.item(None, "distinguishedNameMatch", text)).truth, Truth.UNDEFINED)
+
+    def test_odd_texts(self):
+        """What is no text of a name is read by nothing, and near ones are."""
+        stored = encoded_name([[(COMMON, "a")]])
+        for text in ODD_NAMES:
+            self.assertEqual(self.truth(stored, text), "UNDEFINED", text)
+            self.assertRaises(NotName, rdns_of, text)
+            self.assertRaises(NotName, encoded_name, text)
+        for text, rdns in [("", []), ("2.5.4.3=", [[(COMMON, "")]]), ("2.5.4.3=a=b", [[(COMMON, "a=b")]]), ("2.5.4.3=a #b", [[(COMMON, "a #b")]]),
+                           ("2.5.4.3=\\ \\ ", [[(COMMON, "  ")]]), ("2.5.4.3=a\\00\\20", [[(COMMON, "a\0 ")]]), ("2.5.4.3=\\#\\=\\\\", [[(COMMON, "#=\\")]]),
+                           ("2.5.4.3=\\5c20", [[(COMMON, "\\20")]]), ("2.5.4.3=\x01\n\x7f", [[(COMMON, "\x01\n\x7f")]]),
+                           ("0.39.0=a+2.999999999999=b,1.2=c", [[("1.2", "c")], [("0.39.0", "a"), ("2.999999999999", "b")]])]:
+            self.assertEqual(rdns_of(text), rdns)
+            self.assertIn(self.truth(stored, text), ("TRUE", "FALSE"))
+
+    def test_sentences(self):
+        for sentence, text in [
+                ("at character 1 of the name: a dotted type and = are needed", "cn=a"),
+                ("at character 11 of the name: a dotted type and = are", "2.5.4.3=a, 2.5=b"),
+                ("at character 10 of the name: ; is not escaped", "2.5.4.3=a;2.5.4.3=b"), ('at character 9 of the name: " is not escaped', '2.5.4.3="a"'),
+                ("at character 10 of the name: NUL is not escaped", "2.5.4.3=a\0"),
+                ("at character 9 of the name: # is not escaped at the start", "2.5.4.3=#0C0161"),
+                ("at character 9 of the name: a space is not escaped at the start", "2.5.4.3= a"),
+                ("at character 10 of the name: a space is not escaped at the end", "2.5.4.3=a "), ("at character 11 of the name: a space is", "2.5.4.3=\\  "),
+                ("at character 9 of the name: a backslash stands before neither", "2.5.4.3=\\n"),
+                ("at character 9 of the name: the value is not UTF", "2.5.4.3=\\C3a"),
+                ("the name has 17 RDNs, more than 16", ",".join(["2.5.4.3="] * 17)), ("an RDN has 5 pairs, not 1 to 4", "+".join(["2.5.4.3="] * 5))]:
+            with self.assertRaises(NotName) as caught:
+                rdns_of(text)
+            self.assertTrue(str(caught.exception).startswith(sentence), (str(caught.exception), sentence))
+        for sentence, entry, name in [
+                ("'cn' is no dotted type", name_text, [[("cn", "a")]]), ("'1.40' is no dotted type", encoded_name, [[("1.40", "a")]]),
+                ("'2.5.4.3\\n' is no dotted type", name_text, [[("2.5.4.3\n", "a")]]), ("an RDN has 0 pairs, not 1 to 4", encoded_rdn, []),
+                ("2 RDNs, not one", encoded_rdn, "2.5=a,2.5=b"), ("0 RDNs, not one", encoded_rdn, ""),
+                ("the type 2.5.4294967296 has more than 32 subid", encoded_rdn, "2.5.4294967296=a"),
+                ("the type 2.4294967216 has", encoded_rdn, "2.4294967216=a"), ("the type 2.5.9999", encoded_rdn, "2.5.%s=a" % ("9" * 5000)),
+                ("the type 2.5" + ".1" * 32 + " has more", encoded_rdn, "2.5" + ".1" * 32 + "=a"),
+                ("it has 4097 octets, and a value", encoded_rdn, [("2.5", "x" * 4097)]),
+                ("it has 6045 octets, and a value at", encoded_name, [[("2.5", "x" * 2000)]] * 3),
+                ("a value with a lone surrogate", encoded_rdn, [("2.5", "\ud800")])]:
+            with self.assertRaises(NotName) as caught:
+                entry(name)
+            self.assertTrue(str(caught.exception).startswith(sentence), (str(caught.exception), sentence))
+        self.assertEqual(len(encoded_rdn("2.5" + ".1" * 31 + "=a")), 41)
+        self.assertEqual(encoded_rdn("2.4294967215=").hex(), "310b300906058fffffff7f1300")
+
+    def test_round_trips(self):
+        """Names of drawn values: text and octets, and back; the engine takes them and finds them the same; the second program reads the same text."""
+        dice = random.Random(74)
+        for _ in range(300):
+            rdns = [[(dice.choice([COMMON, COUNTRY, "1.2", "2.999.4294967295"]), "".join(dice.choices(DRAWN, k=dice.randrange(6))))
+                     for _ in range(dice.randint(1, 4))] for _ in range(dice.randint(0, 4))]
+            text, octets = name_text(rdns), encoded_name(rdns)
+            self.assertEqual(rdns_of(text), rdns)
+            self.assertEqual(encoded_name(text), octets)
+            self.assertEqual([[(".".join(map(str, arcs)), value) for arcs, value in rdn] for rdn in second_names.name_of(text)], rdns)
+            self.assertIsNone(tezqulom.check_value(b"\x13", octets))
+            stored = value_of(Kind.RDN_SEQUENCE, octets)
+            self.assertEqual([sorted(rdn) for rdn in rdns_of(stored)], [sorted(rdn) for rdn in rdns])
+            self.assertEqual(encoded_name(stored), octets)
+            for asserted in (quoted_name(rdns), quoted_name(text), tezqulom.distinguished.shown(stored)):
+                self.assertEqual(tezqulom.ask(b"\x13", octets, tezqulom.item(None, "distinguishedNameMatch", asserted)), Answer(Truth.TRUE, 1), asserted)
+            for rdn in rdns:
+                self.assertIsNone(tezqulom.check_value(b"\x14", encoded_rdn(rdn)))
+                self.assertEqual(encoded_rdn(value_of(Kind.RDN, encoded_rdn(rdn))), encoded_rdn(rdn))
+
+    def test_drawn_texts(self):
+        """Drawn texts, most of them no names: those that the second program reads are read, to the same RDNs, and no others."""
+        dice, read = random.Random(75), 0
+        pieces = ["2.5=", "1.39.0=", "1.40=", "2.05=", "2.5", "cn=", ",", ",", "+", ";", " ", "#", "\\", "\\20",
+                  "\\C3", "\\a9", "\\,", "\\ ", "\\n", "a", "=", '"', "\0", "é"]
+        for _ in range(20000):
+            text = "2.5=" * dice.randrange(2) + "".join(dice.choices(pieces, k=dice.randrange(7)))
+            wanted = second_names.name_of(text)
+            try:
+                found = rdns_of(text)
+            except NotName:
+                found = None
+            self.assertEqual(found, wanted if wanted is None else [[(".".join(map(str, arcs)), value) for arcs, value in rdn] for rdn in wanted], text)
+            read += found is not None
+        self.assertGreaterEqual(read, 3000)
+
+    def test_value_of(self):
+        self.assertEqual(value_of(Kind.RDN_SEQUENCE, encoded_name(HOLDER)), HOLDER_TEXT)
+        self.assertEqual(value_of(Kind.RDN_SEQUENCE, b"\xa0" + encoded_name(HOLDER)[1:]), HOLDER_TEXT)
+        self.assertEqual(value_of(Kind.RDN_SEQUENCE, b"\x30\0"), "")
+        for kind, octets in [(Kind.RDN_SEQUENCE, "3002"), (Kind.RDN_SEQUENCE, "30023100"), (Kind.RDN, "3100"), (Kind.RDN, "310A3008060355040314" "0161")]:
+            self.assertRaises(ValueError, value_of, kind, bytes.fromhex(octets))
+
+    def test_octets(self):
+        """PrintableString where its characters allow it, else UTF8String; pairs by their encodings."""
+        self.assertEqual(encoded_name(HOLDER).hex(), "3034" "310b3009060355040613024155" "310f300d060355040a130641646163656c"
+                         "311430120603550403130b53746576656e204c656767")
+        for value, tag in [("", 0x13), ("aZ09 '()+,-./:=?", 0x13), ("a@", 0x0C), ("é", 0x0C), ("a\n", 0x0C), ("*", 0x0C), ('"', 0x0C)]:
+            self.assertEqual(encoded_rdn([(COMMON, value)])[9], tag, value)
+        self.assertEqual(encoded_rdn("2.5.4.5=aa+2.5.4.6=b+2.5.4.3=b").hex(), "311f" "30080603550403130162" "30080603550406130162" "3009060355040513026161")
+
+
 def carried(record):
     """Whether a record has a part with three copies: a worker's question."""
     return tezqulom.ask(LICENCE, record, P1)
@@ -309,6 +510,53 @@ class Quoting(unittest.TestCase):
             self.assertRaises(ValueError, bit_list, ["print", name])
         for names in ("print", b"print", {"print": 0}, [b"print"], [5], 5):
             self.assertRaises(TypeError, bit_list, names)
+
+    ESCAPES = [("", ""), ("Adacel", "Adacel"), ('"', '\\"'), ("+", "\\+"), (",", "\\,"), (";", "\\;"), ("<", "\\<"), (">", "\\>"),
+               ("\\", "\\\\"), ("\0", "\\00"),
+               (" ", "\\ "), ("  ", "\\ \\ "), (" a b ", "\\ a b\\ "), ("#", "\\#"), ("##", "\\##"), (" #", "\\ #"), ("a#", "a#"), ("a=b", "a=b"), ("=", "="),
+               ("a\n", "a\n"), (" \n", "\\ \n"), ("\u00a0", "\u00a0"), ("é\U0001f600", "é\U0001f600"), ("\0" * 300, "\\00" * 300),
+               ("\\,", "\\\\\\,"), ("'{}", "'{}")]
+
+    def test_escaped(self):
+        print("\n  escaped is %s" % ("the library's" if tezqulom.escaped_by_library() else "Python's: the library has no tezqulom_escape"))
+        for value, text in self.ESCAPES:
+            self.assertEqual(escaped(value), text)
+            self.assertEqual(tezqulom.engine._escaped_here(value.encode()).decode(), text)
+            self.assertEqual(rdns_of("2.5.4.3=%s" % text), [[(COMMON, value)]])
+        for value in (b"\xff", b"a\xc3", b"\xed\xa0\x80"):
+            self.assertRaises(tezqulom.NotQuoted, escaped, value)
+            self.assertRaises(tezqulom.NotQuoted, tezqulom.engine._escaped_here, value)
+        self.assertRaises(ValueError, escaped, "\ud800")
+
+    def test_escape_of_library(self):
+        if not tezqulom.escaped_by_library():
+            self.skipTest("the library has no tezqulom_escape")
+        for text, size, answer in [(b'a"b', 5, (0, 4, b'a\\"b\7')), (b'a"b', 4, (0, 4, b'a\\"b')), (b'a"b', 3, (34, 0, b"\7" * 3)), (b"", 0, (0, 0, b"")),
+                                   (b"", 2, (0, 0, b"\7\7")), (b"\xc3", 0, (33, 0, b"")), (b"a\xc3,", 9, (33, 0, b"\7" * 9)), (b"\0", 3, (0, 3, b"\\00")),
+                                   (b"\0", 2, (34, 0, b"\7\7")), (b" ", 2, (0, 2, b"\\ ")), (b" ", 1, (34, 0, b"\7"))]:
+            room = (ctypes.c_uint8 * size)(*[7] * size)
+            given = library.tezqulom_escape(text, len(text), room, size)
+            self.assertEqual((given.number, given.count, bytes(room)), answer)
+
+    def test_names(self):
+        self.assertEqual(name_text(HOLDER), HOLDER_TEXT)
+        self.assertEqual(name_text(iter(HOLDER)), HOLDER_TEXT)
+        self.assertEqual((name_text([]), quoted_name([]), quoted_name("")), ("", '""', '""'))
+        self.assertEqual(quoted_name([[(COMMON, 'x"')]]), '"2.5.4.3=x\\"""')
+        self.assertEqual(name_text([[(COMMON, "a,b"), (SERIAL, "#")]]), "2.5.4.3=a\\,b+2.5.4.5=\\#")
+        for text in self.HOSTILE:
+            asserted = quoted_name([[(COUNTRY, "AU")], [(COMMON, text)]])
+            self.assertEqual(tezqulom.filters.read("or:{%s}" % tezqulom.item(None, "distinguishedNameMatch", asserted)).filters[0].value, asserted)
+            self.assertEqual(rdns_of(asserted[1:-1].replace('""', '"')), [[(COUNTRY, "AU")], [(COMMON, text)]])
+            self.assertEqual(quoted_name(asserted[1:-1].replace('""', '"')), asserted)
+        self.assertRaises(NotName, quoted_name, 'x"},item:{rule presentMatch,value NULL},item:{rule presentMatch,value "')
+
+    def test_no_pair_or_item_is_ended(self):
+        for text in self.HOSTILE:
+            record = encoded_name([[(COUNTRY, "AU")], [(COMMON, text)]])
+            found = "or:{%s,or:{}}" % tezqulom.item(None, "distinguishedNameMatch", quoted_name([[(COUNTRY, "AU")], [(COMMON, text)]]))
+            self.assertEqual(tezqulom.ask(b"\x13", record, found), Answer(Truth.TRUE, 1), text)
+            self.assertEqual(tezqulom.ask(b"\x13", encoded_name(HOLDER), found), Answer(Truth.FALSE, 1), text)
 
     def test_no_quoted_form(self):
         for text in ("", b"\xff", b"\xed\xa0\x80"):
@@ -379,7 +627,7 @@ class Header(unittest.TestCase):
         for entry in ("check_table", "check_value", "part", "list", "ask"):
             self.assertIn("tezqulom_" + entry, functions)
         for name, arguments in functions.items():
-            if name == "tezqulom_quote" and not tezqulom.quoted_by_library():
+            if name in WRITERS and not hasattr(library, name):
                 continue
             types = [self.TYPES[re.fullmatch(r"\s*(.*?)\w+", one).group(1)] for one in arguments.split(",")]
             self.assertEqual(getattr(library, name).argtypes, types, name)
@@ -405,6 +653,10 @@ class Drawn(unittest.TestCase):
         cases = draw.corpus(71, SMALL_CASES)
         self.assertEqual(len(cases), SMALL_CASES)
         self.compare(cases, 10)
+
+    def test_names(self):
+        drawer = draw.CaseDrawer(73, names=True)
+        self.compare([drawer.case() for _ in range(NAME_CASES)], 1)
 
     def test_large(self):
         drawer = draw.CaseDrawer(72, draw.LARGE)

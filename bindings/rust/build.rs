@@ -1,6 +1,6 @@
 //! Links the engine's archive: from the folder in `TEZQULOM_LIB_DIR`, else from the repository's `target/staticlib`. It
 //! is `libcapi.a`, as `rt staticlib capi` writes it, or `libtezqulom.a`, as `bindings/install` installs it. Where the
-//! archive has `tezqulom_quote`, the flag `tezqulom_quote` is set for the crate's code.
+//! archive has `tezqulom_quote` or `tezqulom_escape`, a flag of that name is set for the crate's code.
 
 use std::env;
 use std::fs;
@@ -8,11 +8,14 @@ use std::path::{Path, PathBuf};
 
 const FOLDER: &str = "TEZQULOM_LIB_DIR";
 const LIBRARIES: [&str; 2] = ["capi", "tezqulom"];
+const WRITERS: [&str; 2] = ["tezqulom_quote", "tezqulom_escape"];
 
 fn main() {
     let folder = env::var_os(FOLDER).map_or_else(in_repository, PathBuf::from);
     println!("cargo:rerun-if-env-changed={FOLDER}");
-    println!("cargo:rustc-check-cfg=cfg(tezqulom_quote)");
+    for writer in WRITERS {
+        println!("cargo:rustc-check-cfg=cfg({writer})");
+    }
     for library in LIBRARIES {
         let archive = folder.join(format!("lib{library}.a"));
         println!("cargo:rerun-if-changed={}", archive.display());
@@ -34,8 +37,10 @@ fn in_repository() -> PathBuf {
 fn link(folder: &Path, library: &str, archive: &[u8]) {
     println!("cargo:rustc-link-search=native={}", folder.display());
     println!("cargo:rustc-link-lib=static={library}");
-    if has_symbol(archive, b"tezqulom_quote\0") {
-        println!("cargo:rustc-cfg=tezqulom_quote");
+    for writer in WRITERS {
+        if has_symbol(archive, format!("{writer}\0").as_bytes()) {
+            println!("cargo:rustc-cfg={writer}");
+        }
     }
 }
 

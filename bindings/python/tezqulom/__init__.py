@@ -19,20 +19,23 @@ A list of two INTEGERs, and whether one of them is below 6:
     5
 
 A text goes into a filter by `quoted`, never by itself: `item("event", "caseExactMatch", quoted(event))`. Names of bits go into it by `bit_list`:
-`item("rights", "bitStringMatch", bit_list(["print", "perform"]))`.
+`item("rights", "bitStringMatch", bit_list(["print", "perform"]))`. A distinguished name goes into it by `quoted_name`:
+`item("holder", "distinguishedNameMatch", quoted_name([[("2.5.4.6", "AU")], [("2.5.4.3", holder)]]))`.
 
 `tezqulom.builder` makes tables; `python -m tezqulom` is the command. The shared library is the file that the
 environment variable TEZQULOM_LIBRARY names, else libtezqulom.so beside the package or in a folder above it, else
 target/bindings/libtezqulom.so of the repository; docs/BINDINGS.md says how it is made.
 """
 
+from .distinguished import NotName, name_text, quoted_name, rdns_of
 from .engine import (MOST_TESTS, Answer, Component, Count, Default, NotQuoted, Octets, Refusal, Refused, Stored, Text,
-                     Truth, ask, asker, bit_list, check_table, check_value, item, list_into, listing, part, quoted,
-                     quoted_by_library, room_for)
+                     Truth, ask, asker, bit_list, check_table, check_value, escaped, escaped_by_library, item, list_into,
+                     listing, part, quoted, quoted_by_library, room_for)
 from .values import Kind, Time, value_of
 from .version import VERSION
 
 __version__ = VERSION
-__all__ = ["MOST_TESTS", "Answer", "Component", "Count", "Default", "Kind", "NotQuoted", "Octets", "Refusal", "Refused",
-           "Stored", "Text", "Time", "Truth", "ask", "asker", "bit_list", "check_table", "check_value", "item", "list_into",
-           "listing", "part", "quoted", "quoted_by_library", "room_for", "value_of"]
+__all__ = ["MOST_TESTS", "Answer", "Component", "Count", "Default", "Kind", "NotName", "NotQuoted", "Octets", "Refusal",
+           "Refused", "Stored", "Text", "Time", "Truth", "ask", "asker", "bit_list", "check_table", "check_value", "escaped",
+           "escaped_by_library", "item", "list_into", "listing", "name_text", "part", "quoted", "quoted_by_library",
+           "quoted_name", "rdns_of", "room_for", "value_of"]

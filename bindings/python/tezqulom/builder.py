@@ -14,6 +14,8 @@ numbers, as in ASN.1:
     >>> len(build(Rights))
     80
 
+A distinguished name is `RDNSequence()`, one RDN `RelativeDistinguishedName()`.
+
 A type that has no row is an error that names the member:
 
     >>> build(Sequence(event=UTF8String(), seats=Integer))
@@ -32,11 +34,11 @@ from typing import Any, Callable, Dict, Iterator, List, NamedTuple, Optional as 
 from . import clauses
 from .engine import check_table
 from .rows import CONTEXT, DEFAULT, EXPLICIT, IMPLICIT, MANDATORY, MOST_ROWS, NONE, OPTIONAL, Row
-from .values import NAME_FIELD, Kind, integer_contents
+from .values import NAMES, NAME_FIELD, Kind, integer_contents
 
 __all__ = ["BitString", "Boolean", "Choice", "Default", "Enumerated", "Explicit", "GeneralizedTime", "IA5String", "Implicit", "Integer", "Null",
-           "ObjectIdentifier", "OctetString", "Optional", "PrintableString", "Sequence", "SequenceOf", "Set", "SetOf", "TableError", "UTCTime", "UTF8String",
-           "build"]
+           "ObjectIdentifier", "OctetString", "Optional", "PrintableString", "RDNSequence", "RelativeDistinguishedName", "Sequence", "SequenceOf", "Set",
+           "SetOf", "TableError", "UTCTime", "UTF8String", "build"]
 
 MOST_CHAINED = clauses.MOST_CHAINED
 
@@ -74,6 +76,7 @@ def _basic(kind: Kind) -> Callable[[], Type]:
 
 Boolean, Integer, Enumerated, Null, ObjectIdentifier, OctetString = map(_basic, list(Kind)[:6])
 UTF8String, PrintableString, IA5String, GeneralizedTime = map(_basic, list(Kind)[7:11])
+RDNSequence, RelativeDistinguishedName = map(_basic, NAMES)
 
 
 class Rowless(NamedTuple):
@@ -319,21 +322,43 @@ _PYASN1 = {"Boolean": Kind.BOOLEAN, "Integer": Kind.INTEGER, "Enumerated": Kind.
            "SetOf": Kind.SET_OF}
 
 
+def _pyasn1_own(given: Any) -> str:
+    """The name of the pyasn1 class that a class or object is of; empty where it is of none."""
+    classes = (given if isinstance(given, type) else type(given)).__mro__
+    return next((one.__name__ for one in classes if one.__module__.startswith("pyasn1.type.")), "")
+
+
 def _pyasn1_kind(given: Any, path: str) -> Kind:
     """The kind of a pyasn1 class or object."""
-    classes = (given if isinstance(given, type) else type(given)).__mro__
-    own = next((one for one in classes if one.__module__.startswith("pyasn1.type.")), None)
-    if own is None:
+    own = _pyasn1_own(given)
+    if not own:
         name = getattr(given, "__name__", None) or repr(given)
         raise _fail(path, "%s is no description%s" % (name, "; write %s()" % name if getattr(given, "__module__", "") == __name__ else ""))
-    if own.__name__ not in _PYASN1:
-        raise _fail(path, "no row for %s" % own.__name__)
-    return _PYASN1[own.__name__]
+    if own not in _PYASN1:
+        raise _fail(path, "no row for %s" % own)
+    return _PYASN1[own]
+
+
+def _is_rdn(given: Any) -> bool:
+    """Whether a pyasn1 class or object is X.501's RelativeDistinguishedName: SET OF SEQUENCE of an OBJECT IDENTIFIER and ANY, which has no row alone."""
+    if _pyasn1_own(given) != "SetOf" or _untagged(given.componentType) != ("Sequence", 1):
+        return False
+    return [_untagged(one.asn1Object) for one in given.componentType.componentType.namedTypes] == [("ObjectIdentifier", 1), ("Any", 0)]
+
+
+def _untagged(given: Any) -> Tuple[str, int]:
+    """The name of a pyasn1 class or object that has no tags but its universal ones, and their number."""
+    tags = given.tagSet.superTags
+    return ("" if any(tag.tagClass for tag in tags) else _pyasn1_own(given)), len(tags)
 
 
 def _of_pyasn1(given: Any, path: str) -> Type:
     """A pyasn1 class or object as a description of one level."""
     kind = _pyasn1_kind(given, path)
+    if _is_rdn(given):
+        return RelativeDistinguishedName()
+    if kind is Kind.SEQUENCE_OF and _is_rdn(given.componentType) and _untagged(given.componentType)[0]:
+        return RDNSequence()
     if kind in (Kind.SEQUENCE_OF, Kind.SET_OF):
         return Type(kind, (("*", given.componentType),))
     if kind in (Kind.SEQUENCE, Kind.CHOICE):

@@ -9,7 +9,7 @@ import traceback
 from typing import Any, Callable, Dict, Iterable, List, NoReturn, Optional
 
 from . import billrun, builder, clauses, filters, records
-from .engine import MOST_TESTS, NotQuoted, Refusal, Refused, Truth, ask, asker, check_table, check_value, counted, quoted
+from .engine import MOST_TESTS, NotQuoted, Refusal, Refused, Truth, ask, asker, check_table, check_value, counted, escaped, quoted
 from .inputs import NO_INPUT, USAGE, WRITE_ERROR, Input, Inputs, Stop
 from .rows import Table
 from .values import Plain, Time, gser, printable
@@ -61,6 +61,7 @@ def parser() -> Parser:
     _run_arguments(command(run_, "one filter about many records: the ids of those where it is TRUE", "TABLE", "FILTER"))
     _table_arguments(command(table, "a table from a Python file of the builder, or a table as text"))
     command(quote, "a text as the quoted string that stands for it in a filter", "TEXT")
+    command(escape, "the value of an attribute as it stands in the text of a distinguished name", "TEXT")
     return top
 
 
@@ -242,9 +243,9 @@ def explain(options: argparse.Namespace, inputs: Inputs) -> int:
         say(json.dumps([{**line._asdict(), "truth": line.truth.name} for line in lines]))
     for line in () if options.json else lines:
         tests = "" if line.tests is None else " %d" % line.tests
-        say("%s%s%s  %s" % ("  " * line.depth, line.truth.name, tests, printable(line.text)))
+        say("%s%s%s  %s" % ("  " * line.depth, line.truth.name, tests, printable(line.text, "")))
         if line.cause is not None:
-            say("%s  because %s" % ("  " * line.depth, printable(line.cause)))
+            say("%s  because %s" % ("  " * line.depth, printable(line.cause, "")))
     return STATUS[lines[0].truth]
 
 
@@ -359,6 +360,16 @@ def quote(options: argparse.Namespace, _inputs: Inputs) -> int:
     except NotQuoted as error:
         raise Stop(USAGE, "quote: %s" % error) from None
     say(json.dumps({"quoted": text}) if options.json else text)
+    return DONE
+
+
+def escape(options: argparse.Namespace, _inputs: Inputs) -> int:
+    """The value of an attribute, escaped."""
+    try:
+        text = escaped(options.text.encode("utf-8", "surrogateescape"))
+    except NotQuoted as error:
+        raise Stop(USAGE, "escape: %s" % error) from None
+    say(json.dumps({"escaped": text}) if options.json else text)
     return DONE
 
 

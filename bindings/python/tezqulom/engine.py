@@ -1,4 +1,4 @@
-"""The engine's entries, and the quoting of texts for filters."""
+"""The engine's entries, and the quoting and escaping of texts for filters."""
 
 import ctypes
 import enum
@@ -19,6 +19,7 @@ MOST_TESTS = 65535
 _DONE = 0
 _LARGEST = 2 ** 64 - 1
 _NAME = re.compile("[a-z](-?[A-Za-z0-9])*")
+_TO_ESCAPE = re.compile(rb'["+,;<>\\\0]|\A[ #]| \Z')
 
 
 class Truth(enum.Enum):
@@ -317,7 +318,7 @@ def asker(table: Octets, filter_text: Text, budget: int = MOST_TESTS) -> Callabl
 
 
 class NotQuoted(ValueError):
-    """A text that has no quoted form: it is empty, or not UTF-8."""
+    """A text that has no quoted form: it is empty, or not UTF-8. One that is not UTF-8 has no escaped form either."""
 
 
 _QUOTE_SENTENCES = {32: "an empty text has no quoted form", 33: "the text is not UTF-8"}
@@ -359,6 +360,42 @@ def _quoted_here(octets: bytes) -> bytes:
     return b'"' + octets.replace(b'"', b'""') + b'"'
 
 
+def escaped_by_library() -> bool:
+    """Whether `escaped` asks the library. A library without tezqulom_escape has a function here in its place."""
+    return hasattr(library, "tezqulom_escape")
+
+
+def escaped(value: Text) -> str:
+    """The value of an attribute as it stands in the text of a distinguished name (RFC 4514 section 2.4): nothing in it can end its pair.
+
+    It is no text for a filter yet: `quoted` makes one of the whole name.
+
+    >>> print(escaped('say "e1", Adacel+'))
+    say \\"e1\\"\\, Adacel\\+
+    """
+    octets, size = _text(value, "value")
+    written = _escaped_by_library(octets, size) if escaped_by_library() else _escaped_here(octets)
+    return written.decode("utf-8")
+
+
+def _escaped_by_library(octets: bytes, size: int) -> bytes:
+    """The escaped form by the library's function."""
+    room = (ctypes.c_uint8 * (3 * size))()
+    answer = library.tezqulom_escape(octets, size, room, len(room))
+    if answer.number != _DONE:
+        raise NotQuoted(_QUOTE_SENTENCES.get(answer.number, "the engine answered %d" % answer.number))
+    return bytes(room[:answer.count])
+
+
+def _escaped_here(octets: bytes) -> bytes:
+    """The escaped form, for a library that has no function for it."""
+    try:
+        octets.decode("utf-8")
+    except UnicodeDecodeError:
+        raise NotQuoted(_QUOTE_SENTENCES[33]) from None
+    return _TO_ESCAPE.sub(lambda one: b"\\00" if one[0] == b"\0" else b"\\" + one[0], octets)
+
+
 def bit_list(names: Iterable[str]) -> str:
     """Names of bits as the GSER list that stands for them in a filter, for bitStringMatch on a BIT STRING whose bits have names.
 
@@ -379,7 +416,8 @@ def bit_list(names: Iterable[str]) -> str:
 
 
 def item(reference: Optional[str], rule: str, value: str, defaults: bool = True) -> str:
-    """An item of a filter. The value is a GSER text: make one of a text by `quoted`, of names of bits by `bit_list`.
+    """An item of a filter. The value is a GSER text: make one of a text by `quoted`, of names of bits by `bit_list`, of a distinguished name by
+    `quoted_name`.
 
     >>> item("event", "caseExactMatch", quoted("e1"))
     'item:{component "event",rule caseExactMatch,value "e1"}'

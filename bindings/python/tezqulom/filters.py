@@ -3,9 +3,10 @@
 import re
 from typing import Callable, Iterator, List, NamedTuple, Optional, Union
 
-from .engine import Answer, Octets, Refusal, Refused, Text, Truth, ask, item, listing
+from .distinguished import OID, NotName, rdns_of
+from .engine import Answer, Octets, Refusal, Refused, Text, Truth, ask, counted, item, listing
 from .rows import Table
-from .values import Kind
+from .values import NAMES, Kind
 
 MOST_DEPTH = 16
 MOST_ITEMS = 64
@@ -13,7 +14,9 @@ MOST_ITEMS = 64
 # For each kind a value and asserted values that conform for its rules; presentMatch is for any. A BIT STRING's conform for a named one too.
 _SAMPLES = ((Kind.BOOLEAN, "0101FF", "TRUE"), (Kind.INTEGER, "020100", "0"), (Kind.OBJECT_IDENTIFIER, "06012A", "1.2"),
             (Kind.OCTET_STRING, "040100", "'00'H"), (Kind.BIT_STRING, "030100", "'0'B"), (Kind.IA5_STRING, "160161", '"a"'),
-            (Kind.GENERALIZED_TIME, "180F32303234303130313030303030305A", '"20240101000000Z"'), (Kind.NULL, "0500", "NULL"))
+            (Kind.GENERALIZED_TIME, "180F32303234303130313030303030305A", '"20240101000000Z"'), (Kind.NULL, "0500", "NULL"),
+            (Kind.RDN_SEQUENCE, "3000", '"2.5.4.3=a"'), (Kind.RDN, "310A30080603550403130161", '"2.5.4.3=a"'))
+_QUOTED = re.compile('"((?:[^"]|"")*)"')
 _BIT_LIST = re.compile(r"\{ *[a-z][A-Za-z0-9-]*(?:, *[a-z][A-Za-z0-9-]*)* *\}")
 
 
@@ -58,7 +61,6 @@ class _Reader:
 
     COMPONENT = re.compile(r'component +"((?:[^"]|"")*)", *')
     DEFAULTS = re.compile(r"useDefaultValues +(TRUE|FALSE), *")
-    OID = r"(?:[01]\.[1-3]?[0-9]|2\.(?:0|[1-9][0-9]*))(?:\.(?:0|[1-9][0-9]*))*"
     RULE = re.compile("rule +([A-Za-z][A-Za-z0-9-]*|%s), *" % OID)
     VALUE = re.compile("value +")
 
@@ -241,7 +243,8 @@ def _cause(table: Octets, value: Octets, found: Item) -> str:
         return "the rule %s is unknown" % found.rule
     if not any(_defined(table, value, found.reference, found.rule, text) for _, _, text in _SAMPLES):
         return "the rule %s is not for the type there" % found.rule
-    return "the value %s doesn't conform for the rule %s%s" % (found.value, found.rule, _unnamed(Table(table), found))
+    rows = Table(table)
+    return "the value %s doesn't conform for the rule %s%s" % (found.value, found.rule, _unnamed(rows, found) or _no_name(rows, found))
 
 
 def _unnamed(table: Table, found: Item) -> str:
@@ -253,6 +256,22 @@ def _unnamed(table: Table, found: Item) -> str:
         return ": the bits there have no names"
     unknown = [name for name in re.findall("[^{}, ]+", found.value) if name not in table.bits(row)]
     return ": no bit has the name %s" % unknown[0] if table.kind(row) is Kind.NAMED_BIT_STRING and unknown else ""
+
+
+def _no_name(table: Table, found: Item) -> str:
+    """What is wrong with a distinguished name."""
+    row = table.reached(found.reference)
+    sample = next((bytes.fromhex(octets) for kind, octets, _ in _SAMPLES if row is not None and kind in NAMES and kind is table.kind(row)), None)
+    if row is None or sample is None or not _defined(bytes([table.kind(row)]), sample, None, found.rule, '"2.5.4.3=a"'):
+        return ""
+    text = _QUOTED.fullmatch(found.value)
+    if text is None:
+        return ": it is no quoted string"
+    try:
+        rdns = rdns_of(text.group(1).replace('""', '"'))
+    except NotName as bad:
+        return ": %s" % bad
+    return ": it has %s, not one" % counted(len(rdns), "RDN") if table.kind(row) is Kind.RDN and len(rdns) != 1 else ""
 
 
 def _allowed(table: Octets, value: Octets, reference: str) -> bool:

@@ -7,7 +7,9 @@ from typing import Any, Iterator
 
 VARIABLE = "TEZQULOM_LIBRARY"
 NAME = "libtezqulom.so"
-FUNCTIONS = tuple("tezqulom_" + name for name in ("check_table", "check_value", "part", "list", "ask", "quote"))
+FUNCTIONS = tuple("tezqulom_" + name for name in ("check_table", "check_value", "part", "list", "ask", "quote", "escape"))
+WRITERS = FUNCTIONS[-2:]
+"""Those that a library may lack."""
 
 
 class CAnswer(ctypes.Structure):
@@ -40,18 +42,18 @@ def file() -> str:
 
 
 def load() -> ctypes.CDLL:
-    """The library with its functions declared. `tezqulom_quote` is declared where the library has it."""
+    """The library with its functions declared, those that write texts where the library has them."""
     number = [ctypes.c_uint64]
     octets, room = [ctypes.c_char_p] + number, [ctypes.POINTER(ctypes.c_uint64)] + number
     try:
         loaded = ctypes.CDLL(file())
     except OSError as error:
         raise ImportError("the library can't be loaded: %s" % error) from None
-    declared = (octets, octets * 2, octets + number * 2, octets * 2 + number + octets + number + room, octets * 3 + number,
-                octets + [ctypes.POINTER(ctypes.c_uint8)] + number)
+    written = octets + [ctypes.POINTER(ctypes.c_uint8)] + number
+    declared = (octets, octets * 2, octets + number * 2, octets * 2 + number + octets + number + room, octets * 3 + number, written, written)
     for name, arguments in zip(FUNCTIONS, declared):
         function = getattr(loaded, name, None)
-        if function is None and name != "tezqulom_quote":
+        if function is None and name not in WRITERS:
             raise ImportError("%s has no %s" % (loaded._name, name))
         if function is not None:
             function.argtypes, function.restype = arguments, CAnswer

@@ -1,13 +1,18 @@
 """A record by its components: the tree of a good one, the first cause in a refused one, and questions about its parts."""
 
-from typing import Iterator, List, NamedTuple, Optional, Tuple
+import re
+from typing import Any, Callable, Iterator, List, NamedTuple, Optional, Tuple, Union
 
+from . import distinguished
 from .engine import Answer, Component, Count, Default, Octets, Refusal, Refused, Text, asker, check_value, counted, listing, part
-from .rows import CONSTRUCTED, DEFAULT, EXPLICIT, MANDATORY, Member, Table
-from .values import Bits, Kind, Names, Plain, bit_string_contents, contents_of, encoded, gser, integer_contents, named_bits, plain
+from .rows import CONSTRUCTED, DEFAULT, EXPLICIT, MANDATORY, Member, Row, Table
+from .values import NAMES, NAME_FIELD, Bits, Kind, Names, Plain, bit_string_contents, contents_of, encoded, gser, integer_contents, named_bits, plain
 
 _MOST_SHOWN = 32
 _NO_VALUE = b"\0\0"
+# What an RDN and a name are but for their limits, in rows of other kinds: by these the cause in a refused one is found.
+_PAIR = (("type", Kind.OBJECT_IDENTIFIER), ("value", Kind.CHOICE))
+_VALUES = (("utf8String", Kind.UTF8_STRING), ("printableString", Kind.PRINTABLE_STRING), ("ia5String", Kind.IA5_STRING))
 
 
 class Node(NamedTuple):
@@ -189,16 +194,34 @@ def encoded_bits(table: Octets, reference: Optional[str], bits: Bits) -> bytes:
     They are names, with numbers for bits that have none, or a text of 0 and 1. A ValueError for a name that no bit has, and where the reference
     reaches another type. Refused: SIZE, TABLE, FORM, as a listing is.
     """
+    found, row = _reached(table, reference)
+    if row is None or found.kind(row) is not Kind.NAMED_BIT_STRING:
+        raise ValueError("%s is no BIT STRING whose bits have names" % (reference or "the whole value"))
+    return encoded(Kind.NAMED_BIT_STRING.tag or 0, bit_string_contents(named_bits(found.bits(row), bits)))
+
+
+def encoded_name(table: Octets, reference: Optional[str], name: Union[distinguished.Name, distinguished.Rdn]) -> bytes:
+    """A distinguished name, or one RDN, as a value of the type that a reference reaches, with its own tag.
+
+    It is an RFC 4514 text with dotted types, or, in stored order, the RDNs of a name, the pairs of an RDN. A NotName, which is a ValueError, beyond
+    the limits, and a ValueError where the reference reaches another type. Refused: SIZE, TABLE, FORM, as a listing is.
+    """
+    found, row = _reached(table, reference)
+    if row is None or found.kind(row) not in NAMES:
+        raise ValueError("%s is no distinguished name" % (reference or "the whole value"))
+    make: Callable[[Any], bytes] = distinguished.encoded_name if found.kind(row) is Kind.RDN_SEQUENCE else distinguished.encoded_rdn
+    return make(name)
+
+
+def _reached(table: Octets, reference: Optional[str]) -> Tuple[Table, Optional[int]]:
+    """The table, and the row that a reference reaches. Refused as a listing is, but for VALUE."""
     try:
         listing(table, _NO_VALUE, reference)
     except Refused as refused:
         if refused.refusal is not Refusal.VALUE:
             raise
     found = Table(table)
-    row = found.reached(reference)
-    if row is None or found.kind(row) is not Kind.NAMED_BIT_STRING:
-        raise ValueError("%s is no BIT STRING whose bits have names" % (reference or "the whole value"))
-    return encoded(Kind.NAMED_BIT_STRING.tag or 0, bit_string_contents(named_bits(found.bits(row), bits)))
+    return found, found.reached(reference)
 
 
 class Fault(NamedTuple):
@@ -234,6 +257,20 @@ def why_value(table: Octets, value: Octets) -> Optional[Fault]:
         return _Search(Table(table), octets).whole()
     except _Found as found:
         return found.fault
+
+
+def _name_rows(kind: Kind) -> bytes:
+    """The rows of what a kind of distinguished name is but for its limits: perhaps a SEQUENCE OF, a SET OF, a SEQUENCE, a CHOICE of strings."""
+    head = [Row(Kind.SEQUENCE_OF, to=1)] if kind is Kind.RDN_SEQUENCE else []
+    at = len(head) + 1
+    rows = [*head, Row(Kind.SET_OF, to=at), Row(Kind.SEQUENCE, count=len(_PAIR)), *_members(_PAIR, at + 3), Row(Kind.OBJECT_IDENTIFIER),
+            Row(Kind.CHOICE, count=len(_VALUES)), *_members(_VALUES, at + 8), *(Row(one) for _, one in _VALUES)]
+    return b"".join(row.octets() for row in rows)
+
+
+def _members(named: Tuple[Tuple[str, Kind], ...], first: int) -> List[Row]:
+    """Mandatory members whose types are the rows from one on."""
+    return [Row(Kind.MEMBER, to=first + at, name=name.encode().ljust(NAME_FIELD, b"\0")) for at, (name, _) in enumerate(named)]
 
 
 class _Search:
@@ -293,7 +330,9 @@ class _Search:
             raise _Found(place, reference, "tag octet %02X where %02X is needed (%s)" % (self.octets[place], tag or 0, kind.asn1))
         if self.good(row, place, end):
             return end
-        if kind.basic:
+        if kind in NAMES:
+            self.name(kind, place, start, end, reference)
+        elif kind.basic:
             raise _Found(place, reference, "%s with contents %s%s" % (kind.asn1, self.shown(start, end), self.trailing(kind, place, end)))
         if kind is Kind.SEQUENCE:
             self.members(row, start, end, reference)
@@ -318,6 +357,31 @@ class _Search:
         except Refused:
             return ""
         return ": a trailing zero bit, which named bits don't have"
+
+    def name(self, kind: Kind, place: int, start: int, end: int, reference: str) -> None:
+        """The cause in a distinguished name, or in an RDN: the first in its parts, else a limit."""
+        inner = _Search(Table(_name_rows(kind)), self.octets)
+        try:
+            inner.elements(0, start, end, "")
+        except _Found as found:
+            words = [word % one for word, one in zip(("RDN %s", "pair %s", "%s")[kind is Kind.RDN:], found.fault.reference.split("."))]
+            sentence = re.sub("^a mandatory member is missing: (tag octet ..) stands here", r"\1 is of none of the three string kinds", found.fault.sentence)
+            cause = sentence if words[-1] == "value" else found.fault.sentence
+            raise _Found(found.fault.place, reference, "%s: %s" % (", ".join(words), cause)) from None
+        tree = _Tree(self.table, self.octets)
+        rdns = list(tree.places(start, end)) if kind is Kind.RDN_SEQUENCE else []
+        if len(rdns) > distinguished.MOST_RDNS:
+            raise _Found(rdns[distinguished.MOST_RDNS], reference, "%d RDNs, more than %d" % (len(rdns), distinguished.MOST_RDNS))
+        for position, at in enumerate(rdns, 1):
+            self.pairs(*tree.end(at), at, reference, "RDN %d: " % position)
+        if kind is Kind.RDN:
+            self.pairs(start, end, place, reference, "")
+
+    def pairs(self, start: int, end: int, place: int, reference: str, which: str) -> None:
+        """The number of pairs in an RDN's contents."""
+        count = len(list(_Tree(self.table, self.octets).places(start, end)))
+        if not 1 <= count <= distinguished.MOST_PAIRS:
+            raise _Found(place, reference, "%s%s, not 1 to %d" % (which, counted(count, "pair"), distinguished.MOST_PAIRS))
 
     def starts(self, member: Member, place: int) -> bool:
         """Whether the tag octet at a place can be a member's first."""

@@ -5,7 +5,12 @@ import enum
 import re
 from typing import Iterable, Mapping, NamedTuple, Optional, Tuple, Union
 
+from . import distinguished
+from .der import contents_of, dotted, encoded
 from .engine import LONGEST_VALUE, Octets, Refused, check_value
+
+__all__ = ["Bits", "Kind", "NAMES", "NAME_FIELD", "Names", "Plain", "Time", "bit_string_contents", "contents_of", "dotted", "encoded", "gser",
+           "integer_contents", "named_bits", "names_of", "plain", "printable", "time_of", "value_of"]
 
 
 class Kind(enum.IntEnum):
@@ -29,6 +34,8 @@ class Kind(enum.IntEnum):
     MEMBER = 16
     NAMED_BIT_STRING = 17
     NAMED_BIT = 18
+    RDN_SEQUENCE = 19
+    RDN = 20
 
     @property
     def asn1(self) -> str:
@@ -37,8 +44,8 @@ class Kind(enum.IntEnum):
 
     @property
     def basic(self) -> bool:
-        """Whether a value of the kind has no components."""
-        return self <= Kind.GENERALIZED_TIME or self is Kind.NAMED_BIT_STRING
+        """Whether a value of the kind has no components that a reference names."""
+        return self <= Kind.GENERALIZED_TIME or self in (Kind.NAMED_BIT_STRING, *NAMES)
 
     @property
     def is_type(self) -> bool:
@@ -53,10 +60,12 @@ class Kind(enum.IntEnum):
 
 _NAMES = dict(zip(Kind, ("BOOLEAN", "INTEGER", "ENUMERATED", "NULL", "OBJECT IDENTIFIER", "OCTET STRING", "BIT STRING", "UTF8String",
                          "PrintableString", "IA5String", "GeneralizedTime", "SEQUENCE", "CHOICE", "SEQUENCE OF", "SET OF", "member", "BIT STRING",
-                         "named bit")))
+                         "named bit", "RDNSequence", "RelativeDistinguishedName")))
 _TAGS = dict(zip(Kind, (0x01, 0x02, 0x0A, 0x05, 0x06, 0x04, 0x03, 0x0C, 0x13, 0x16, 0x18, 0x30)))
-_TAGS.update({Kind.SEQUENCE_OF: 0x30, Kind.SET_OF: 0x31, Kind.NAMED_BIT_STRING: 0x03})
+_TAGS.update({Kind.SEQUENCE_OF: 0x30, Kind.SET_OF: 0x31, Kind.NAMED_BIT_STRING: 0x03, Kind.RDN_SEQUENCE: 0x30, Kind.RDN: 0x31})
 _BIT_STRINGS = (Kind.BIT_STRING, Kind.NAMED_BIT_STRING)
+NAMES = (Kind.RDN_SEQUENCE, Kind.RDN)
+"""The kinds of distinguished names."""
 _STRINGS = (Kind.UTF8_STRING, Kind.PRINTABLE_STRING, Kind.IA5_STRING)
 
 
@@ -87,17 +96,6 @@ Bits = Union[str, Iterable[Union[str, int]]]
 """Bits given for a named BIT STRING: a text of 0 and 1, or names and numbers."""
 NAME_FIELD = 24
 """The octets of a name in a row."""
-
-
-def encoded(tag: int, contents: bytes) -> bytes:
-    """An encoding: tag octet, shortest length, contents.
-
-    >>> encoded(2, b"\\5").hex()
-    '020105'
-    """
-    size = len(contents)
-    length = bytes([size]) if size < 128 else bytes([0x81, size]) if size < 256 else b"\x82" + size.to_bytes(2, "big")
-    return bytes([tag]) + length + contents
 
 
 def integer_contents(number: int) -> bytes:
@@ -158,17 +156,12 @@ def names_of(numbers: Mapping[str, int], bits: str) -> Names:
     return tuple(names.get(at, at) for at, bit in enumerate(bits) if bit == "1")
 
 
-def contents_of(octets: bytes) -> bytes:
-    """The contents of an encoding that the engine has found good."""
-    return octets[2 + max(0, octets[1] - 0x80):]
-
-
 def value_of(kind: int, octets: Octets) -> Plain:
     """The value of the octets of a listed value of a kind; a ValueError where they are none.
 
     The tag may be the kind's own or one that stands in its place (implicit). A BOOLEAN is a bool, an INTEGER and an ENUMERATED an int, NULL is
     None, an OBJECT IDENTIFIER dotted text, an OCTET STRING bytes, a BIT STRING, named or not, a text of 0 and 1, a string kind a str, a
-    GeneralizedTime a Time; of any other kind the octets themselves.
+    GeneralizedTime a Time, a distinguished name its RFC 4514 text; of any other kind the octets themselves.
 
     >>> value_of(Kind.INTEGER, b"\\x80\\x01\\x03")
     3
@@ -205,23 +198,9 @@ def plain(kind: Kind, contents: bytes) -> Plain:
         return "".join("%08d" % int(bin(octet)[2:]) for octet in contents[1:])[:8 * (len(contents) - 1) - contents[0]]
     if kind in _STRINGS:
         return contents.decode("utf-8")
+    if kind in NAMES:
+        return distinguished.text_of_name(contents) if kind is Kind.RDN_SEQUENCE else distinguished.text_of_rdn(contents)
     return time_of(contents.decode("ascii")) if kind is Kind.GENERALIZED_TIME else contents
-
-
-def dotted(contents: bytes) -> str:
-    """The dotted form of an OBJECT IDENTIFIER's contents.
-
-    >>> dotted(bytes.fromhex("2a0304"))
-    '1.2.3.4'
-    """
-    numbers, number = [], 0
-    for octet in contents:
-        number = number << 7 | octet & 0x7F
-        if octet < 0x80:
-            numbers.append(number)
-            number = 0
-    first = min(numbers[0] // 40, 2)
-    return ".".join(map(str, [first, numbers[0] - 40 * first] + numbers[1:]))
 
 
 def time_of(text: str) -> Time:
@@ -233,10 +212,13 @@ def time_of(text: str) -> Time:
 def gser(kind: Kind, value: Plain, names: Optional[Names] = None) -> str:
     """A value as text for people: strings in double quotes, with characters that don't print escaped.
 
-    The bits of a named BIT STRING are a GSER list of `names`; such a list has names alone, so where one has none they are a text of 0 and 1.
+    The bits of a named BIT STRING are a GSER list of `names`; such a list has names alone, so where one has none they are a text of 0 and 1. A
+    distinguished name is the string that a filter takes.
 
     >>> gser(Kind.NAMED_BIT_STRING, "11", ("print", "perform")), gser(Kind.NAMED_BIT_STRING, "1001", ("print", 3))
     ('{print, perform}', "'1001'B")
+    >>> print(gser(Kind.RDN, '2.5.4.3=a\\\\"b'))
+    "2.5.4.3=a\\""b"
     """
     if names is not None and all(isinstance(name, str) for name in names):
         return "{%s}" % ", ".join(map(str, names))
@@ -246,18 +228,20 @@ def gser(kind: Kind, value: Plain, names: Optional[Names] = None) -> str:
         return "'%s'H" % value.hex().upper()
     if kind in _BIT_STRINGS:
         return "'%s'B" % value
+    if isinstance(value, str) and kind in NAMES:
+        return distinguished.shown(value)
     if isinstance(value, str) and kind is not Kind.OBJECT_IDENTIFIER:
         return '"%s"' % printable(value)
     return "NULL" if value is None else str(value)
 
 
-def printable(text: str) -> str:
-    """A text that can be shown on a terminal: other characters, and backslashes, are escaped.
+def printable(text: str, marks: str = "\\") -> str:
+    """A text that can be shown on a terminal: other characters, and those of `marks`, are escaped.
 
     >>> printable("a\\x1b[b")
     'a\\\\x1b[b'
     """
-    shown = [one if one.isprintable() and one != "\\" else one.encode("unicode_escape", "surrogatepass").decode("ascii") for one in text]
+    shown = [one if one.isprintable() and one not in marks else one.encode("unicode_escape", "surrogatepass").decode("ascii") for one in text]
     return "".join(shown)
 
 

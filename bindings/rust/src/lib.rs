@@ -29,7 +29,8 @@
 //!
 //! The crate needs no standard library. The feature `alloc` has [`listing`], which allocates; the feature `std`, a default
 //! one, has that too, and `std::error::Error` for [`Refusal`]. Where the archive that is linked has a function that
-//! quotes texts for filters, the crate has `quoted` and `quote_into`.
+//! quotes texts for filters, the crate has `quoted` and `quote_into`; where it has one that escapes the values in
+//! distinguished names, `escaped` and `escape_into`.
 
 #![no_std]
 #![deny(missing_docs, unsafe_op_in_unsafe_fn)]
@@ -44,16 +45,22 @@ extern crate std;
 
 mod answer;
 mod component;
-#[cfg(tezqulom_quote)]
+#[cfg(any(tezqulom_quote, tezqulom_escape))]
 mod quote;
 mod raw;
 
 pub use answer::{Answer, Refusal, Truth};
 pub use component::{Component, Components};
+#[cfg(tezqulom_escape)]
+pub use quote::escape_into;
+#[cfg(all(tezqulom_escape, feature = "alloc"))]
+pub use quote::escaped;
+#[cfg(tezqulom_quote)]
+pub use quote::quote_into;
 #[cfg(all(tezqulom_quote, feature = "alloc"))]
 pub use quote::quoted;
-#[cfg(tezqulom_quote)]
-pub use quote::{quote_into, NotQuoted};
+#[cfg(any(tezqulom_quote, tezqulom_escape))]
+pub use quote::NotQuoted;
 
 /// The largest budget.
 pub const MOST_TESTS: u64 = 65_535;

@@ -73,4 +73,7 @@ extern "C" {
 
     #[cfg(tezqulom_quote)]
     pub fn tezqulom_quote(text: *const u8, text_length: u64, room: *mut u8, room_length: u64) -> Answer;
+
+    #[cfg(tezqulom_escape)]
+    pub fn tezqulom_escape(text: *const u8, text_length: u64, room: *mut u8, room_length: u64) -> Answer;
 }

@@ -1,4 +1,4 @@
-//! Document 01's examples, document 02's named bits, and the numbers of the C header.
+//! Document 01's examples, document 02's named bits and distinguished names, and the numbers of the C header.
 
 use tezqulom::{
     ask, check_table, check_value, list_into, listing, part, room_for, Answer, Component, Refusal, Truth,
@@ -103,6 +103,52 @@ fn named_bits() {
     }
     let unclosed = b"item:{rule bitStringMatch,value {print}";
     assert_eq!(ask(&table, &both, unclosed, MOST_TESTS), Err(Refusal::Form));
+}
+
+/// The DER of an RDN: pairs of an attribute's last arc below 2.5.4 and a UTF8String.
+fn rdn(pairs: &[(u8, &str)]) -> Vec<u8> {
+    let mut contents = vec![];
+    for (arc, value) in pairs {
+        let size = value.len() as u8;
+        contents.extend([0x30, size + 7, 0x06, 0x03, 0x55, 0x04, *arc, 0x0C, size]);
+        contents.extend(value.as_bytes());
+    }
+    [&[0x31, contents.len() as u8], &contents[..]].concat()
+}
+
+#[test]
+fn distinguished_names() {
+    const TABLE: &[u8] = &[0x13];
+    assert_eq!(check_table(TABLE), Ok(1));
+    let rdns = [rdn(&[(6, "AU")]), rdn(&[(10, "Adacel")]), rdn(&[(5, "7"), (3, "Steven Legg")])].concat();
+    let stored = [&[0x30, rdns.len() as u8], &rdns[..]].concat();
+    assert_eq!(check_value(TABLE, &stored), Ok(()));
+    assert_eq!(check_value(TABLE, &[0x30, 0x00]), Ok(()));
+    assert_eq!(check_value(TABLE, &[0x30, 0x02, 0x31, 0x00]), Err(Refusal::Value));
+    for (asserted, truth) in [
+        ("2.5.4.3=Steven Legg+2.5.4.5=7,2.5.4.10=Adacel,2.5.4.6=AU", Truth::True),
+        ("2.5.4.5=7+2.5.4.3=steven  LEGG,2.5.4.10=\\41dacel,2.5.4.6=au", Truth::True),
+        ("2.5.4.6=AU,2.5.4.10=Adacel,2.5.4.3=Steven Legg+2.5.4.5=7", Truth::False),
+        ("2.5.4.3=Steven Legg,2.5.4.10=Adacel,2.5.4.6=AU", Truth::False),
+        ("", Truth::False),
+        ("cn=Steven Legg,2.5.4.10=Adacel,2.5.4.6=AU", Truth::Undefined),
+        ("2.5.4.10=Adacel, 2.5.4.6=AU", Truth::Undefined),
+        ("2.5.4.10=Adacel,", Truth::Undefined),
+        ("2.5.4.10=#0C0161", Truth::Undefined),
+    ] {
+        let filter = format!("item:{{rule distinguishedNameMatch,value \"{asserted}\"}}");
+        let answer = ask(TABLE, &stored, filter.as_bytes(), MOST_TESTS);
+        assert_eq!(answer, Ok(Answer { truth, tests: u64::from(truth != Truth::Undefined) }), "{asserted}");
+    }
+    for (asserted, truth) in
+        [("2.5.4.5=B+2.5.4.3=A", Truth::True), ("2.5.4.3=a", Truth::False), ("", Truth::Undefined)]
+    {
+        let filter = format!("item:{{rule rdnMatch,value \"{asserted}\"}}");
+        let answer = ask(&[0x14], &rdn(&[(3, "a"), (5, "b")]), filter.as_bytes(), MOST_TESTS);
+        assert_eq!(answer.map(|answer| answer.truth), Ok(truth), "{asserted}");
+    }
+    let falling = rdn(&[(5, "b"), (3, "a")]); // not in the order of a SET OF
+    assert_eq!(check_value(&[0x14], &falling), Err(Refusal::Value));
 }
 
 #[test]
@@ -210,5 +256,42 @@ fn quotes() {
         assert!(SENTENCES.contains(&format!("{case}\n        return \"{why}\";\n")), "{why}");
         let named = format!("TEZQULOM_QUOTE_{why:?} = {}", why.number()).to_uppercase();
         assert!(HEADER.contains(&named), "{named}");
+    }
+}
+
+/// Values are escaped for names, and with too little room nothing is written.
+#[cfg(tezqulom_escape)]
+#[test]
+fn escapes() {
+    use tezqulom::{escape_into, escaped, NotQuoted};
+    for (value, wanted) in [
+        ("", ""),
+        ("Adacel", "Adacel"),
+        ("\"+,;<>\\", r#"\"\+\,\;\<\>\\"#),
+        ("\0", r"\00"),
+        (" ", r"\ "),
+        ("  ", r"\ \ "),
+        (" a b ", r"\ a b\ "),
+        ("#", r"\#"),
+        ("##", r"\##"),
+        (" #", r"\ #"),
+        ("a=b", "a=b"),
+        ("é\u{1F600}\u{7F}\n", "é\u{1F600}\u{7F}\n"),
+    ] {
+        assert_eq!(escaped(value.as_bytes()).as_deref(), Ok(wanted));
+        let mut room = vec![7; wanted.len() + 3];
+        assert_eq!(escape_into(value.as_bytes(), &mut room), Ok(wanted));
+        assert_eq!(room[wanted.len()..], [7; 3]);
+        if !wanted.is_empty() {
+            let mut room = vec![7; wanted.len() - 1];
+            assert_eq!(escape_into(value.as_bytes(), &mut room), Err(NotQuoted::Room));
+            assert!(room.iter().all(|&octet| octet == 7));
+        }
+    }
+    for value in [&b"a\xFF"[..], b"\xC3", b"\xED\xA0\x80"] {
+        let mut room = [7; 10];
+        assert_eq!(escape_into(value, &mut room), Err(NotQuoted::Utf8));
+        assert_eq!(escape_into(value, &mut []), Err(NotQuoted::Utf8));
+        assert_eq!(room, [7; 10]);
     }
 }
