@@ -1,11 +1,11 @@
 -- Q-3: distinguishedNameMatch and rdnMatch accept a stored name exactly if its RDNs are those asserted, one by one, and the pairs of each can be put into the
 -- order of the other's: one to one, none left over.
-use mathlib.Core.Path.{_≡_, refl, sym, ap, _∙_, subst}
-use mathlib.Core.Bool.{Bool, true, false, false≢true}
+use mathlib.Core.Path.{_≡_, refl, _∙_, subst}
+use mathlib.Core.Bool.{true, false≢true}
 use mathlib.Core.Option.{Option, none, some}
 use mathlib.Core.List.{List, [], _∷_}
 use Prim.Native.Nat.{ℕ}
-use Rattle.octets.specs.Pick.{both, bind}
+use Rattle.octets.specs.Pick.{bind}
 use Rattle.octets.specs.Quoted.{unquoted}
 use Rattle.octets.proofs.Laws.{both-true}
 use Rattle.names.specs.Compared.{Compared, sameRdn, sameName, storedRdn, storedName, assertedName, assertedRdn}

@@ -8,3 +8,4 @@ pub mod Shown
 pub mod Licence
 pub mod Rfc3687
 pub mod Rights
+pub mod Holders

@@ -1,11 +1,11 @@
 -- Stored arcs, and both sides arc by arc.
 use mathlib.Core.Path.{_≡_, refl, sym, ap, ap₂, _∙_}
-use mathlib.Core.Bool.{Bool, true, false, not}
+use mathlib.Core.Bool.{Bool, true, false}
 use mathlib.Core.Option.{Option, none, some}
 use mathlib.Core.List.{List, [], _∷_, map}
 use Prim.Native.Nat.{ℕ, _<_, _-_}
 use native.Mathlib.Omega.{arith}
-use borrow.Author.Tests.{eq-eqb, ne-eqb, ltb-false, not-true, not-false, eqb-true, eqb-false}
+use borrow.Author.Tests.{eq-eqb, ne-eqb, ltb-false, eqb-true, eqb-false}
 use lib.Dec.{ltb, eqb}
 use lib.ListN.{length, drop}
 use Rattle.octets.specs.Pick.{pick, both, consed}
@@ -22,13 +22,14 @@ use Rattle.der.specs.inner.Answers.{reportSub}
 use Rattle.der.specs.declared.Sub.{Sub}
 use Rattle.der.proofs.DottedLaws.{arcs-pieces}
 use Rattle.der.proofs.MeaningLaws.{arcs-subs}
-use Rattle.dotted.specs.inner.Arcs.{arcAt, restPieces}
+use Rattle.dotted.specs.inner.Arcs.{arcAt, smallAt, restPieces}
 use Rattle.dotted.specs.inner.Held.{splitFirst, restHeld, reportHeld, firstStep, isOver, sameArc, restArcs, matches}
 use Rattle.dotted.specs.declared.Dots.{Dots}
-use Rattle.dotted.specs.declared.Arc.{Arc}
+use Rattle.dotted.specs.declared.SmallArc.{SmallArc}
 use Rattle.dotted.specs.declared.Held.{Held}
 use Rattle.dotted.specs.declared.HeldStep.{HeldStep}
 use Rattle.dotted.proofs.ArcSteps.{Headed, arc-headed}
+use Rattle.dotted.proofs.SmallSteps.{IsSmall, small-known, above-arc}
 
 -- ---- the cursor
 split-some : (n : ℕ) (o : Option (List ℕ)) (a b : Bool) → ltb n 40 ≡ a → ltb n 80 ≡ b
@@ -89,8 +90,8 @@ module _ (c : List ℕ) (h : Held) where
   next-at r at e q = rw e q
 
 -- ---- both sides
-pub same-arc-is : (size : Size) (m n : ℕ) → size ≡ Size.Of m → eqb m n ≡ sameArc size n
-same-arc-is size m n e = rw e
+pub wide-fits : (n : ℕ) → n < 4294967296 → n < 18446744073709551616
+wide-fits n h = omega arith
 
 same-clip : (k n : ℕ) → n < 4294967296 → sameArc (clip k) n ≡ eqb n k
 same-clip k n h = go (ltb k 18446744073709551616) refl
@@ -147,38 +148,47 @@ module _ (t c : List ℕ) (a : Dots) (h : Held) (step : HeldStep) (m : Bool)
   pub arcs-over : (r : Bool) → a ≡ Dots.Over → r ≡ isOver step → r ≡ m
   arcs-over r e q = q ∙ over-matches c step ∙ sides [] (ap (restArcs t) e ∙ none-asked t)
 
-  module _ (at : ℕ) (e : a ≡ Dots.At at) (arc : Arc) (read : arc ≡ arcAt t at) where
-    headed : Headed t at arc
-    headed = arc-headed t at arc read
+  module _ (at : ℕ) (e : a ≡ Dots.At at) where
+    headed : Headed t at (arcAt t at)
+    headed = arc-headed t at (arcAt t at) refl
 
-    left : restPieces t a ≡ headed .piece ∷ restPieces t (arc .next)
+    left : restPieces t a ≡ headed .piece ∷ restPieces t (arcAt t at .next)
     unfolding restPieces
     left = ap (restPieces t) e ∙ headed .is
 
-    pub arcs-fall : length (restPieces t (arc .next)) < length (restPieces t a)
-    arcs-fall = omega (arith, ap length left)
-
-    module _ (n : ℕ) (after : Held) (f : step ≡ HeldStep.Next n after) (small : n < 4294967296) (u : Bool) (tried : u ≡ sameArc (arc .size) n) where
-      agree : both u (matches (restHeld c after) (restArcs t (arc .next))) ≡ m
+    -- the next arc of the text beside a stored one
+    module _ (small : SmallArc) (read : small ≡ smallAt t at) (n : ℕ) (after : Held) (f : step ≡ HeldStep.Next n after) (low : n < 4294967296) where
+      agree : both (sameArc (arcAt t at .size) n) (matches (restHeld c after) (restArcs t (arcAt t at .next))) ≡ m
       agree =
-          ap (λ (x : Bool). both x (matches (restHeld c after) (restArcs t (arc .next)))) (tried ∙ ap (λ (z : Size). sameArc z n) (headed .clipped) ∙ same-clip (decimalFrom 0 (headed .piece)) n small)
-          ∙ sym (matches-cons n (decimalFrom 0 (headed .piece)) (restHeld c after) (restArcs t (arc .next)))
-          ∙ sym (ap (λ (x : HeldStep). matches (reportHeld c x) (decimalFrom 0 (headed .piece) ∷ restArcs t (arc .next))) f)
-          ∙ sides (decimalFrom 0 (headed .piece) ∷ restArcs t (arc .next)) (ap (map (decimalFrom 0)) left)
+          ap (λ (x : Bool). both x (matches (restHeld c after) (restArcs t (arcAt t at .next))))
+          (ap (λ (z : Size). sameArc z n) (headed .clipped) ∙ same-clip (decimalFrom 0 (headed .piece)) n low)
+          ∙ sym (matches-cons n (decimalFrom 0 (headed .piece)) (restHeld c after) (restArcs t (arcAt t at .next)))
+          ∙ sym (ap (λ (x : HeldStep). matches (reportHeld c x) (decimalFrom 0 (headed .piece) ∷ restArcs t (arcAt t at .next))) f)
+          ∙ sides (decimalFrom 0 (headed .piece) ∷ restArcs t (arcAt t at .next)) (ap (map (decimalFrom 0)) left)
 
-      pub arcs-differ : not u ≡ true → false ≡ m
-      arcs-differ q = sym (ap (λ (x : Bool). both x (matches (restHeld c after) (restArcs t (arc .next)))) (not-true u q)) ∙ agree
+      pub arcs-above : small ≡ SmallArc.Above → false ≡ m
+      unfolding smallAt
+      arcs-above q = rw (above-arc (arcAt t at .size) (arcAt t at .next) n (sym read ∙ q) low) at agree
 
-      pub arcs-more : not u ≡ false → matches (restHeld c after) (restArcs t (arc .next)) ≡ m
-      arcs-more q = sym (ap (λ (x : Bool). both x (matches (restHeld c after) (restArcs t (arc .next)))) (not-false u q)) ∙ agree
+      module _ (k : ℕ) (next : Dots) (q : small ≡ SmallArc.Of k next) where
+        known : IsSmall t at k next
+        known = small-known t at k next small read q
 
-  module _ (at : ℕ) (e : a ≡ Dots.At at) where
-    some-left : Headed t at (arcAt t at)
-    some-left = headed at e (arcAt t at) refl
+        turn : both (eqb k n) (matches (restHeld c after) (restArcs t next)) ≡ m
+        turn = ap₂ (λ (z : Size) (d : Dots). both (sameArc z n) (matches (restHeld c after) (restArcs t d))) (sym (known .size)) (sym (known .goes)) ∙ agree
 
-    asked : restArcs t a ≡ decimalFrom 0 (some-left .piece) ∷ restArcs t (arcAt t at .next)
-    unfolding some-left
-    asked = ap (map (decimalFrom 0)) (left at e (arcAt t at) refl)
+        pub arcs-differ : (k ≡ n → ⊥) → false ≡ m
+        arcs-differ d = rw (ne-eqb k n d) at turn
+
+        pub arcs-more : k ≡ n → matches (restHeld c after) (restArcs t next) ≡ m
+        arcs-more d = rw (eq-eqb k n d) at turn
+
+        pub arcs-fall : length (restPieces t next) < length (restPieces t a)
+        arcs-fall = let z : length (restPieces t (arcAt t at .next)) ≡ length (restPieces t next) = ap (λ (d : Dots). length (restPieces t d)) (known .goes) in
+            omega (arith, ap length left)
+
+    asked : restArcs t a ≡ decimalFrom 0 (headed .piece) ∷ restArcs t (arcAt t at .next)
+    asked = ap (map (decimalFrom 0)) left
 
     ended : (k : ℕ) (l : List ℕ) (whole : Bool) → false ≡ matches (pick whole (some []) none) (k ∷ l)
     ended k l true = sym (same-shorter k l)
@@ -186,5 +196,5 @@ module _ (t c : List ℕ) (a : Dots) (h : Held) (step : HeldStep) (m : Bool)
 
     pub arcs-ended : (whole : Bool) → step ≡ HeldStep.End whole → false ≡ m
     arcs-ended whole f =
-        ended (decimalFrom 0 (some-left .piece)) (restArcs t (arcAt t at .next)) whole
-        ∙ sym (ap (λ (x : HeldStep). matches (reportHeld c x) (decimalFrom 0 (some-left .piece) ∷ restArcs t (arcAt t at .next))) f) ∙ sides _ asked
+        ended (decimalFrom 0 (headed .piece)) (restArcs t (arcAt t at .next)) whole
+        ∙ sym (ap (λ (x : HeldStep). matches (reportHeld c x) (decimalFrom 0 (headed .piece) ∷ restArcs t (arcAt t at .next))) f) ∙ sides _ asked

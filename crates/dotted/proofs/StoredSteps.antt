@@ -1,10 +1,10 @@
 -- A text whose arcs can be stored: one lemma for each return and each turn of a loop.
 use mathlib.Core.Path.{_≡_, refl, sym, ap, _∙_}
-use mathlib.Core.Bool.{Bool, true, false, not}
+use mathlib.Core.Bool.{Bool, true, false}
 use mathlib.Core.List.{List, [], _∷_, map}
 use Prim.Native.Nat.{ℕ, zero, suc, _≤_, _<_, _+_, _-_, _*_}
 use native.Mathlib.Omega.{arith}
-use borrow.Author.Tests.{le-ltb, ltb-false, not-true, not-false}
+use borrow.Author.Tests.{lt-ltb, le-ltb, ltb-false}
 use lib.Dec.{ltb}
 use Rattle.octets.specs.Pick.{pick, both}
 use Rattle.octets.specs.Text.{decimalFrom}
@@ -12,17 +12,15 @@ use Rattle.octets.specs.inner.Answers.{clip}
 use Rattle.octets.specs.declared.Size.{Size}
 use Rattle.der.specs.Dotted.{dottedArcs}
 use Rattle.der.proofs.DottedLaws.{arcs-pieces}
-use Rattle.dotted.specs.inner.Arcs.{arcAt, restPieces}
+use Rattle.dotted.specs.inner.Arcs.{arcAt, smallAt, restPieces}
 use Rattle.dotted.specs.inner.Held.{restArcs}
 use Rattle.dotted.specs.inner.Stored.{isSmall, isSmallSize, fitting}
 use Rattle.dotted.specs.declared.Dots.{Dots}
-use Rattle.dotted.specs.declared.Arc.{Arc}
+use Rattle.dotted.specs.declared.SmallArc.{SmallArc}
 use Rattle.dotted.proofs.ArcSteps.{Headed, arc-headed}
+use Rattle.dotted.proofs.SmallSteps.{IsSmall, small-known, above-small}
 
 -- ---- sizes
-pub small-size-is : (size : Size) (n : ℕ) → size ≡ Size.Of n → ltb n 4294967296 ≡ isSmallSize size
-small-size-is size n e = rw e
-
 small-clip : (n : ℕ) → isSmallSize (clip n) ≡ isSmall n
 small-clip n = go (ltb n 18446744073709551616) refl
   where
@@ -57,29 +55,38 @@ unfolding fitting
 fitting-nil k = refl
 
 module _ (t : List ℕ) (i k : ℕ) (m : Bool) (inv : fitting k (restArcs t (Dots.At i)) ≡ m) where
-  left : (arc : Arc) (h : Headed t i arc) → restArcs t (Dots.At i) ≡ decimalFrom 0 (h .piece) ∷ restArcs t (arc .next)
+  headed : Headed t i (arcAt t i)
+  headed = arc-headed t i (arcAt t i) refl
+
+  left : restArcs t (Dots.At i) ≡ decimalFrom 0 (headed .piece) ∷ restArcs t (arcAt t i .next)
   unfolding restPieces
-  left arc h = ap (map (decimalFrom 0)) (h .is)
+  left = ap (map (decimalFrom 0)) (headed .is)
 
   pub fit-none : k ≤ 0 → false ≡ m
-  fit-none h = let f = arc-headed t i (arcAt t i) refl in sym (fitting-zero k _ _ h) ∙ sym (ap (fitting k) (left (arcAt t i) f)) ∙ inv
+  fit-none h = sym (fitting-zero k _ _ h) ∙ sym (ap (fitting k) left) ∙ inv
 
-  module _ (h : 0 < k) (arc : Arc) (read : arc ≡ arcAt t i) (u : Bool) (told : u ≡ isSmallSize (arc .size)) where
-    turn : both u (fitting (k - 1) (restArcs t (arc .next))) ≡ m
+  module _ (h : 0 < k) (small : SmallArc) (read : small ≡ smallAt t i) where
+    turn : both (isSmallSize (arcAt t i .size)) (fitting (k - 1) (restArcs t (arcAt t i .next))) ≡ m
     turn =
-        let f = arc-headed t i arc read in
-        ap (λ (x : Bool). both x (fitting (k - 1) (restArcs t (arc .next)))) (told ∙ ap isSmallSize (f .clipped) ∙ small-clip (decimalFrom 0 (f .piece)))
-        ∙ sym (fitting-cons k (decimalFrom 0 (f .piece)) (restArcs t (arc .next)) h) ∙ sym (ap (fitting k) (left arc f)) ∙ inv
+        ap (λ (x : Bool). both x (fitting (k - 1) (restArcs t (arcAt t i .next))))
+        (ap isSmallSize (headed .clipped) ∙ small-clip (decimalFrom 0 (headed .piece)))
+        ∙ sym (fitting-cons k (decimalFrom 0 (headed .piece)) (restArcs t (arcAt t i .next)) h) ∙ sym (ap (fitting k) left) ∙ inv
 
-    pub fit-bad : not u ≡ true → false ≡ m
-    fit-bad q = rw (not-true u q) at turn
+    pub fit-bad : small ≡ SmallArc.Above → false ≡ m
+    unfolding smallAt
+    fit-bad q = rw (above-small (arcAt t i .size) (arcAt t i .next) (sym read ∙ q)) at turn
 
-    module _ (q : not u ≡ false) where
-      further : fitting (k - 1) (restArcs t (arc .next)) ≡ m
-      further = rw (not-false u q) at turn
+    module _ (n : ℕ) (next : Dots) (q : small ≡ SmallArc.Of n next) where
+      known : IsSmall t i n next
+      known = small-known t i n next small read q
 
-      pub fit-end : arc .next ≡ Dots.Over → true ≡ m
+      further : fitting (k - 1) (restArcs t next) ≡ m
+      further =
+          ap (λ (x : Bool). both x (fitting (k - 1) (restArcs t next))) (sym (ap isSmallSize (known .size) ∙ lt-ltb n 4294967296 (known .low)))
+          ∙ ap (λ (d : Dots). both (isSmallSize (arcAt t i .size)) (fitting (k - 1) (restArcs t d))) (sym (known .goes)) ∙ turn
+
+      pub fit-end : next ≡ Dots.Over → true ≡ m
       fit-end e = sym (ap (λ (d : Dots). fitting (k - 1) (restArcs t d)) e ∙ ap (fitting (k - 1)) (arcs-over t) ∙ fitting-nil (k - 1)) ∙ further
 
-      pub fit-more : (p : ℕ) → arc .next ≡ Dots.At p → fitting (k - 1) (restArcs t (Dots.At p)) ≡ m
+      pub fit-more : (p : ℕ) → next ≡ Dots.At p → fitting (k - 1) (restArcs t (Dots.At p)) ≡ m
       fit-more p e = sym (ap (λ (d : Dots). fitting (k - 1) (restArcs t d)) e) ∙ further

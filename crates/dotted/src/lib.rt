@@ -51,6 +51,12 @@ pub struct Arc {
     pub next: Dots,
 }
 
+// An arc that a stored one may be: its number, below 2^32, and where the next arc starts; or one above all stored ones.
+pub enum SmallArc {
+    Of(u64, Dots),
+    Above,
+}
+
 fn first_digit(b: u8) -> Form
     ensures { λ r. ⌜ r ≡ arcs.firstDigit b ⌝ }
 {
@@ -133,6 +139,26 @@ fn read_arc(t: &[u8], at: usize) -> Arc
         i += 1;
     }
     arc_of(d, Dots::Over)
+}
+
+// The same as a stored one may be: its digits are read no further than the number stays below 2^32.
+fn small_arc(t: &[u8], at: usize) -> SmallArc
+    ensures { λ r. ⌜ r ≡ arcs.smallAt (now (t .entry)) at ⌝ }
+{
+    let mut i = at;
+    let mut n: u64 = 0;
+    while i < t.len() {
+        let b = t[i];
+        if b == 46 {
+            return SmallArc::Of(n, Dots::At(i + 1));
+        }
+        n = n * 10 + octets::digit(b);
+        if 4294967295 < n {
+            return SmallArc::Above;
+        }
+        i += 1;
+    }
+    SmallArc::Of(n, Dots::Over)
 }
 
 // ---- dotted form
@@ -283,15 +309,6 @@ fn is_over(step: HeldStep) -> bool
     }
 }
 
-fn same_arc(size: Size, n: u32) -> bool
-    ensures { λ r. ⌜ r ≡ held.sameArc size n ⌝ }
-{
-    let Size::Of(m) = size else {
-        return false;
-    };
-    m == n as u64
-}
-
 // Whether contents of an OBJECT IDENTIFIER have the arcs of a dotted text, arc by arc.
 pub fn same_arcs(t: &[u8], c: &[u8]) -> bool
     ensures { λ r. ⌜ r ≡ same (arcsOf (now (c .entry))) (dottedArcs (now (t .entry))) ⌝ }
@@ -306,26 +323,18 @@ pub fn same_arcs(t: &[u8], c: &[u8]) -> bool
         let HeldStep::Next(n, after) = step else {
             return false;
         };
-        let arc = read_arc(t, at);
-        let size = arc.size;
-        if !same_arc(size, n) {
+        let SmallArc::Of(m, next) = small_arc(t, at) else {
+            return false;
+        };
+        if m != n as u64 {
             return false;
         }
-        a = arc.next;
+        a = next;
         h = after;
     }
 }
 
 // ---- a text whose arcs can be stored
-fn is_small(size: Size) -> bool
-    ensures { λ r. ⌜ r ≡ stored.isSmallSize size ⌝ }
-{
-    let Size::Of(n) = size else {
-        return false;
-    };
-    n < 4294967296
-}
-
 // Whether the arcs of a dotted text can be stored ones: up to 33, each below 2^32.
 pub fn fits_stored(t: &[u8]) -> bool
     ensures { λ r. ⌜ r ≡ stored.fitting 33 (dottedArcs (now (t .entry))) ⌝ }
@@ -333,12 +342,9 @@ pub fn fits_stored(t: &[u8]) -> bool
     let mut i = 0;
     let mut k: usize = 33;
     while 0 < k {
-        let arc = read_arc(t, i);
-        let size = arc.size;
-        if !is_small(size) {
+        let SmallArc::Of(_, next) = small_arc(t, i) else {
             return false;
-        }
-        let next = arc.next;
+        };
         let Dots::At(p) = next else {
             return true;
         };

@@ -13,6 +13,7 @@ use lib.Dec.{eqb}
 use Rattle.octets.specs.Pick.{pick, both, consed}
 use Rattle.octets.specs.Octets.{octet, two, part, same}
 use Rattle.octets.specs.inner.Answers.{between}
+use Rattle.octets.proofs.Laws.{never}
 use Rattle.der.specs.Header.{insideAt}
 use Rattle.der.specs.Meaning.{arcsOf}
 use Rattle.der.specs.Dotted.{dottedArcs}
@@ -29,6 +30,10 @@ use Rattle.namematch.specs.inner.Marks.{unused, sameUnused, behind, mark
 use Rattle.namematch.specs.declared.Marks.{Marks}
 use Rattle.namematch.proofs.Laws.{pairIn, rdnIn, rdn-elements, name-elements, none-left, next-element, few-elements}
 use Rattle.namematch.proofs.Laws.{none-marked, taken, without-marked, above, spread, above-start, above-behind, attributes-length}
+
+always : (x : Bool) → both x true ≡ x
+always true = refl
+always false = refl
 
 -- ---- how many elements there are: n of them lie before place at
 abbrev pub counted : ℕ → Option (List Element) → ℕ
@@ -112,24 +117,24 @@ pub values-told : (c x : List ℕ) (a b p q : ℕ) (s t : List ℕ) (r : Bool) �
     → r ≡ same (prepared true (between c a b)) (folded true (between x p q))
 values-told c x a b p q s t r e f g = g ∙ ap₂ (λ (y z : List ℕ). same (prepared true y) (folded true z)) e f
 
-module _ (c x : List ℕ) (end a b p q : ℕ) (u : Bool) (type : between c a b ≡ pairOf c .type) (from : p ≡ typeStart x end) (to : q ≡ textStart x end)
-    (told : u ≡ same (arcsOf (between c a b)) (dottedArcs (between x p q))) where
-  types : u ≡ same (arcsOf (pairOf c .type)) (dottedArcs (between x (typeStart x end) (textStart x end)))
-  types =
+module _ (c x : List ℕ) (end d e q f : ℕ) (u : Bool) (value : between c d e ≡ pairOf c .value) (from : q ≡ textStart x end) (to : f ≡ end - 4)
+    (told : u ≡ same (prepared true (between c d e)) (folded true (between x q f))) where
+  values : u ≡ same (prepared true (pairOf c .value)) (folded true (between x (textStart x end) (end - 4)))
+  values =
       told
-      ∙ ap (λ (y : List ℕ). same (arcsOf y) (dottedArcs (between x p q))) type
-      ∙ ap₂ (λ (y z : ℕ). same (arcsOf (pairOf c .type)) (dottedArcs (between x y z))) from to
+      ∙ ap (λ (y : List ℕ). same (prepared true y) (folded true (between x q f))) value
+      ∙ ap₂ (λ (y z : ℕ). same (prepared true (pairOf c .value)) (folded true (between x y z))) from to
 
   pub pair-other : not u ≡ true → false ≡ samePair (stored (pairOf c)) (attributeBack x end)
-  pair-other h = rw (sym types ∙ not-true u h)
+  pair-other h = rw (sym values ∙ not-true u h) (sym (never (same (arcsOf (pairOf c .type)) (dottedArcs (between x (typeStart x end) (textStart x end))))))
 
-  pub pair-is : (d e f : ℕ) (r : Bool) → between c d e ≡ pairOf c .value → f ≡ end - 4 → not u ≡ false
-      → r ≡ same (prepared true (between c d e)) (folded true (between x q f)) → r ≡ samePair (stored (pairOf c)) (attributeBack x end)
-  pair-is d e f r value last h g =
-      rw (sym types ∙ not-false u h)
-      (g
-      ∙ ap (λ (y : List ℕ). same (prepared true y) (folded true (between x q f))) value
-      ∙ ap₂ (λ (y z : ℕ). same (prepared true (pairOf c .value)) (folded true (between x y z))) to last)
+  pub pair-is : (a b p : ℕ) (r : Bool) → between c a b ≡ pairOf c .type → p ≡ typeStart x end → not u ≡ false
+      → r ≡ same (arcsOf (between c a b)) (dottedArcs (between x p q)) → r ≡ samePair (stored (pairOf c)) (attributeBack x end)
+  pair-is a b p r type first h g =
+      g
+      ∙ ap (λ (y : List ℕ). same (arcsOf y) (dottedArcs (between x p q))) type
+      ∙ ap₂ (λ (y z : ℕ). same (arcsOf (pairOf c .type)) (dottedArcs (between x y z))) first from
+      ∙ rw (sym values ∙ not-false u h) (sym (always (same (arcsOf (pairOf c .type)) (dottedArcs (between x (typeStart x end) (textStart x end))))))
 
 module _ (a b : Compared) (m : ℕ) where
   pub used-is : (m % 2 ≡ 0 → ⊥) → false ≡ sameUnused a b m
@@ -325,14 +330,18 @@ pub rdn-back-is : (c x : List ℕ) (end n i : ℕ) (r : Bool) → n ≡ octet x 
     → r ≡ sameRdn (storedRdn c) (rdnBack x end)
 rdn-back-is c x end n i r e f g = g ∙ ap₂ (λ (y z : ℕ). sameRdn (storedRdn c) (attributesBack y x z)) e f
 
--- ---- a name: i of n RDNs lie before place at, and as many of the operand from place end on, each the same as the one at its place
-pub record Naming (c x : List ℕ) (n at end i : ℕ) : Type 0 where
+-- ---- a name: i of n RDNs lie before place at, and as many of the operand from place end on; b says whether each is the same as the one at its place
+pub record Naming (c x : List ℕ) (n at end i : ℕ) (b : Bool) : Type 0 where
   pub few : i ≤ n
   pub most : n ≤ 16
   pub rdns-left : i + length (rdnsLeft c i at) ≡ n
-  pub so-far : sameName (map rdnIn (rdnsLeft c i at)) (rdnsBack (suc (16 - i)) x end) ≡ sameName (storedName c) (operandName x)
+  pub so-far : both b (sameName (map rdnIn (rdnsLeft c i at)) (rdnsBack (suc (16 - i)) x end)) ≡ sameName (storedName c) (operandName x)
 
-pub name-start : (c x : List ℕ) (n : ℕ) → n ≡ length (elementsOf (elementsFrom 16 49 c 0)) → Naming c x n 0 (length x) 0
+-- the RDNs behind the next one, those of the name from place `at` on
+abbrev pub behindSame : List ℕ → List ℕ → ℕ → ℕ → ℕ → Bool
+behindSame c x at end i = sameName (map rdnIn (rdnsLeft c (i + 1) at)) (rdnsBack (16 - i) x (rdnStart x end))
+
+pub name-start : (c x : List ℕ) (n : ℕ) → n ≡ length (elementsOf (elementsFrom 16 49 c 0)) → Naming c x n 0 (length x) 0 true
 name-start c x n e =
     let f : length (elementsOf (elementsFrom 16 49 c 0)) ≤ 16 = few-elements 16 49 c 0 in
     record {
@@ -342,65 +351,138 @@ name-start c x n e =
       so-far = ap (λ (l : List (List Compared)). sameName l (operandName x)) (sym (name-elements c));
     }
 
-module _ (c x : List ℕ) (n at end i : ℕ) (s : Naming c x n at end i) where
-  pub name-done : n ≤ i → eqb end 0 ≡ sameName (storedName c) (operandName x)
+pub name-done : (c x : List ℕ) (n at end i : ℕ) → Naming c x n at end i true → n ≤ i → eqb end 0 ≡ sameName (storedName c) (operandName x)
+unfolding sameName rdnsBack
+name-done c x n at end i s h =
+    go (eqb end 0) ∙ sym (ap (λ (l : List Element). sameName (map rdnIn l) (rdnsBack (suc (16 - i)) x end)) none-more) ∙ s .so-far
+  where
+    none-more : rdnsLeft c i at ≡ []
+    none-more = let e = s .rdns-left in no-length (rdnsLeft c i at) (omega arith)
+
+    go : (u : Bool) → u ≡ sameName [] (pick u [] (rdnBack x end ∷ rdnsBack (16 - i) x (rdnStart x end)))
+    go true = refl
+    go false = refl
+
+-- no RDN of the name is left, and one of the operand is
+name-fewer : (c x : List ℕ) (n at end i : ℕ) (b : Bool) → Naming c x n at end i b → n ≤ i → (end ≡ 0 → ⊥) → false ≡ sameName (storedName c) (operandName x)
+unfolding sameName rdnsBack
+name-fewer c x n at end i b s h d =
+    sym (never b)
+    ∙ sym (ap₂ (λ (l : List Element) (y : Bool). both b (sameName (map rdnIn l) (pick y [] (rdnBack x end ∷ rdnsBack (16 - i) x (rdnStart x end)))))
+    none-more (ne-eqb end 0 d))
+    ∙ s .so-far
+  where
+    none-more : rdnsLeft c i at ≡ []
+    none-more = let e = s .rdns-left in no-length (rdnsLeft c i at) (omega arith)
+
+module _ (c x : List ℕ) (n at end i : ℕ) (b : Bool) (s : Naming c x n at end i b) (h : i < n) where
+  left-over : rdnsLeft c i at ≡ [] → ⊥
+  left-over e = let z : length (rdnsLeft c i at) ≡ 0 = ap length e in let q = s .rdns-left in omega arith
+
+  pub name-longer : end ≡ 0 → false ≡ sameName (storedName c) (operandName x)
   unfolding sameName rdnsBack
-  name-done h = go (eqb end 0) ∙ sym (ap (λ (l : List Element). sameName (map rdnIn l) (rdnsBack (suc (16 - i)) x end)) none-more) ∙ s .so-far
+  name-longer e =
+      sym (never b)
+      ∙ ap (both b) (go (rdnsLeft c i at) left-over)
+      ∙ sym (ap (λ (y : Bool). both b (sameName (map rdnIn (rdnsLeft c i at)) (pick y [] (rdnBack x end ∷ rdnsBack (16 - i) x (rdnStart x end)))))
+      (eq-eqb end 0 e)) ∙ s .so-far
     where
-      none-more : rdnsLeft c i at ≡ []
-      none-more = let e = s .rdns-left in no-length (rdnsLeft c i at) (omega arith)
+      go : (l : List Element) → (l ≡ [] → ⊥) → false ≡ sameName (map rdnIn l) []
+      go [] d = absurd (d refl)
+      go (b ∷ l) d = refl
 
-      go : (u : Bool) → u ≡ sameName [] (pick u [] (rdnBack x end ∷ rdnsBack (16 - i) x (rdnStart x end)))
-      go true = refl
-      go false = refl
+  module _ (v : Inside) (read : v ≡ insideAt 49 c at (length c)) where
+    pub name-misfit : v ≡ Inside.Misfit → false ≡ sameName (storedName c) (operandName x)
+    name-misfit e = let z = none-left (16 - i) 49 c at (sym read ∙ e) in let q = s .rdns-left in absurd (omega arith)
 
-  module _ (h : i < n) where
-    left-over : rdnsLeft c i at ≡ [] → ⊥
-    left-over e = let z : length (rdnsLeft c i at) ≡ 0 = ap length e in let q = s .rdns-left in omega arith
+    module _ (start len : ℕ) (e : v ≡ Inside.Of start len) (d : end ≡ 0 → ⊥) where
+      rdn-next : rdnsLeft c i at ≡ elementAt c at start len ∷ rdnsLeft c (i + 1) (start + len)
+      rdn-next = next-element 16 49 c n i at start len h (s .most) (s .rdns-left) (sym read ∙ e)
 
-    pub name-longer : end ≡ 0 → false ≡ sameName (storedName c) (operandName x)
-    unfolding sameName rdnsBack
-    name-longer e =
-        go (rdnsLeft c i at) left-over
-        ∙ sym (ap (λ (y : Bool). sameName (map rdnIn (rdnsLeft c i at)) (pick y [] (rdnBack x end ∷ rdnsBack (16 - i) x (rdnStart x end))))
-        (eq-eqb end 0 e)) ∙ s .so-far
-      where
-        go : (l : List Element) → (l ≡ [] → ⊥) → false ≡ sameName (map rdnIn l) []
-        go [] d = absurd (d refl)
-        go (b ∷ l) d = refl
+      by-rdn : both b (both (sameRdn (storedRdn (part c start len)) (rdnBack x end)) (behindSame c x (start + len) end i)) ≡ sameName (storedName c) (operandName x)
+      unfolding sameName rdnsBack
+      by-rdn =
+          sym (ap₂ (λ (l : List Element) (y : Bool). both b (sameName (map rdnIn l) (pick y [] (rdnBack x end ∷ rdnsBack (16 - i) x (rdnStart x end)))))
+          rdn-next (ne-eqb end 0 d))
+          ∙ s .so-far
 
-    module _ (v : Inside) (read : v ≡ insideAt 49 c at (length c)) where
-      pub name-misfit : v ≡ Inside.Misfit → false ≡ sameName (storedName c) (operandName x)
-      name-misfit e = let z = none-left (16 - i) 49 c at (sym read ∙ e) in let q = s .rdns-left in absurd (omega arith)
+      -- one RDN more, whether it is the same or not
+      pub name-on : (m : ℕ) (a : Bool) → m ≡ rdnStart x end → both a (behindSame c x (start + len) end i) ≡ sameName (storedName c) (operandName x) → Naming c x n (start + len) m (i + 1) a
+      name-on m a g f =
+          let l : length (rdnsLeft c i at) ≡ suc (length (rdnsLeft c (i + 1) (start + len))) = ap length rdn-next in
+          let k = s .rdns-left in
+          let t = s .most in
+          let z : suc (16 - (i + 1)) ≡ 16 - i = omega arith in
+          record {
+            few = omega arith;
+            most = s .most;
+            rdns-left = omega arith;
+            so-far = ap₂ (λ (y w : ℕ). both a (sameName (map rdnIn (rdnsLeft c (i + 1) (start + len))) (rdnsBack y x w))) z g ∙ f;
+          }
 
-      module _ (start len : ℕ) (e : v ≡ Inside.Of start len) where
-        rdn-next : rdnsLeft c i at ≡ elementAt c at start len ∷ rdnsLeft c (i + 1) (start + len)
-        rdn-next = next-element 16 49 c n i at start len h (s .most) (s .rdns-left) (sym read ∙ e)
+      module _ (p : List ℕ) (q : p ≡ part c start len) (u : Bool) (told : u ≡ sameRdn (storedRdn p) (rdnBack x end)) where
+        by-told : both b (both u (behindSame c x (start + len) end i)) ≡ sameName (storedName c) (operandName x)
+        by-told = ap (λ (y : Bool). both b (both y (behindSame c x (start + len) end i))) (told ∙ ap (λ (y : List ℕ). sameRdn (storedRdn y) (rdnBack x end)) q) ∙ by-rdn
 
-        module _ (d : end ≡ 0 → ⊥) (p : List ℕ) (q : p ≡ part c start len) (u : Bool) (told : u ≡ sameRdn (storedRdn p) (rdnBack x end)) where
-          by-rdn : both u (sameName (map rdnIn (rdnsLeft c (i + 1) (start + len))) (rdnsBack (16 - i) x (rdnStart x end)))
-              ≡ sameName (storedName c) (operandName x)
-          unfolding sameName rdnsBack
-          by-rdn =
-              ap (λ (y : Bool). both y (sameName (map rdnIn (rdnsLeft c (i + 1) (start + len))) (rdnsBack (16 - i) x (rdnStart x end))))
-              (told ∙ ap (λ (y : List ℕ). sameRdn (storedRdn y) (rdnBack x end)) q)
-              ∙ sym (ap₂ (λ (l : List Element) (y : Bool). sameName (map rdnIn l) (pick y [] (rdnBack x end ∷ rdnsBack (16 - i) x (rdnStart x end))))
-              rdn-next (ne-eqb end 0 d))
-              ∙ s .so-far
+        pub name-other : not u ≡ true → false ≡ sameName (storedName c) (operandName x)
+        name-other f = sym (never b) ∙ (rw (not-true u f) at by-told)
 
-          pub name-other : not u ≡ true → false ≡ sameName (storedName c) (operandName x)
-          name-other f = rw (not-true u f) at by-rdn
+        pub name-more : (m : ℕ) → not u ≡ false → m ≡ rdnStart x end → Naming c x n (start + len) m (i + 1) b
+        name-more m f g = name-on m b g (rw (not-false u f) at by-told)
 
-          pub name-more : (m : ℕ) → not u ≡ false → m ≡ rdnStart x end → Naming c x n (start + len) m (i + 1)
-          name-more m f g =
-              let b : length (rdnsLeft c i at) ≡ suc (length (rdnsLeft c (i + 1) (start + len))) = ap length rdn-next in
-              let k = s .rdns-left in
-              let t = s .most in
-              let z : suc (16 - (i + 1)) ≡ 16 - i = omega arith in
-              record {
-                few = omega arith;
-                most = s .most;
-                rdns-left = omega arith;
-                so-far = ap₂ (λ (y w : ℕ). sameName (map rdnIn (rdnsLeft c (i + 1) (start + len))) (rdnsBack y x w)) z g
-                    ∙ (rw (not-false u f) at by-rdn);
-              }
+        pub name-only : both u (sameName (storedName c) (operandName x)) ≡ sameName (storedName c) (operandName x)
+        name-only = ap (both u) (sym by-told) ∙ go b u (behindSame c x (start + len) end i) ∙ by-told
+          where
+            go : (a u r : Bool) → both u (both a (both u r)) ≡ both a (both u r)
+            go true true r = refl
+            go false true r = refl
+            go true false r = refl
+            go false false r = refl
+
+-- ---- the last RDN of a name: those before it are gone over
+pub record Reaching (c x : List ℕ) (n place end i : ℕ) : Type 0 where
+  pub short : i < n
+  pub before : Bool
+  pub naming : Naming c x n place end i before
+
+pub reach-start : (c x : List ℕ) (n : ℕ) → 0 < n → n ≡ length (elementsOf (elementsFrom 16 49 c 0)) → Reaching c x n 0 (length x) 0
+reach-start c x n h e = record { short = h; before = true; naming = name-start c x n e }
+
+module _ (c x : List ℕ) (n place end i : ℕ) (s : Reaching c x n place end i) where
+  pub reach-longer : end ≡ 0 → false ≡ sameName (storedName c) (operandName x)
+  reach-longer = name-longer c x n place end i (s .before) (s .naming) (s .short)
+
+  module _ (v : Inside) (read : v ≡ insideAt 49 c place (length c)) where
+    pub reach-misfit : v ≡ Inside.Misfit → false ≡ sameName (storedName c) (operandName x)
+    reach-misfit = name-misfit c x n place end i (s .before) (s .naming) (s .short) v read
+
+    module _ (start len : ℕ) (e : v ≡ Inside.Of start len) (d : end ≡ 0 → ⊥) where
+      upTo : Bool
+      upTo = both (s .before) (sameRdn (storedRdn (part c start len)) (rdnBack x end))
+
+      onward : (m : ℕ) → m ≡ rdnStart x end → Naming c x n (start + len) m (i + 1) upTo
+      unfolding upTo
+      onward m g =
+          name-on c x n place end i (s .before) (s .naming) (s .short) v read start len e d m
+          (both (s .before) (sameRdn (storedRdn (part c start len)) (rdnBack x end))) g
+          (joined (s .before) (sameRdn (storedRdn (part c start len)) (rdnBack x end)) (behindSame c x (start + len) end i)
+          ∙ by-rdn c x n place end i (s .before) (s .naming) (s .short) v read start len e d)
+        where
+          joined : (a b r : Bool) → both (both a b) r ≡ both a (both b r)
+          joined true b r = refl
+          joined false b r = refl
+
+      pub reach-more : (last m : ℕ) → last ≡ n - 1 → i < last → m ≡ rdnStart x end → Reaching c x n (start + len) m (i + 1)
+      reach-more last m k h g = record { short = omega arith; before = upTo; naming = onward m g }
+
+      pub reach-fewer : (last m : ℕ) → last ≡ n - 1 → last ≤ i → m ≡ rdnStart x end → (m ≡ 0 → ⊥) → false ≡ sameName (storedName c) (operandName x)
+      reach-fewer last m k h g f =
+          name-fewer c x n (start + len) m (i + 1) upTo (onward m g) (omega arith) f
+
+      pub reach-last : (p : List ℕ) (u : Bool) → p ≡ part c start len → u ≡ sameRdn (storedRdn p) (rdnBack x end)
+          → both u (sameName (storedName c) (operandName x)) ≡ sameName (storedName c) (operandName x)
+      reach-last p u q told = name-only c x n place end i (s .before) (s .naming) (s .short) v read start len e d p q u told
+
+-- ---- both
+pub last-other : (u m : Bool) → both u m ≡ m → not u ≡ true → false ≡ m
+last-other u m e h = rw (not-true u h) at e

@@ -1,4 +1,4 @@
--- Computed examples: readings of document 02's Q-3 that are of comparing; each by the asserted text, and by the operand that is made of it.
+-- Computed examples of comparing names (document 02, Q-3): each by the asserted text, and by the operand that is made of it.
 use mathlib.Core.Path.{_≡_, refl}
 use mathlib.Core.Bool.{Bool, true, false}
 use mathlib.Core.Option.{Option, none, some}
@@ -48,7 +48,7 @@ Asked rs ts answers = (names rs ts ≡ answers) × (namesByOperand rs ts ≡ ans
 abbrev AskedRdn : List (List ℕ) → List String → List (Option Bool) → Type 0
 AskedRdn ps ts answers = (rdns ps ts ≡ answers) × (rdnsByOperand ps ts ≡ answers)
 
--- 3-1: the text has the last RDN first; also of another length
+-- the text has the last RDN first; also of another length
 order : Asked
     (rdn (pair "550406" 19 "AU" ∷ []) ∷ rdn (pair "55040A" 12 "Adacel" ∷ []) ∷ rdn (cn "Steven Legg" ∷ []) ∷ [])
     ("2.5.4.3=steven  legg,2.5.4.10=Adacel,2.5.4.6=AU" ∷ "2.5.4.6=AU,2.5.4.10=Adacel,2.5.4.3=Steven Legg" ∷ "2.5.4.10=Adacel,2.5.4.6=AU" ∷ "" ∷ [])
@@ -56,29 +56,29 @@ order : Asked
 unfolding matchingComputes
 order = (refl, refl)
 
--- 3-3: an attribute type twice, in any order
+-- an attribute type twice, in any order
 twice : AskedRdn (cn "a" ∷ cn "b" ∷ []) ("2.5.4.3=b+2.5.4.3=a" ∷ "2.5.4.3=a+2.5.4.3=b" ∷ "2.5.4.3=b+2.5.4.3=b" ∷ "2.5.4.3=a+2.5.4.4=b" ∷ [])
     (some true ∷ some true ∷ some false ∷ some false ∷ [])
 unfolding matchingComputes
 twice = (refl, refl)
 
--- 3-4: equal pairs are used up one by one
+-- equal pairs are used up one by one
 equals : AskedRdn (cn "a" ∷ cn "a" ∷ []) ("2.5.4.3=a+2.5.4.3=A" ∷ "2.5.4.3=a" ∷ "2.5.4.3=a+2.5.4.3=b" ∷ "2.5.4.3=a+2.5.4.3=a+2.5.4.3=a" ∷ [])
     (some true ∷ some false ∷ some false ∷ some false ∷ [])
 unfolding matchingComputes
 equals = (refl, refl)
 
--- 3-5: empty values
+-- empty values
 empty-value : AskedRdn (cn " " ∷ []) ("2.5.4.3=" ∷ "2.5.4.3=a" ∷ []) (some true ∷ some false ∷ [])
 unfolding matchingComputes
 empty-value = (refl, refl)
 
--- 3-12: an arc above 2^32 conforms, and equals no stored one
+-- an arc above 2^32 conforms, and equals no stored one
 large-arc : AskedRdn (cn "a" ∷ []) ("2.5.4.4294967299=a" ∷ "2.5.4.3=a" ∷ "1.40=a" ∷ []) (some false ∷ some true ∷ none ∷ [])
 unfolding matchingComputes
 large-arc = (refl, refl)
 
--- 3-13: a name without RDNs; one RDN has a pair at least
+-- a name without RDNs; one RDN has a pair at least
 no-rdn : Asked [] ("" ∷ "2.5.4.3=a" ∷ []) (some true ∷ some false ∷ [])
 unfolding matchingComputes
 no-rdn = (refl, refl)
@@ -87,7 +87,7 @@ no-pair : AskedRdn [] ("" ∷ "2.5.4.3=a" ∷ []) (none ∷ some false ∷ [])
 unfolding matchingComputes
 no-pair = (refl, refl)
 
--- 3-16: the kind of a stored string doesn't matter
+-- the kind of a stored string doesn't matter
 kinds : (AskedRdn (pair "550403" 12 "a" ∷ []) ("2.5.4.3=A" ∷ []) (some true ∷ []))
     × (AskedRdn (pair "550403" 19 "a" ∷ []) ("2.5.4.3=A" ∷ []) (some true ∷ []))
     × (AskedRdn (pair "550403" 22 "a" ∷ []) ("2.5.4.3=A" ∷ []) (some true ∷ []))

@@ -3,6 +3,7 @@ ghost use mathlib.Core.Path.{_≡_};
 ghost use mathlib.Core.Bool.{true};
 ghost use Prim.Native.Nat.{_≤_, _<_, _-_};
 ghost use lib.ListN.{length};
+ghost use Rattle.octets.specs.Pick.{both};
 ghost use Rattle.octets.specs.Octets.{octet, two, same};
 ghost use Rattle.octets.specs.inner.Answers.{between};
 ghost use Rattle.der.specs.Tag.{number};
@@ -17,11 +18,6 @@ ghost use Rattle.namematch.specs.inner.Marks as marks;
 use der::Inside;
 use der::Name;
 use der::PairParts;
-
-// The tag octets of a pair and of an RDN.
-const PAIR_TAG: usize = 48;
-
-const RDN_TAG: usize = 49;
 
 // Where an attribute of the operand lies: its type up to its value, and where its value ends.
 struct AttributeParts {
@@ -137,16 +133,16 @@ fn same_value(c: &[u8], p: PairParts, x: &[u8], a: AttributeParts) -> bool
     )
 }
 
-// Whether a stored pair is the same as the attribute that ends at a place: the types first.
+// Whether a stored pair is the same as the attribute that ends at a place: the values first, which differ more often than the types.
 fn same_pair(c: &[u8], x: &[u8], end: usize) -> bool
     ensures { λ r. ⌜ r ≡ compared.samePair (compared.stored (names.pairOf (now (c .entry)))) (operand.attributeBack (now (x .entry)) end) ⌝ }
 {
     let p = der::pair_parts(c);
     let a = attribute_parts(x, end);
-    if !same_type(c, p, x, a) {
+    if !same_value(c, p, x, a) {
         return false;
     }
-    same_value(c, p, x, a)
+    same_type(c, p, x, a)
 }
 
 // The same, where the attribute isn't marked as used: the last bit of `rest` is its mark.
@@ -188,14 +184,14 @@ fn use_attribute(c: &[u8], x: &[u8], end: usize, n: usize, used: usize) -> Marks
 fn same_rdn(c: &[u8], x: &[u8], end: usize, n: usize) -> bool
     ensures { λ r. ⌜ r ≡ compared.sameRdn (compared.storedRdn (now (c .entry))) (operand.attributesBack n (now (x .entry)) end) ⌝ }
 {
-    if count(PAIR_TAG, Name::MAX_PAIRS, c) != n {
+    if count(Name::PAIR_TAG, Name::MAX_PAIRS, c) != n {
         return false;
     }
     let mut at = 0;
     let mut used = 0;
     let mut i = 0;
     while i < n {
-        let Inside::Of(start, len) = der::open_within(PAIR_TAG, c, at, c.len()) else {
+        let Inside::Of(start, len) = der::open_within(Name::PAIR_TAG, c, at, c.len()) else {
             return false;
         };
         let Marks::Of(more) = use_attribute(octets::part(c, start, len), x, end, n, used) else {
@@ -222,19 +218,12 @@ fn rdn_start(x: &[u8], end: usize) -> usize
     start_back(attribute_count(x, end), x, less(end, 1))
 }
 
-// ---- entries
-// Whether a stored RDN is the same as the operand's.
-pub fn same_single(c: &[u8], x: &[u8]) -> bool
-    ensures { λ r. ⌜ r ≡ compared.sameRdn (compared.storedRdn (now (c .entry))) (operand.operandRdn (now (x .entry))) ⌝ }
-{
-    same_rdn_back(c, x, x.len())
-}
-
-// Whether a stored name is the same as the operand: RDN by RDN, those of the operand from its end on.
-pub fn same_name(c: &[u8], x: &[u8]) -> bool
+// ---- names
+// Whether the n RDNs of a stored name are the same as the operand's, one by one, those of the operand from its end on.
+fn same_rdns(c: &[u8], x: &[u8], n: usize) -> bool
+    requires counted { ⌜ n ≡ length (names.elementsOf (names.elementsFrom 16 49 (now c) 0)) ⌝ }
     ensures { λ r. ⌜ r ≡ compared.sameName (compared.storedName (now (c .entry))) (operand.operandName (now (x .entry))) ⌝ }
 {
-    let n = count(RDN_TAG, Name::MAX_RDNS, c);
     let mut at = 0;
     let mut end = x.len();
     let mut i = 0;
@@ -242,7 +231,7 @@ pub fn same_name(c: &[u8], x: &[u8]) -> bool
         if end == 0 {
             return false;
         }
-        let Inside::Of(start, len) = der::open_within(RDN_TAG, c, at, c.len()) else {
+        let Inside::Of(start, len) = der::open_within(Name::RDN_TAG, c, at, c.len()) else {
             return false;
         };
         if !same_rdn_back(octets::part(c, start, len), x, end) {
@@ -253,4 +242,60 @@ pub fn same_name(c: &[u8], x: &[u8]) -> bool
         i += 1;
     }
     end == 0
+}
+
+// Whether the operand has n RDNs as a stored name and the last of both is the same; false only where the names are not the same.
+fn same_last(c: &[u8], x: &[u8], n: usize) -> bool
+    requires some { ⌜ 0 < n ⌝ }
+    requires counted { ⌜ n ≡ length (names.elementsOf (names.elementsFrom 16 49 (now c) 0)) ⌝ }
+    ensures { λ r. ⌜ both r (compared.sameName (compared.storedName (now (c .entry))) (operand.operandName (now (x .entry))))
+        ≡ compared.sameName (compared.storedName (now (c .entry))) (operand.operandName (now (x .entry))) ⌝ }
+{
+    let last = n - 1;
+    let mut place = 0;
+    let mut reached = x.len();
+    let mut i = 0;
+    while i < last {
+        if reached == 0 {
+            return false;
+        }
+        let Inside::Of(start, len) = der::open_within(Name::RDN_TAG, c, place, c.len()) else {
+            return false;
+        };
+        reached = rdn_start(x, reached);
+        place = start + len;
+        i += 1;
+    }
+    if reached == 0 {
+        return false;
+    }
+    let Inside::Of(from, size) = der::open_within(Name::RDN_TAG, c, place, c.len()) else {
+        return false;
+    };
+    if rdn_start(x, reached) != 0 {
+        return false;
+    }
+    same_rdn_back(octets::part(c, from, size), x, reached)
+}
+
+// ---- entries
+// Whether a stored RDN is the same as the operand's.
+pub fn same_single(c: &[u8], x: &[u8]) -> bool
+    ensures { λ r. ⌜ r ≡ compared.sameRdn (compared.storedRdn (now (c .entry))) (operand.operandRdn (now (x .entry))) ⌝ }
+{
+    same_rdn_back(c, x, x.len())
+}
+
+// Whether a stored name is the same as the operand: the number of RDNs and the last one first, in which names differ most often.
+pub fn same_name(c: &[u8], x: &[u8]) -> bool
+    ensures { λ r. ⌜ r ≡ compared.sameName (compared.storedName (now (c .entry))) (operand.operandName (now (x .entry))) ⌝ }
+{
+    let n = count(Name::RDN_TAG, Name::MAX_RDNS, c);
+    if n < 2 {
+        return same_rdns(c, x, n);
+    }
+    if !same_last(c, x, n) {
+        return false;
+    }
+    same_rdns(c, x, n)
 }

@@ -8,8 +8,7 @@ use Rattle.digits.specs.Asserted.{inQuotes, isHexString, isBitText, isOctets, a
 use Rattle.digits.specs.Named.{trimmed}
 use Rattle.gser.specs.Listed.{afterSpaces, beforeSpaces, inBraces, inside, parted, listed}
 use Rattle.bitnames.specs.Names.{numberOf, numbersOf, isIn, bitsListed, listedBits}
-use Rattle.strings.specs.Images.{table, imageIn, encoded, allEncoded, marks, image}
-use Rattle.strings.specs.Prepared.{images, joined, prepared}
+use Rattle.names.specs.Computing.{namesCompute}
 use Rattle.strings.specs.Asserted.{isText, assertedText}
 use Rattle.times.specs.Asserted.{isTime, assertedTime}
 use Rattle.rules.specs.Asserted.{isTruth, assertedBitsBy, assertedIn, assertedOf}
@@ -17,8 +16,8 @@ use Rattle.rules.specs.RuleFor.{ruleFor}
 use Rattle.rules.specs.Accepts.{isEqual, isLess, acceptsContents, acceptsCount, accepts, acceptsComponent}
 
 unfoldable pub rulesCompute : ℕ
-unfolding referenceComputes knownRules sameName ruleOf allStrings suitsTarget suits
-    table imageIn encoded allEncoded marks image images joined prepared isTruth isInteger assertedInteger inQuotes isHexString isBitText isOctets assertedOctets
+unfolding referenceComputes namesCompute knownRules sameName ruleOf allStrings suitsTarget suits
+    isTruth isInteger assertedInteger inQuotes isHexString isBitText isOctets assertedOctets
     isBits hexBits textBits assertedBits isText assertedText isTime assertedTime
     trimmed afterSpaces beforeSpaces inBraces inside parted listed numberOf numbersOf isIn bitsListed listedBits assertedBitsBy
     assertedIn assertedOf ruleFor isEqual isLess acceptsContents acceptsCount accepts acceptsComponent

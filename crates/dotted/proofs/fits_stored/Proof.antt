@@ -21,11 +21,12 @@ fits-stored-spec =
     Inv-loop
     μ-loop
     (λ c. search fit-start)  -- loop-holds
-    (λ c κs. search needs)  -- read-arc-requires
-    (λ c κs. search needs)  -- is-small-requires
-    (λ c. search fit-bad)  -- returns
+    (λ c κs. search needs)  -- small-arc-requires
     (λ c. search needs)  -- enum-known-next
     (λ c. search needs)  -- enum-told
+    (λ c. search fit-bad)  -- returns
+    (λ c. search needs)  -- enum-known-next-2
+    (λ c. search needs)  -- enum-told-2
     (λ c. search fit-end)  -- returns-2
     (λ c. search needs)  -- sub-k
     (λ c. search needs)  -- loop-less

@@ -1,6 +1,6 @@
 use Rattle.der.specs.Dotted.{dottedArcs}
 use Rattle.der.specs.Meaning.{arcsOf}
-use Rattle.dotted.proofs.HeldSteps.{arcs-differ, arcs-ended, arcs-fall, arcs-more, arcs-over, arcs-start}
+use Rattle.dotted.proofs.HeldSteps.{arcs-above, arcs-differ, arcs-ended, arcs-fall, arcs-more, arcs-over, arcs-start, wide-fits}
 use Rattle.dotted.specs.inner.Arcs.{restPieces}
 use Rattle.dotted.specs.inner.Held.{matches, restArcs, restHeld}
 use Rattle.octets.specs.Octets.{same}
@@ -31,8 +31,11 @@ same-arcs-spec =
     (λ c. search needs)  -- enum-known-step
     (λ c. search needs)  -- enum-told-2
     (λ c. search arcs-ended)  -- returns-2
-    (λ c κs. search needs)  -- read-arc-requires
-    (λ c κs. search needs)  -- same-arc-requires
-    (λ c. search arcs-differ)  -- returns-3
+    (λ c κs. search needs)  -- small-arc-requires
+    (λ c. search needs)  -- enum-known-m
+    (λ c. search needs)  -- enum-told-3
+    (λ c. search arcs-above)  -- returns-3
+    (λ c. record { fits = search wide-fits })  -- cast-t12
+    (λ c. search arcs-differ)  -- returns-4
     (λ c. search arcs-fall)  -- loop-less
     (λ c. search arcs-more))  -- loop-again

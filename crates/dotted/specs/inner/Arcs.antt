@@ -14,6 +14,7 @@ use Rattle.dotted.specs.declared.Form.{Form}
 use Rattle.dotted.specs.declared.Digits.{Digits}
 use Rattle.dotted.specs.declared.Dots.{Dots}
 use Rattle.dotted.specs.declared.Arc.{Arc}
+use Rattle.dotted.specs.declared.SmallArc.{SmallArc}
 
 -- ---- digits, one after another
 abbrev pub moreDigit : ℕ → Form
@@ -61,6 +62,14 @@ arcFrom d (b ∷ s) at =
 
 unfoldable pub arcAt : List ℕ → ℕ → Arc
 arcAt t at = arcFrom (record { size = Size.Of 0; form = Form.Empty }) (drop at t) at
+
+-- an arc as a stored one may be, by its size and where the next starts
+abbrev pub smallOf : Size → Dots → SmallArc
+smallOf Size.Beyond next = SmallArc.Above
+smallOf (Size.Of n) next = pick (ltb n 4294967296) (SmallArc.Of n next) SmallArc.Above
+
+unfoldable pub smallAt : List ℕ → ℕ → SmallArc
+smallAt t at = smallOf (arcAt t at .size) (arcAt t at .next)
 
 -- the pieces from the next arc on
 unfoldable pub restPieces : List ℕ → Dots → List (List ℕ)

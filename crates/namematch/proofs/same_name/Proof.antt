@@ -1,36 +1,17 @@
-use Rattle.namematch.proofs.Steps.{Naming, name-start, name-done, name-longer, name-misfit, name-other, name-more}
+use Rattle.namematch.proofs.Steps.{last-other}
 use Rattle.der.proofs.NameLaws.{rdn-usable}
-use Rattle.der.proofs.NameSteps.{contents-fit}
-use Prim.Native.Nat.{_-_}
 use borrow.Author.Needs.{needs}
 use Rattle.namematch.proofs.same_name.Statement.{statement}
 use Rattle.namematch.proofs.same_name.Tie as tie
-
-abbrev Inv-loop : tie.InvT-loop
-Inv-loop c x n at₀ end₀ i₀ at end i = Naming c x n at end i
-
-abbrev μ-loop : tie.MeasureT-loop
-μ-loop c x n at₀ end₀ i₀ at end i = n - i
 
 pub same-name-spec : {M : Type 1} → statement M
 same-name-spec =
     tie.close
     (tie.spec
-    Inv-loop
-    μ-loop
     (λ c κs. search rdn-usable)  -- count-requires
-    (λ c. search name-start)  -- loop-holds
-    (λ c. search name-longer)  -- returns
-    (λ c κs. (search needs, search rdn-usable))  -- open-within-requires
-    (λ c. search needs)  -- enum-known-start
-    (λ c. search needs)  -- enum-told
-    (λ c. search name-misfit)  -- returns-2
-    (λ c κs. search needs)  -- part-requires
-    (λ c κs. search needs)  -- same-rdn-back-requires
-    (λ c. search name-other)  -- returns-3
-    (λ c κs. search needs)  -- rdn-start-requires
-    (λ c. record { fits = search contents-fit })  -- add-at
-    (λ c. search needs)  -- add-i
-    (λ c. search needs)  -- loop-less
-    (λ c. search name-more)  -- loop-again
-    (λ c. search name-done))  -- returns-4
+    (λ c κs. search needs)  -- same-rdns-requires
+    (λ c. search needs)  -- returns
+    (λ c κs. search needs)  -- same-last-requires
+    (λ c. search last-other)  -- returns-2
+    (λ c κs. search needs)  -- same-rdns-requires-2
+    (λ c. search needs))  -- returns-3
