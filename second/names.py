@@ -70,5 +70,5 @@ def same_rdn(stored, asserted):
 
 
 def same_name(stored, asserted):
-    """RFC 4517 section 4.2.10: the same number of RDNs, and corresponding RDNs, by position, are the same."""
+    """Source document 004 section 4.2.10: the same number of RDNs, and corresponding RDNs, by position, are the same."""
     return len(stored) == len(asserted) and all(map(same_rdn, stored, asserted))

@@ -480,7 +480,7 @@ fn both_match(contents: &[u8], asserted: &str) -> Result<(Truth, u64), u8> {
 
 const LEGG: &str = "c=AU/o=Adacel/cn=Steven Legg";
 
-/// 3-1: the text has the RDN first that is stored last.
+/// The text has the RDN first that is stored last.
 #[test]
 fn names_by_position() {
     for (stored, asserted, expected) in [
@@ -506,7 +506,7 @@ fn names_by_position() {
     }
 }
 
-/// 3-2: the pairs of a stored RDN are in the order of a SET OF, by their whole encodings; asserted ones in any.
+/// The pairs of a stored RDN are in the order of a SET OF, by their whole encodings; asserted ones in any.
 #[test]
 fn order_of_pairs() {
     let (one, other) = (pair(O, "b"), pair(CN, "aa"));
@@ -532,7 +532,7 @@ fn order_of_pairs() {
     assert_eq!(both_match(&rdn("o=b+cn=aa"), "2.5.4.10=b+2.5.4.3=aa"), TRUE);
 }
 
-/// 3-3, 3-4: pairs match one to one; a type may stand more than once, and so may a pair.
+/// Pairs match one to one; a type may stand more than once, and so may a pair.
 #[test]
 fn pairs_one_to_one() {
     for (stored, asserted, expected) in [
@@ -587,8 +587,8 @@ fn pairs_one_to_one() {
     }
 }
 
-/// 3-5, 3-7 to 3-11, 3-17: values, by what stands between the GSER quotes after `2.5.4.3=`. The last of each
-/// line is the prepared value, `None` where the text doesn't conform.
+/// Values, by what stands between the GSER quotes after `2.5.4.3=`. The last of each line is the prepared
+/// value, `None` where the text doesn't conform.
 #[test]
 fn asserted_values() {
     let all = "`~!@$%^&*()-_[]{}|:'/?.=#";
@@ -698,7 +698,7 @@ fn asserted_values() {
     assert_eq!(both_match(&pair(CN, "\u{B4}"), "2.5.4.3=\u{301}"), FALSE);
 }
 
-/// 3-6: nothing stands around a comma, a plus or an equals sign.
+/// Nothing stands around a comma, a plus or an equals sign.
 #[test]
 fn separators() {
     let stored = name("cn=b/cn=a");
@@ -737,7 +737,7 @@ fn separators() {
     assert_eq!(both_match(&rdn("cn=+cn="), "2.5.4.3=+2.5.4.3="), TRUE);
 }
 
-/// 3-12: types are dotted and of any size; those beyond the stored limits equal nothing.
+/// Types are dotted and of any size; those beyond the stored limits equal nothing.
 #[test]
 fn attribute_types() {
     let (ones, threes) = ([&[0x2A][..], &[1; 31]].concat(), ".1".repeat(31));
@@ -806,7 +806,7 @@ fn attribute_types() {
     assert_eq!(name_match(&name("cn=a/cn=b"), "2.5.4.3=b,2.5.4.4294967299=a"), FALSE);
 }
 
-/// 3-13, 3-21: no RDN, and as many as there may be; the same of pairs.
+/// No RDN, and as many as there may be; the same of pairs.
 #[test]
 fn limits_of_names() {
     assert_eq!(name_match(&[], ""), TRUE);
@@ -849,7 +849,7 @@ fn limits_of_names() {
     assert_eq!(both_match(&rdn(&format!("cn={long}b")), &format!("2.5.4.3={long}c")), FALSE);
 }
 
-/// 3-14, 3-19: each rule is for one kind, and its value is a quoted string.
+/// Each rule is for one kind, and its value is a quoted string.
 #[test]
 fn rules_of_names() {
     let (whole, one) = (encoded(0x30, &name("cn=a")), encoded(0x31, &rdn("cn=a")));
@@ -891,7 +891,7 @@ fn rules_of_names() {
     }
 }
 
-/// 3-15: no reference goes inside. The list of RDNs is another type, into which references go.
+/// No reference goes inside. The list of RDNs is another type, into which references go.
 #[test]
 fn references_to_names() {
     let table = [
@@ -963,7 +963,7 @@ fn references_to_names() {
     assert_eq!(check_value(&rdns, &encoded(0x30, &name(&["cn=a"; 20].join("/")))), Ok(()));
 }
 
-/// 3-16, 3-20: the kinds of stored values.
+/// The kinds of stored values.
 #[test]
 fn stored_values_of_names() {
     for (tag, value, good) in [
@@ -1111,7 +1111,7 @@ fn stored_values_of_names() {
     }
 }
 
-/// 3-18: tags, defaults, chains.
+/// Tags, defaults, chains.
 #[test]
 fn tables_of_names() {
     let chain = |count: u8, last: u8| -> Vec<u8> {

@@ -8,7 +8,7 @@ use Rattle.der.specs.Kind.{boolean, integer, enumerated, null, objectIde
 use Rattle.der.specs.Contents.{legalBoolean, legalInteger, legalNull, legalOid, legalBits, legalNamedBits, legalText}
 use Rattle.der.specs.Names.{legalRdnSequence, legalRdn}
 
--- of a kind that no row has members or an element of
+-- of a kind whose rows have neither members nor an element
 unfoldable pub legal : ℕ → List ℕ → Bool
 legal k c =
     pick (eqb k boolean) (legalBoolean c)

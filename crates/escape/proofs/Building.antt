@@ -14,10 +14,11 @@ use Rattle.octets.proofs.Laws.{both-true}
 use Rattle.der.specs.Dotted.{isDotted}
 use Rattle.der.specs.Names.{mostRdns, mostPairs}
 use Rattle.names.specs.Rfc4514.{Letter, Attribute, bare, letters, typeFrom, attributeFrom, isBefore, behind, withFirst, rdnFrom, rdnsFrom, distinguishedName}
+use Rattle.names.proofs.Laws.{letters-bare}
 use Rattle.escape.specs.Escape.{escapedText}
 use Rattle.escape.specs.Reading.{endsValue, pairWith}
 use Rattle.escape.specs.Building.{pairText, rdnText, nameText, everyPair, isRdn, everyRdn, isName, ReadBack}
-use Rattle.escape.proofs.Types.{letters-bare, dotted-plain}
+use Rattle.escape.proofs.Types.{dotted-plain}
 use Rattle.escape.proofs.Unicode.{utf8-joined, utf8-escaped, utf8-low, utf8-plain}
 use Rattle.escape.proofs.Reading.{attribute-escaped}
 

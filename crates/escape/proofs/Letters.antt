@@ -11,15 +11,10 @@ use Rattle.octets.specs.Text.{isDigit, isHex, hexValue}
 use Rattle.octets.specs.Utf8.{utf8}
 use Rattle.names.specs.Rfc4514.{Letter, bare, escaped, isReserved, isSpecial, letters, ends, upToEnd, fromEnd, isStringChar, mayStand, mayLead, mayTrail, octetOf}
 use Rattle.names.specs.Rfc4514.{everyLetter, leads, trails, isString}
+use Rattle.names.proofs.Laws.{letters-bare, letters-special}
 use Rattle.escape.specs.Escape.{alwaysEscaped, edgeEscaped, escapedOctet, escapedFrom}
-use Rattle.escape.proofs.Types.{letters-bare}
 
 -- ---- letters that are escaped
-letters-special : (c : ℕ) (s : List ℕ) → isSpecial c ≡ true → letters (92 ∷ c ∷ s) ≡ escaped c ∷ letters s
-unfolding letters
-letters-special c [] e = rw e
-letters-special c (d ∷ s) e = rw e
-
 letters-nul : (s : List ℕ) → letters (92 ∷ 48 ∷ 48 ∷ s) ≡ escaped 0 ∷ letters s
 unfolding letters isSpecial isReserved isHex isDigit hexValue
 letters-nul s = refl

@@ -13,10 +13,11 @@ use Rattle.octets.specs.Utf8.{utf8}
 use Rattle.octets.proofs.Laws.{pick-cases}
 use Rattle.der.specs.Dotted.{isDotted}
 use Rattle.names.specs.Rfc4514.{letters, upToEnd, fromEnd, withValue, attributeFrom}
+use Rattle.names.proofs.Laws.{letters-bare}
 use Rattle.escape.specs.Escape.{escapedText, Escaping, escaping, written, fits, escapedInto, escapedReport}
 use Rattle.escape.specs.Reading.{endsValue, pairWith, ReadsAs, Reads}
 use Rattle.escape.specs.declared.Escaped.{Escaped}
-use Rattle.escape.proofs.Types.{letters-bare, type-read}
+use Rattle.escape.proofs.Types.{type-read}
 use Rattle.escape.proofs.Unicode.{utf8-joined, utf8-escaped}
 use Rattle.escape.proofs.Letters.{lettersFor, letters-escaped, up-to-end, from-end, octets-back, string-escaped}
 

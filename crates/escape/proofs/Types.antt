@@ -15,14 +15,8 @@ use Rattle.octets.proofs.Laws.{both-true}
 use Rattle.octets.proofs.TextLaws.{every-nil, every-cons, number-nil, number-cons, pieces-cons, digit-within}
 use Rattle.der.specs.Dotted.{everyNumber, isDotted, rooted, dottedArcs}
 use Rattle.der.proofs.DottedLaws.{numbers-cons, dotted-pieces}
-use Rattle.names.specs.Rfc4514.{bare, letters, typeFrom}
-
--- ---- letters that stand for themselves
-pub letters-bare : (b : ℕ) (s : List ℕ) → (b ≡ 92 → ⊥) → letters (b ∷ s) ≡ bare b ∷ letters s
-unfolding letters
-letters-bare b [] n = rw (ne-eqb b 92 n)
-letters-bare b (c ∷ []) n = rw (ne-eqb b 92 n)
-letters-bare b (c ∷ d ∷ s) n = rw (ne-eqb b 92 n)
+use Rattle.names.specs.Rfc4514.{letters, typeFrom}
+use Rattle.names.proofs.Laws.{letters-bare}
 
 -- ---- an octet that may stand in a dotted text: from `.` to `9`, so neither `=` nor a backslash
 abbrev pub plain : ℕ → Bool

@@ -14,17 +14,13 @@ use Rattle.octets.specs.Octets.{octet}
 use Rattle.octets.specs.Text.{isDigit, isHex, hexValue}
 use Rattle.octets.specs.Quoted.{undoubled}
 use Rattle.octets.specs.inner.Answers.{between}
-use Rattle.octets.proofs.Laws.{never, octet-past, octet-inside, rest-cons, rest-none}
+use Rattle.octets.proofs.Laws.{never, octet-past, octet-inside, rest-cons, rest-none, either-in}
 use Rattle.octets.proofs.QuotedLaws.{undoubled-nil, undoubled-one, undoubled-two, undoubled-other}
 use Rattle.strings.specs.inner.Escaped.{unescaped}
 use Rattle.names.specs.Rfc4514.{bare, escaped, wrong, isReserved, isSpecial, letters, isStringChar}
 use Rattle.names.specs.inner.Reading.{nextPlace}
 
 -- ---- octets by their kind
-pub either-in : {P : Type 0} (a b : Bool) → (a ≡ true → P) → (b ≡ true → P) → either a b ≡ true → P
-either-in true b f g e = f refl
-either-in false b f g e = g e
-
 pub special-hex : (c : ℕ) → isSpecial c ≡ true → isHex c ≡ false
 unfolding isSpecial isReserved isHex isDigit
 special-hex c = or 32 refl (or 35 refl (or 61 refl (or 92 refl (or 34 refl (or 43 refl (or 44 refl (or 59 refl (or 60 refl (is 62 refl)))))))))
@@ -84,16 +80,6 @@ module _ (c : ℕ) where
     letters-wrong (d ∷ s) x = rw (e, x)
 
 -- ---- escaped texts
-pub unescaped-nil : unescaped [] ≡ []
-unfolding unescaped
-unescaped-nil = refl
-
-pub unescaped-bare : (b : ℕ) (s : List ℕ) → (b ≡ 92 → ⊥) → unescaped (b ∷ s) ≡ b ∷ unescaped s
-unfolding unescaped
-unescaped-bare b [] n = refl
-unescaped-bare b (c ∷ []) n = rw (ne-eqb b 92 n)
-unescaped-bare b (c ∷ d ∷ s) n = rw (ne-eqb b 92 n)
-
 pub unescaped-other : (c : ℕ) (s : List ℕ) → (c ≡ 34 → ⊥) → isHex c ≡ false → unescaped (92 ∷ c ∷ s) ≡ c ∷ unescaped s
 unfolding unescaped
 unescaped-other c [] n x = refl

@@ -2,56 +2,27 @@
 use mathlib.Core.Path.{_≡_, refl, sym, ap, ap₂, _∙_}
 use mathlib.Core.Bool.{Bool, true, false, not}
 use mathlib.Core.List.{List, [], _∷_}
-use Prim.Native.Nat.{ℕ, _≤_, _<_, _+_, _-_, _*_}
+use Prim.Native.Nat.{ℕ, _≤_, _<_, _+_, _*_}
 use native.Mathlib.Omega.{arith}
-use borrow.Author.Tests.{eqb-true, eqb-false, le-leb, lt-leb, leb-true, leb-false, lt-ltb, le-ltb, not-true, not-false}
-use lib.Dec.{leb, ltb, eqb}
+use borrow.Author.Tests.{eqb-true, eqb-false, le-leb, lt-leb, leb-true, leb-false, not-true, not-false}
+use lib.Dec.{leb, eqb}
 use lib.ListN.{length, drop}
-use Rattle.octets.specs.Pick.{pick, both, either}
+use Rattle.octets.specs.Pick.{pick, both}
 use Rattle.octets.specs.Octets.{octet}
-use Rattle.octets.specs.Text.{within, isDigit, isHex, hexValue}
+use Rattle.octets.specs.Text.{isHex, hexValue}
 use Rattle.octets.specs.Quoted.{undoubled}
 use Rattle.octets.specs.inner.Answers.{between}
 use Rattle.octets.proofs.Laws.{pick-cases, octet-inside, both-true}
 use Rattle.strings.specs.inner.Escaped.{unescaped}
+use Rattle.strings.proofs.Steps.{unescaped-bare}
 use Rattle.names.specs.Rfc4514 as rfc
 use Rattle.names.specs.Rfc4514.{bare, escaped, wrong, isSpecial, letters}
 use Rattle.names.specs.inner.Reading.{lettersAt, nextPlace, escapedAt, reportLetter, Standing, Stands}
 use Rattle.names.specs.declared.Letter.{Letter}
-use Rattle.names.proofs.Laws.{either-in, special-hex, special-quote, hex-quote, hex-some, string-quote, letters-nil, letters-bare, letters-last}
-use Rattle.names.proofs.Laws.{letters-special, letters-hex, letters-wrong, unescaped-bare, unescaped-other, unescaped-quote, unescaped-double}
+use Rattle.names.proofs.Laws.{special-hex, special-quote, hex-quote, hex-some, string-quote, letters-nil, letters-bare, letters-last}
+use Rattle.names.proofs.Laws.{letters-special, letters-hex, letters-wrong, unescaped-other, unescaped-quote, unescaped-double}
 use Rattle.names.proofs.Laws.{unescaped-hex, between-cons, between-first, next-other, next-single, next-double, characters-none, characters-cons}
 use Rattle.names.proofs.Laws.{next-within, character-first}
-
--- ---- two hexadecimal digits
-hex-small : (c : ℕ) → isHex c ≡ true → hexValue c ≤ 15
-unfolding isHex isDigit hexValue
-hex-small c = either-in (within 48 57 c) (either (within 65 70 c) (within 97 102 c)) digit (either-in (within 65 70 c) (within 97 102 c) upper lower)
-  where
-    bounds : (a b : ℕ) → within a b c ≡ true → (a ≤ c) × (c ≤ b)
-    bounds a b e = let w = both-true (leb a c) (leb c b) e in (leb-true a c (w .0), leb-true c b (w .1))
-
-    digit : within 48 57 c ≡ true → pick (ltb c 65) (c - 48) (pick (ltb c 97) (c - 55) (c - 87)) ≤ 15
-    digit e = let w = bounds 48 57 e in rw (lt-ltb c 65 (omega arith)) (omega arith)
-
-    upper : within 65 70 c ≡ true → pick (ltb c 65) (c - 48) (pick (ltb c 97) (c - 55) (c - 87)) ≤ 15
-    upper e = let w = bounds 65 70 e in rw (le-ltb c 65 (omega arith), lt-ltb c 97 (omega arith)) (omega arith)
-
-    lower : within 97 102 c ≡ true → pick (ltb c 65) (c - 48) (pick (ltb c 97) (c - 55) (c - 87)) ≤ 15
-    lower e = let w = bounds 97 102 e in rw (le-ltb c 65 (omega arith), le-ltb c 97 (omega arith)) (omega arith)
-
-module _ (c d x : ℕ) (e : both (isHex c) (isHex d) ≡ true) (told : x ≡ hexValue c) where
-  pub pair-times : x * 16 < 256
-  pair-times = omega (arith, hex-small c (both-true (isHex c) (isHex d) e .0))
-
-  pub pair-plus : (y : ℕ) → y ≡ hexValue d → x * 16 + y < 256
-  pair-plus y f = omega (arith, hex-small c (both-true (isHex c) (isHex d) e .0), hex-small d (both-true (isHex c) (isHex d) e .1))
-
-pub pair-no : (c d : ℕ) (u : Bool) → u ≡ isHex c → not u ≡ true → false ≡ both (isHex c) (isHex d)
-pair-no c d u e h = rw (sym e ∙ not-true u h)
-
-pub pair-is : (c d : ℕ) (u v : Bool) → u ≡ isHex c → not u ≡ false → v ≡ isHex d → v ≡ both (isHex c) (isHex d)
-pair-is c d u v e h f = rw (sym e ∙ not-false u h) f
 
 -- ---- after a backslash
 module _ (p : List ℕ) (at : ℕ) where

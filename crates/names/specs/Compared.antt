@@ -1,5 +1,5 @@
--- How names are compared (document 02, Q-3): "compared as caseIgnoreMatch"; "Pairs in an RDN match one to one, in any order." RFC 4517 section 4.2.10: the same
--- number of RDNs, and each is the same as the one at its place.
+-- How names are compared (document 02, Q-3): "compared as caseIgnoreMatch"; "Pairs in an RDN match one to one, in any order." Source document 004
+-- section 4.2.10: the same number of RDNs, and each is the same as the one at its place.
 use Prim.Native.Nat.{ℕ}
 use mathlib.Core.Bool.{Bool, true, false}
 use mathlib.Core.Option.{Option, none, some}

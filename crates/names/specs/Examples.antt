@@ -1,4 +1,4 @@
--- Computed examples: readings 3-1 to 3-21 of document 02's Q-3 as far as they are of texts.
+-- Computed examples of names as texts (document 02, Q-3).
 use mathlib.Core.Path.{_≡_, refl}
 use mathlib.Core.Bool.{Bool, true, false}
 use mathlib.Core.Option.{Option, none, some}

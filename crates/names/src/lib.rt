@@ -1,12 +1,11 @@
 // Distinguished names as text: what stands between the quotes of a value text, read as RFC 4514 has it. Two quotes are one.
+use der::Name;
 use octets::Awaiting;
 use octets::Place;
 ghost use mathlib.Core.Path.{_≡_};
-ghost use mathlib.Core.Bool.{true};
-ghost use Prim.Native.Nat.{_≤_, _<_, _+_, _*_};
+ghost use Prim.Native.Nat.{_≤_, _<_};
 ghost use lib.ListN.{length};
-ghost use Rattle.octets.specs.Pick.{both, isSome};
-ghost use Rattle.octets.specs.Text.{isHex, hexValue};
+ghost use Rattle.octets.specs.Pick.{isSome};
 ghost use Rattle.octets.specs.Quoted.{undoubled};
 ghost use Rattle.der.specs.Names.{mostPairs};
 ghost use Rattle.names.specs.Rfc4514 as rfc;
@@ -42,18 +41,6 @@ pub enum AttributeAt {
 pub enum RdnEnd {
     Of(usize),
     No,
-}
-
-// A name: how many RDNs it has, and the limits of every name.
-pub struct Name {
-    pub rdns: usize,
-}
-
-impl Name {
-    pub const MAX_RDNS: usize = 16;
-
-    // Attributes in one RDN.
-    pub const MAX_PAIRS: usize = 4;
 }
 
 // ---- letters
@@ -98,23 +85,6 @@ fn is_special(b: u8) -> bool
     is_reserved(b)
 }
 
-fn is_hex_pair(c: u8, d: u8) -> bool
-    ensures { λ r. ⌜ r ≡ both (isHex c) (isHex d) ⌝ }
-{
-    if !octets::is_hex(c) {
-        return false;
-    }
-    octets::is_hex(d)
-}
-
-// The octet that two hexadecimal digits stand for.
-fn hex_octet(c: u8, d: u8) -> u8
-    requires { ⌜ both (isHex c) (isHex d) ≡ true ⌝ }
-    ensures { λ r. ⌜ r ≡ hexValue c * 16 + hexValue d ⌝ }
-{
-    octets::hex_value(c) * 16 + octets::hex_value(d)
-}
-
 // The place after the character at a place.
 fn next_place(p: &[u8], at: usize) -> usize
     requires { ⌜ at < length (now p) ⌝ }
@@ -144,10 +114,10 @@ fn escaped_letter(p: &[u8], at: usize) -> Letter
         return Letter::Escaped(c, next_place(p, at));
     }
     let d = octets::octet(p, at + 1);
-    if !is_hex_pair(c, d) {
+    if !octets::is_hex_pair(c, d) {
         return Letter::Wrong;
     }
-    Letter::Escaped(hex_octet(c, d), at + 2)
+    Letter::Escaped(octets::hex_octet(c, d), at + 2)
 }
 
 // The letter at a place.
@@ -223,7 +193,7 @@ fn closed_value(trailing: bool, a: Awaiting, end: usize) -> ValueEnd
 }
 
 // Where the value ends that starts at a place.
-pub fn value_end(p: &[u8], at: usize) -> ValueEnd
+fn value_end(p: &[u8], at: usize) -> ValueEnd
     requires { ⌜ at ≤ length (now p) ⌝ }
     ensures value { λ r. ⌜ reading.reportValue (now (p .entry)) at r ≡ reading.valueFrom (reading.lettersAt (now (p .entry)) at) ⌝ }
     ensures places { λ r. ⌜ reading.ValuePlaces at (length (now (p .entry))) r ⌝ }
@@ -309,7 +279,7 @@ pub fn attribute_at(p: &[u8], at: usize) -> AttributeAt
 
 // ---- RDNs and names
 // Where the RDN ends that starts at a place.
-pub fn rdn_end(p: &[u8], at: usize) -> RdnEnd
+fn rdn_end(p: &[u8], at: usize) -> RdnEnd
     ensures { λ r. ⌜ reading.reportRest (now (p .entry)) r ≡ reading.restOf (rfc.rdnFrom mostPairs (reading.lettersAt (now (p .entry)) at)) ⌝ }
 {
     let mut i = at;

@@ -10,7 +10,7 @@ use native.Mathlib.Nat.{eq-or-lt-of-le}
 use borrow.Author.Tests.{not-true, not-false}
 use lib.ListN.{length, drop, drop-of-length-le, List·getD-eq-default, length-drop}
 use lib.Seq.{drop-cons, take-nil, take-all}
-use Rattle.octets.specs.Pick.{pick, both, all}
+use Rattle.octets.specs.Pick.{pick, both, either, all}
 use Rattle.octets.specs.Octets.{octet, part, every}
 
 -- ---- tests
@@ -81,6 +81,11 @@ either-first r p q e h = rw (sym e ∙ h)
 
 pub either-second : (r p q u : Bool) → r ≡ p → r ≡ false → u ≡ q → u ≡ pick p true q
 either-second r p q u e h f = rw (sym e ∙ h) f
+
+-- what follows from either test
+pub either-in : {P : Type 0} (a b : Bool) → (a ≡ true → P) → (b ≡ true → P) → either a b ≡ true → P
+either-in true b f g e = f refl
+either-in false b f g e = g e
 
 -- ---- a test of all numbers below one
 last-or : (n i : ℕ) → i < suc n → (i ≡ n) ⊎ (i < n)

@@ -1,16 +1,16 @@
 -- One lemma for each return and each turn of a loop; its premises are the facts as the code has them.
 use mathlib.Core.Path.{_≡_, refl, sym, ap, ap₂, _∙_}
-use mathlib.Core.Bool.{Bool, true, false}
+use mathlib.Core.Bool.{Bool, true, false, not}
 use mathlib.Core.Option.{Option, none, some}
 use mathlib.Core.List.{List, [], _∷_}
 use Prim.Native.Nat.{ℕ, suc, _≤_, _<_, _+_, _-_, _*_}
 use native.Mathlib.Omega.{arith}
 use native.Mathlib.Nat.{add-zero}
-use borrow.Author.Tests.{eq-eqb, ne-eqb, lt-ltb, le-ltb, lt-leb, le-leb, ltb-false}
-use lib.Dec.{ltb, eqb, eqb·suc-suc}
+use borrow.Author.Tests.{eq-eqb, ne-eqb, lt-ltb, le-ltb, lt-leb, le-leb, ltb-false, leb-true, not-true, not-false}
+use lib.Dec.{ltb, leb, eqb, eqb·suc-suc}
 use lib.ListN.{length, take, drop}
 use lib.Seq.{take-nil}
-use Rattle.octets.specs.Pick.{pick}
+use Rattle.octets.specs.Pick.{pick, both, either}
 use Rattle.octets.specs.Octets.{octet, part, every, larger, same}
 use Rattle.octets.specs.inner.Answers.{between}
 use Rattle.octets.specs.inner.Answers.{highestFrom, highest}
@@ -21,7 +21,7 @@ use Rattle.octets.specs.inner.Answers.{clip, growOf, reportPlace}
 use Rattle.octets.specs.declared.Size.{Size}
 use Rattle.octets.specs.declared.Place.{Place}
 use Rattle.octets.specs.declared.Awaiting.{Awaiting}
-use Rattle.octets.proofs.Laws.{octet-past, rest-cons, rest-none, part-past, part-rest}
+use Rattle.octets.proofs.Laws.{octet-past, rest-cons, rest-none, part-past, part-rest, either-in, both-true}
 use Rattle.octets.proofs.TextLaws.{highest-cons}
 
 -- ---- part
@@ -319,3 +319,33 @@ module _ (b : ℕ) (u : Bool) (digit : u ≡ isDigit b) where
 pub hex-value-low : (b : ℕ) → b < 48 → 0 ≡ hexValue b
 unfolding hexValue
 hex-value-low b h = let e : b - 48 ≡ 0 = omega arith in rw (lt-ltb b 65 (omega arith)) (sym e)
+
+-- ---- two hexadecimal digits
+hex-small : (c : ℕ) → isHex c ≡ true → hexValue c ≤ 15
+unfolding isHex isDigit hexValue
+hex-small c = either-in (within 48 57 c) (either (within 65 70 c) (within 97 102 c)) digit (either-in (within 65 70 c) (within 97 102 c) upper lower)
+  where
+    bounds : (a b : ℕ) → within a b c ≡ true → (a ≤ c) × (c ≤ b)
+    bounds a b e = let w = both-true (leb a c) (leb c b) e in (leb-true a c (w .0), leb-true c b (w .1))
+
+    digit : within 48 57 c ≡ true → pick (ltb c 65) (c - 48) (pick (ltb c 97) (c - 55) (c - 87)) ≤ 15
+    digit e = let w = bounds 48 57 e in rw (lt-ltb c 65 (omega arith)) (omega arith)
+
+    upper : within 65 70 c ≡ true → pick (ltb c 65) (c - 48) (pick (ltb c 97) (c - 55) (c - 87)) ≤ 15
+    upper e = let w = bounds 65 70 e in rw (le-ltb c 65 (omega arith), lt-ltb c 97 (omega arith)) (omega arith)
+
+    lower : within 97 102 c ≡ true → pick (ltb c 65) (c - 48) (pick (ltb c 97) (c - 55) (c - 87)) ≤ 15
+    lower e = let w = bounds 97 102 e in rw (le-ltb c 65 (omega arith), le-ltb c 97 (omega arith)) (omega arith)
+
+module _ (c d x : ℕ) (e : both (isHex c) (isHex d) ≡ true) (told : x ≡ hexValue c) where
+  pub pair-times : x * 16 < 256
+  pair-times = omega (arith, hex-small c (both-true (isHex c) (isHex d) e .0))
+
+  pub pair-plus : (y : ℕ) → y ≡ hexValue d → x * 16 + y < 256
+  pair-plus y f = omega (arith, hex-small c (both-true (isHex c) (isHex d) e .0), hex-small d (both-true (isHex c) (isHex d) e .1))
+
+pub pair-no : (c d : ℕ) (u : Bool) → u ≡ isHex c → not u ≡ true → false ≡ both (isHex c) (isHex d)
+pair-no c d u e h = rw (sym e ∙ not-true u h)
+
+pub pair-is : (c d : ℕ) (u v : Bool) → u ≡ isHex c → not u ≡ false → v ≡ isHex d → v ≡ both (isHex c) (isHex d)
+pair-is c d u v e h f = rw (sym e ∙ not-false u h) f

@@ -1,7 +1,9 @@
-// Octets and text: the lowest layer. Reads past the end give 0, so nothing is asked of a caller.
+// Octets and text: the lowest layer. Reads past the end give 0, so a caller proves nothing of its places.
 ghost use mathlib.Core.Path.{_≡_};
+ghost use mathlib.Core.Bool.{true};
 ghost use Prim.Native.Nat.{_≤_, _+_, _-_, _*_};
 ghost use lib.ListN.{drop};
+ghost use Rattle.octets.specs.Pick.{both};
 ghost use Rattle.octets.specs.Octets as octets;
 ghost use Rattle.octets.specs.Text as text;
 ghost use Rattle.octets.specs.Utf8 as unicode;
@@ -151,6 +153,24 @@ pub fn hex_value(b: u8) -> u8
         return b - 55;
     }
     b - 87
+}
+
+// Whether two octets are hexadecimal digits.
+pub fn is_hex_pair(c: u8, d: u8) -> bool
+    ensures { λ r. ⌜ r ≡ both (text.isHex c) (text.isHex d) ⌝ }
+{
+    if !is_hex(c) {
+        return false;
+    }
+    is_hex(d)
+}
+
+// The octet that two hexadecimal digits stand for.
+pub fn hex_octet(c: u8, d: u8) -> u8
+    requires { ⌜ both (text.isHex c) (text.isHex d) ≡ true ⌝ }
+    ensures { λ r. ⌜ r ≡ text.hexValue c * 16 + text.hexValue d ⌝ }
+{
+    hex_value(c) * 16 + hex_value(d)
 }
 
 pub fn is_lower(b: u8) -> bool

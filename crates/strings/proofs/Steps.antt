@@ -1,20 +1,20 @@
 -- Quoted strings and characters: one lemma for each return; its premises are the facts as the code has them.
 use mathlib.Core.Path.{_≡_, refl, sym, ap, ap₂, _∙_}
-use mathlib.Core.Bool.{Bool, true, false, not, false≢true}
+use mathlib.Core.Bool.{Bool, true, false}
 use mathlib.Core.Option.{none, some}
 use mathlib.Core.List.{List, [], _∷_}
-use Prim.Native.Nat.{ℕ, _≤_, _<_, _+_, _-_, _*_, _%_}
+use Prim.Native.Nat.{ℕ, _≤_, _<_, _+_, _-_, _*_}
 use native.Mathlib.Omega.{arith}
-use borrow.Author.Tests.{eq-eqb, ne-eqb, eqb-true, eqb-false, leb-true, lt-ltb, le-ltb, not-true, not-false}
-use lib.Dec.{ltb, leb, eqb}
+use borrow.Author.Tests.{eq-eqb, ne-eqb, eqb-true, eqb-false}
+use lib.Dec.{eqb}
 use lib.ListN.{length, length-take, drop}
-use Rattle.octets.specs.Pick.{pick, both, either, isSome}
+use Rattle.octets.specs.Pick.{pick, both, isSome}
 use Rattle.octets.specs.Octets.{octet, part}
-use Rattle.octets.specs.Text.{within, isDigit, isHex, hexValue, lower}
+use Rattle.octets.specs.Text.{isDigit, isHex, hexValue, lower}
 use Rattle.octets.specs.Quoted.{closingAt, undoubled, unquoted}
 use Rattle.octets.specs.inner.Answers as answers
 use Rattle.octets.specs.declared.Place.{Place}
-use Rattle.octets.proofs.Laws.{both-true, rest-cons, rest-none, rest-length}
+use Rattle.octets.proofs.Laws.{rest-cons, rest-none, rest-length}
 use Rattle.octets.proofs.QuotedLaws.{undoubled-nil, undoubled-one, undoubled-two, undoubled-other, unquoted-none, unquoted-longer, unquoted-whole}
 use Rattle.strings.specs.Asserted.{textOr, assertedText}
 use Rattle.strings.specs.inner.Comparing.{octetsOf, reportOctet, foldOctet}
@@ -107,23 +107,8 @@ module _ (s : List ℕ) (at : ℕ) (h : at < length s) where
       pub quoted-double : octet s (at + 1) ≡ 34 → 34 ∷ undoubled (drop (at + 2) s) ≡ undoubled (drop at s)
       quoted-double e = sym (two ∙ rw (eq-eqb (octet s (at + 1)) 34 e))
 
--- the value of a hexadecimal digit
-hex-small : (c : ℕ) → isHex c ≡ true → hexValue c ≤ 15
-unfolding isHex isDigit hexValue
-hex-small c h = go (within 48 57 c) refl (within 65 70 c) refl (within 97 102 c) refl h
-  where
-    bounds : (a b : ℕ) → within a b c ≡ true → (a ≤ c) × (c ≤ b)
-    bounds a b q = let w = both-true (leb a c) (leb c b) q in (leb-true a c (w .0), leb-true c b (w .1))
-
-    go : (x : Bool) → within 48 57 c ≡ x → (y : Bool) → within 65 70 c ≡ y → (z : Bool) → within 97 102 c ≡ z → either x (either y z) ≡ true
-        → pick (ltb c 65) (c - 48) (pick (ltb c 97) (c - 55) (c - 87)) ≤ 15
-    go true p y q z r k = let w = bounds 48 57 p in rw (lt-ltb c 65 (omega (arith, w .1))) (omega (arith, w .1))
-    go false p true q z r k = let w = bounds 65 70 q in rw (le-ltb c 65 (w .0), lt-ltb c 97 (omega (arith, w .1))) (omega (arith, w .1))
-    go false p false q true r k = let w = bounds 97 102 r in rw (le-ltb c 65 (omega (arith, w .0)), le-ltb c 97 (w .0)) (omega (arith, w .1))
-    go false p false q false r k = absurd (false≢true k)
-
 -- ---- octets of an escaped string
-unescaped-nil : unescaped [] ≡ []
+pub unescaped-nil : unescaped [] ≡ []
 unfolding unescaped
 unescaped-nil = refl
 
@@ -132,15 +117,15 @@ unfolding isHex isDigit
 quote-no-hex = refl
 
 -- one that is no backslash, and a backslash last or before one octet
-plain-octet : (b : ℕ) (l : List ℕ) → (b ≡ 92 → ⊥) → unescaped (b ∷ l) ≡ b ∷ unescaped l
+pub unescaped-bare : (b : ℕ) (l : List ℕ) → (b ≡ 92 → ⊥) → unescaped (b ∷ l) ≡ b ∷ unescaped l
 unfolding unescaped
-plain-octet b [] n = refl
-plain-octet b (c ∷ []) n = rw (ne-eqb b 92 n)
-plain-octet b (c ∷ d ∷ l) n = rw (ne-eqb b 92 n)
+unescaped-bare b [] n = refl
+unescaped-bare b (c ∷ []) n = rw (ne-eqb b 92 n)
+unescaped-bare b (c ∷ d ∷ l) n = rw (ne-eqb b 92 n)
 
 module _ (s : List ℕ) (at : ℕ) (h : at < length s) where
   pub escaped-other : (octet s at ≡ 92 → ⊥) → octet s at ∷ unescaped (drop (at + 1) s) ≡ unescaped (drop at s)
-  escaped-other n = sym (plain-octet (octet s at) (drop (at + 1) s) n) ∙ ap unescaped (sym (rest-cons s at h))
+  escaped-other n = sym (unescaped-bare (octet s at) (drop (at + 1) s) n) ∙ ap unescaped (sym (rest-cons s at h))
 
   module _ (backslash : octet s at ≡ 92) where
     pub escaped-last : length s - at ≡ 1 → 92 ∷ unescaped (drop (at + 1) s) ≡ unescaped (drop at s)
@@ -185,21 +170,15 @@ module _ (s : List ℕ) (at : ℕ) (here : at + 2 < length s) (backslash : octet
   pair-quote e f = rw (e, ne-eqb d 34 f, quote-no-hex) at (sym three)
 
   module _ (u : Bool) (told : u ≡ both (isHex (octet s (at + 1))) (isHex (octet s (at + 2)))) (e : octet s (at + 1) ≡ 34 → ⊥) where
-    pub pair-hex : (r : ℕ) → u ≡ true → r ≡ hexValue (octet s (at + 1)) % 16 * 16 + hexValue (octet s (at + 2)) % 16
+    pub pair-hex : (r : ℕ) → u ≡ true → r ≡ hexValue (octet s (at + 1)) * 16 + hexValue (octet s (at + 2))
         → r ∷ unescaped (drop (at + 3) s) ≡ unescaped (drop at s)
-    pair-hex r n q =
-        let w = both-true (isHex c) (isHex d) (sym told ∙ n) in
-        let is : r ≡ hexValue c * 16 + hexValue d = omega (arith, hex-small c (w .0), hex-small d (w .1)) in
-        ap (λ (x : ℕ). x ∷ unescaped (drop (at + 3) s)) is ∙ (rw (ne-eqb c 34 e, sym told ∙ n) at (sym three))
+    pair-hex r n q = ap (λ (x : ℕ). x ∷ unescaped (drop (at + 3) s)) q ∙ (rw (ne-eqb c 34 e, sym told ∙ n) at (sym three))
 
     pub pair-other : u ≡ false → octet s (at + 1) ∷ unescaped (drop (at + 2) s) ≡ unescaped (drop at s)
     pair-other n = rw (ne-eqb c 34 e, sym told ∙ n) at (sym three)
 
-pub hex-not : (a b u : Bool) → u ≡ a → not u ≡ true → false ≡ both a b
-hex-not a b u e n = rw (sym e ∙ not-true u n)
-
-pub hex-both : (a b u v : Bool) → u ≡ a → not u ≡ false → v ≡ b → v ≡ both a b
-hex-both a b u v e n f = rw (sym e ∙ not-false u n) f
+pub pair-told : (c d : ℕ) (u : Bool) → u ≡ both (isHex c) (isHex d) → u ≡ true → both (isHex c) (isHex d) ≡ true
+pair-told c d u told e = sym told ∙ e
 
 -- ---- octets of a string of a form
 module _ (s : List ℕ) (form : Form) (at : ℕ) where

@@ -2,12 +2,11 @@
 use octets::Place;
 ghost use mathlib.Core.Path.{_≡_};
 ghost use mathlib.Core.Bool.{true, false};
-ghost use Prim.Native.Nat.{_≤_, _<_, _+_, _*_, _%_};
+ghost use Prim.Native.Nat.{_≤_, _<_, _+_, _*_};
 ghost use mathlib.Core.List.{[], _∷_, _++_};
 ghost use lib.ListN.{length, drop};
-ghost use Rattle.octets.specs.Pick.{both, isSome};
+ghost use Rattle.octets.specs.Pick.{isSome};
 ghost use Rattle.octets.specs.Octets.{octet, same, part};
-ghost use Rattle.octets.specs.Text.{isHex, hexValue};
 ghost use Rattle.octets.specs.Quoted.{undoubled, unquoted};
 ghost use Rattle.strings.specs.Asserted as asserted;
 ghost use Rattle.strings.specs.Prepared.{isPair, images, afterSpace, prepared};
@@ -134,22 +133,6 @@ fn quoted_octet(s: &[u8], at: usize) -> Letter
     Letter::Got(34, at + 2)
 }
 
-fn is_hex_pair(c: u8, d: u8) -> bool
-    ensures { λ r. ⌜ r ≡ both (isHex c) (isHex d) ⌝ }
-{
-    if !octets::is_hex(c) {
-        return false;
-    }
-    octets::is_hex(d)
-}
-
-// The octet that a pair of hexadecimal digits stands for.
-fn hex_octet(c: u8, d: u8) -> u8
-    ensures { λ r. ⌜ r ≡ hexValue c % 16 * 16 + hexValue d % 16 ⌝ }
-{
-    octets::hex_value(c) % 16 * 16 + octets::hex_value(d) % 16
-}
-
 // The octet behind a backslash at a place of an escaped string: what three octets, the backslash among them, stand for.
 fn pair_octet(s: &[u8], at: usize) -> Letter
     requires here { ⌜ at + 2 < length (now s) ⌝ }
@@ -164,8 +147,8 @@ fn pair_octet(s: &[u8], at: usize) -> Letter
         }
         return Letter::Got(34, at + 2);
     }
-    if is_hex_pair(c, d) {
-        return Letter::Got(hex_octet(c, d), at + 3);
+    if octets::is_hex_pair(c, d) {
+        return Letter::Got(octets::hex_octet(c, d), at + 3);
     }
     Letter::Got(c, at + 2)
 }

@@ -1,4 +1,4 @@
-use Rattle.strings.proofs.Steps.{pair-quotes, pair-quote, pair-hex, pair-other}
+use Rattle.strings.proofs.Steps.{pair-quotes, pair-quote, pair-told, pair-hex, pair-other}
 use borrow.Author.Needs.{needs}
 use Rattle.strings.proofs.pair_octet.Statement.{statement}
 use Rattle.strings.proofs.pair_octet.Tie as tie
@@ -16,7 +16,7 @@ pair-octet-spec =
     (λ c. search needs)  -- add-t12
     (λ c. search pair-quote)  -- returns-2
     (λ c κs. search needs)  -- is-hex-pair-requires
-    (λ c κs. search needs)  -- hex-octet-requires
+    (λ c κs. search pair-told)  -- hex-octet-requires
     (λ c. search needs)  -- add-t15
     (λ c. search pair-hex)  -- returns-3
     (λ c. search needs)  -- add-t16

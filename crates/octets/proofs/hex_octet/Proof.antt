@@ -1,7 +1,7 @@
-use Rattle.names.proofs.LetterSteps.{pair-times, pair-plus}
+use Rattle.octets.proofs.Steps.{pair-times, pair-plus}
 use borrow.Author.Needs.{needs}
-use Rattle.names.proofs.hex_octet.Statement.{statement}
-use Rattle.names.proofs.hex_octet.Tie as tie
+use Rattle.octets.proofs.hex_octet.Statement.{statement}
+use Rattle.octets.proofs.hex_octet.Tie as tie
 
 pub hex-octet-spec : {M : Type 1} → statement M
 hex-octet-spec =

@@ -1,7 +1,7 @@
-use Rattle.names.proofs.LetterSteps.{pair-no, pair-is}
+use Rattle.octets.proofs.Steps.{pair-no, pair-is}
 use borrow.Author.Needs.{needs}
-use Rattle.names.proofs.is_hex_pair.Statement.{statement}
-use Rattle.names.proofs.is_hex_pair.Tie as tie
+use Rattle.octets.proofs.is_hex_pair.Statement.{statement}
+use Rattle.octets.proofs.is_hex_pair.Tie as tie
 
 pub is-hex-pair-spec : {M : Type 1} → statement M
 is-hex-pair-spec = tie.close (tie.spec
