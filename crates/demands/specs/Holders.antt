@@ -47,7 +47,8 @@ pub holder-asked : map (asks "holder" "distinguishedNameMatch") ("\"2.5.4.10=\\C
     ∷ "\"2.5.4.3=ANN  LEE+2.5.4.10=\\c3\\a9lan,2.5.4.6=au\"" ∷ "\"2.5.4.6=AU,2.5.4.10=\\C3\\89lan+2.5.4.3=Ann Lee\"" ∷ "\"2.5.4.3=Ann Lee,2.5.4.6=AU\""
     ∷ "\"cn=Ann Lee,2.5.4.6=AU\"" ∷ "2.5.4.6=AU" ∷ [])
     ++ asks "holder" "rdnMatch" "\"2.5.4.6=AU\"" ∷ asks "holder" "presentMatch" "NULL" ∷ []
-    ≡ answers TRUE 1 ∷ answers TRUE 1 ∷ answers FALSE 1 ∷ answers FALSE 1 ∷ answers UNDEFINED 0 ∷ answers UNDEFINED 0 ∷ answers UNDEFINED 0 ∷ answers TRUE 1 ∷ []
+    ≡ answers TRUE 1 ∷ answers TRUE 1 ∷ answers FALSE 1 ∷ answers FALSE 1 ∷ answers UNDEFINED 0 ∷ answers UNDEFINED 0 ∷ answers UNDEFINED 0
+    ∷ answers TRUE 1 ∷ []
 unfolding engineComputes asks
 holder-asked = refl
 

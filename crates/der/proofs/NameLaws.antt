@@ -2,7 +2,7 @@
 use mathlib.Core.Path.{_≡_, refl, sym, ap}
 use mathlib.Core.Bool.{Bool, true, false}
 use mathlib.Core.Option.{Option, none, some}
-use mathlib.Core.List.{List, [], _∷_, map}
+use mathlib.Core.List.{List, [], _∷_}
 use Prim.Native.Nat.{ℕ, zero, suc, _≤_, _<_, _+_}
 use native.Mathlib.Omega.{arith}
 use borrow.Author.Tests.{le-leb, lt-leb}
@@ -17,7 +17,7 @@ use Rattle.der.specs.Header.{insideAt}
 use Rattle.der.specs.Contents.{legalPrintable, legalIa5, legalText}
 use Rattle.der.specs.Order.{notAbove}
 use Rattle.der.specs.Names.{Element, elementAt, elementsFrom, legalString, legalType, legalPair, everyElement, inOrder, legalPairs, legalRdn}
-use Rattle.der.specs.Names.{legalRdns, legalRdnSequence, pairBehind, pairOf, elementsOf, rdnOf, nameOf}
+use Rattle.der.specs.Names.{legalRdns, legalRdnSequence, pairBehind, pairOf}
 use Rattle.der.specs.declared.Inside.{Inside}
 
 -- ---- tag octets: 06 of an attribute type, 30 of a pair, 31 of an RDN; 0C, 13 and 16 of the strings
@@ -41,14 +41,6 @@ module _ (c : List ℕ) where
   pub parts-by-octet : pairOf c ≡ pairBehind c (insideAt 6 c 0 (length c))
   unfolding pairOf ownOctet universal universalText isConstructed
   parts-by-octet = refl
-
-  pub rdn-meaning : rdnOf c ≡ map (λ e. pairOf (e .contents)) (elementsOf (elementsFrom 4 48 c 0))
-  unfolding rdnOf ownOctet universal universalText isConstructed
-  rdn-meaning = refl
-
-  pub name-meaning : nameOf c ≡ map (λ e. rdnOf (e .contents)) (elementsOf (elementsFrom 16 49 c 0))
-  unfolding nameOf ownOctet universal universalText isConstructed
-  name-meaning = refl
 
   pub rdn-by-octet : legalRdn c ≡ legalPairs (elementsFrom 4 48 c 0)
   unfolding legalRdn ownOctet universal universalText isConstructed

@@ -118,7 +118,8 @@ abbrev nextOf : SmallArc → Dots
 nextOf (SmallArc.Of k next) = next
 nextOf SmallArc.Above = Dots.Over
 
-small-is : (t : List ℕ) (at k : ℕ) (next : Dots) (size : Size) → arcAt t at .size ≡ size → smallOf size (arcAt t at .next) ≡ SmallArc.Of k next → IsSmall t at k next
+small-is : (t : List ℕ) (at k : ℕ) (next : Dots) (size : Size) → arcAt t at .size ≡ size
+    → smallOf size (arcAt t at .next) ≡ SmallArc.Of k next → IsSmall t at k next
 small-is t at k next Size.Beyond e f = absurd (false≢true (ap isOf f))
 small-is t at k next (Size.Of m) e f = go (ltb m 4294967296) refl f
   where

@@ -9,7 +9,8 @@ use lib.ListN.{length}
 use Rattle.octets.specs.Pick.{pick, both, either, no}
 use Rattle.octets.specs.Text.{isDigit, isHex, hexValue}
 use Rattle.octets.specs.Utf8.{utf8}
-use Rattle.names.specs.Rfc4514.{Letter, bare, escaped, isReserved, isSpecial, letters, ends, upToEnd, fromEnd, isStringChar, mayStand, mayLead, mayTrail, octetOf}
+use Rattle.names.specs.Rfc4514.{Letter, bare, escaped, isReserved, isSpecial, letters, ends, upToEnd, fromEnd, isStringChar}
+use Rattle.names.specs.Rfc4514.{mayStand, mayLead, mayTrail, octetOf}
 use Rattle.names.specs.Rfc4514.{everyLetter, leads, trails, isString}
 use Rattle.names.proofs.Laws.{letters-bare, letters-special}
 use Rattle.escape.specs.Escape.{alwaysEscaped, edgeEscaped, escapedOctet, escapedFrom}
@@ -35,7 +36,8 @@ always-is b = go (eqb b 34) (eqb b 43) (eqb b 44) (eqb b 59) (eqb b 60) (eqb b 6
     over true false z = refl
     over false y z = refl
 
-    go : (q p c s l g e : Bool) → either q (either p (either c (either s (either l (either g e))))) ≡ either e (either q (either p (either c (either s (either l g)))))
+    go : (q p c s l g e : Bool)
+        → either q (either p (either c (either s (either l (either g e))))) ≡ either e (either q (either p (either c (either s (either l g)))))
     go true p c s l g e = over true e (either p (either c (either s (either l g))))
     go false true c s l g e = over true e (either c (either s (either l g)))
     go false false true s l g e = over true e (either s (either l g))

@@ -13,7 +13,8 @@ use Rattle.octets.specs.Pick.{pick, both, consed}
 use Rattle.der.specs.Kind.{isConstructed}
 use Rattle.der.specs.Tag.{universalText, universal, ownOctet}
 use Rattle.der.specs.Header.{insideAt, opened}
-use Rattle.der.specs.Names.{Element, elementAt, elementsFrom, elementsOf, pairOf, rdnOf, nameOf}
+use Rattle.der.specs.Names as stored-names
+use Rattle.der.specs.Names.{Element, elementAt, elementsFrom, elementsOf, pairOf, nameOf}
 use Rattle.der.specs.declared.Inside.{Inside}
 use Rattle.der.proofs.Laws.{inside-long, inside-within}
 use Rattle.der.proofs.NameLaws.{elements-next}
@@ -21,21 +22,19 @@ use Rattle.names.specs.Compared.{Compared, samePair, stored, storedRdn, storedN
 use Rattle.names.specs.inner.Operand.{typeStart, attributesBack}
 use Rattle.names.proofs.Matching.{without-cons}
 use Rattle.namematch.specs.inner.Marks.{unused, behind, marked}
+use Rattle.namematch.specs.inner.Names.{rdnOf}
 
 -- ---- elements: 30 is the tag octet of a pair, 31 that of an RDN
 abbrev pub pairIn : Element → Compared
 pairIn e = stored (pairOf (e .contents))
 
-abbrev pub rdnIn : Element → List Compared
-rdnIn e = storedRdn (e .contents)
-
 pub rdn-elements : (c : List ℕ) → storedRdn c ≡ map pairIn (elementsOf (elementsFrom 4 48 c 0))
-unfolding rdnOf ownOctet universal universalText isConstructed
+unfolding stored-names.rdnOf ownOctet universal universalText isConstructed
 rdn-elements c = map-map stored (λ e. pairOf (e .contents)) (elementsOf (elementsFrom 4 48 c 0))
 
-pub name-elements : (c : List ℕ) → storedName c ≡ map rdnIn (elementsOf (elementsFrom 16 49 c 0))
+pub name-elements : (c : List ℕ) → storedName c ≡ map rdnOf (elementsOf (elementsFrom 16 49 c 0))
 unfolding nameOf ownOctet universal universalText isConstructed
-name-elements c = map-map (map stored) (λ e. rdnOf (e .contents)) (elementsOf (elementsFrom 16 49 c 0))
+name-elements c = map-map (map stored) (λ e. stored-names.rdnOf (e .contents)) (elementsOf (elementsFrom 16 49 c 0))
 
 abbrev pub howMany : ℕ → ℕ → List ℕ → ℕ → ℕ
 howMany m o c at = length (elementsOf (elementsFrom m o c at))

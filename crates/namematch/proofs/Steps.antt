@@ -9,7 +9,6 @@ use native.Mathlib.Numerals.{add-one}
 use native.Mathlib.Nat.{mul-add, pow-suc, pow-le-pow-right}
 use borrow.Author.Tests.{eq-eqb, ne-eqb, not-true, not-false}
 use lib.ListN.{length, length-map}
-use lib.Dec.{eqb}
 use Rattle.octets.specs.Pick.{pick, both, consed}
 use Rattle.octets.specs.Octets.{octet, two, part, same}
 use Rattle.octets.specs.inner.Answers.{between}
@@ -23,15 +22,15 @@ use Rattle.der.proofs.Laws.{inside-long}
 use Rattle.der.proofs.NameLaws.{elements-end, elements-full, elements-misfit, elements-next}
 use Rattle.strings.specs.Prepared.{prepared}
 use Rattle.strings.specs.inner.Comparing.{folded}
-use Rattle.names.specs.Compared.{Compared, samePair, stored, storedRdn, storedName, without, others, sameRdn, sameName}
-use Rattle.names.specs.inner.Operand.{typeStart, textStart, attributeBack, attributesBack, startBack, rdnBack, rdnStart, rdnsBack, operandName}
+use Rattle.names.specs.Compared.{Compared, samePair, stored, storedRdn, without, others, sameRdn}
+use Rattle.names.specs.inner.Operand.{typeStart, textStart, attributeBack, attributesBack, startBack, rdnBack, rdnStart}
 use Rattle.names.proofs.Matching.{other-length, without-length}
 use Rattle.namematch.specs.inner.Marks.{unused, sameUnused, behind, marked, report, Near}
 use Rattle.namematch.specs.declared.Marks.{Marks}
-use Rattle.namematch.proofs.Laws.{pairIn, rdnIn, rdn-elements, name-elements, none-left, next-element, few-elements}
+use Rattle.namematch.proofs.Laws.{pairIn, rdn-elements, none-left, next-element, few-elements}
 use Rattle.namematch.proofs.Laws.{none-marked, taken, without-marked, above, spread, above-start, above-behind, attributes-length}
 
-always : (x : Bool) → both x true ≡ x
+pub always : (x : Bool) → both x true ≡ x
 always true = refl
 always false = refl
 
@@ -224,16 +223,13 @@ module _ (a : Compared) (x : List ℕ) (end n used place rest weight j : ℕ) (s
               omega arith
 
 -- ---- a list without elements
-no-length : {A : Type 0} (l : List A) → length l ≡ 0 → l ≡ []
+pub no-length : {A : Type 0} (l : List A) → length l ≡ 0 → l ≡ []
 no-length [] e = refl
 no-length (a ∷ l) e = absurd (omega arith)
 
--- ---- the pairs of an RDN and the RDNs of a name from a place on, before which i of them lie
+-- ---- the pairs of an RDN from a place on, before which i of them lie
 abbrev pub pairsLeft : List ℕ → ℕ → ℕ → List Element
 pairsLeft c i at = elementsOf (elementsFrom (4 - i) 48 c at)
-
-abbrev pub rdnsLeft : List ℕ → ℕ → ℕ → List Element
-rdnsLeft c i at = elementsOf (elementsFrom (16 - i) 49 c at)
 
 -- ---- an RDN: i of n pairs lie before place at, each with an attribute of its own
 pub record Matching (c x : List ℕ) (end n at used i : ℕ) : Type 0 where
@@ -329,160 +325,3 @@ module _ (c x : List ℕ) (end n at used i : ℕ) (s : Matching c x end n at use
 pub rdn-back-is : (c x : List ℕ) (end n i : ℕ) (r : Bool) → n ≡ octet x (end - 1) → i ≡ end - 1 → r ≡ sameRdn (storedRdn c) (attributesBack n x i)
     → r ≡ sameRdn (storedRdn c) (rdnBack x end)
 rdn-back-is c x end n i r e f g = g ∙ ap₂ (λ (y z : ℕ). sameRdn (storedRdn c) (attributesBack y x z)) e f
-
--- ---- a name: i of n RDNs lie before place at, and as many of the operand from place end on; b says whether each is the same as the one at its place
-pub record Naming (c x : List ℕ) (n at end i : ℕ) (b : Bool) : Type 0 where
-  pub few : i ≤ n
-  pub most : n ≤ 16
-  pub rdns-left : i + length (rdnsLeft c i at) ≡ n
-  pub so-far : both b (sameName (map rdnIn (rdnsLeft c i at)) (rdnsBack (suc (16 - i)) x end)) ≡ sameName (storedName c) (operandName x)
-
--- the RDNs behind the next one, those of the name from place `at` on
-abbrev pub behindSame : List ℕ → List ℕ → ℕ → ℕ → ℕ → Bool
-behindSame c x at end i = sameName (map rdnIn (rdnsLeft c (i + 1) at)) (rdnsBack (16 - i) x (rdnStart x end))
-
-pub name-start : (c x : List ℕ) (n : ℕ) → n ≡ length (elementsOf (elementsFrom 16 49 c 0)) → Naming c x n 0 (length x) 0 true
-name-start c x n e =
-    let f : length (elementsOf (elementsFrom 16 49 c 0)) ≤ 16 = few-elements 16 49 c 0 in
-    record {
-      few = omega arith;
-      most = omega arith;
-      rdns-left = omega arith;
-      so-far = ap (λ (l : List (List Compared)). sameName l (operandName x)) (sym (name-elements c));
-    }
-
-pub name-done : (c x : List ℕ) (n at end i : ℕ) → Naming c x n at end i true → n ≤ i → eqb end 0 ≡ sameName (storedName c) (operandName x)
-unfolding sameName rdnsBack
-name-done c x n at end i s h =
-    go (eqb end 0) ∙ sym (ap (λ (l : List Element). sameName (map rdnIn l) (rdnsBack (suc (16 - i)) x end)) none-more) ∙ s .so-far
-  where
-    none-more : rdnsLeft c i at ≡ []
-    none-more = let e = s .rdns-left in no-length (rdnsLeft c i at) (omega arith)
-
-    go : (u : Bool) → u ≡ sameName [] (pick u [] (rdnBack x end ∷ rdnsBack (16 - i) x (rdnStart x end)))
-    go true = refl
-    go false = refl
-
--- no RDN of the name is left, and one of the operand is
-name-fewer : (c x : List ℕ) (n at end i : ℕ) (b : Bool) → Naming c x n at end i b → n ≤ i → (end ≡ 0 → ⊥) → false ≡ sameName (storedName c) (operandName x)
-unfolding sameName rdnsBack
-name-fewer c x n at end i b s h d =
-    sym (never b)
-    ∙ sym (ap₂ (λ (l : List Element) (y : Bool). both b (sameName (map rdnIn l) (pick y [] (rdnBack x end ∷ rdnsBack (16 - i) x (rdnStart x end)))))
-    none-more (ne-eqb end 0 d))
-    ∙ s .so-far
-  where
-    none-more : rdnsLeft c i at ≡ []
-    none-more = let e = s .rdns-left in no-length (rdnsLeft c i at) (omega arith)
-
-module _ (c x : List ℕ) (n at end i : ℕ) (b : Bool) (s : Naming c x n at end i b) (h : i < n) where
-  left-over : rdnsLeft c i at ≡ [] → ⊥
-  left-over e = let z : length (rdnsLeft c i at) ≡ 0 = ap length e in let q = s .rdns-left in omega arith
-
-  pub name-longer : end ≡ 0 → false ≡ sameName (storedName c) (operandName x)
-  unfolding sameName rdnsBack
-  name-longer e =
-      sym (never b)
-      ∙ ap (both b) (go (rdnsLeft c i at) left-over)
-      ∙ sym (ap (λ (y : Bool). both b (sameName (map rdnIn (rdnsLeft c i at)) (pick y [] (rdnBack x end ∷ rdnsBack (16 - i) x (rdnStart x end)))))
-      (eq-eqb end 0 e)) ∙ s .so-far
-    where
-      go : (l : List Element) → (l ≡ [] → ⊥) → false ≡ sameName (map rdnIn l) []
-      go [] d = absurd (d refl)
-      go (b ∷ l) d = refl
-
-  module _ (v : Inside) (read : v ≡ insideAt 49 c at (length c)) where
-    pub name-misfit : v ≡ Inside.Misfit → false ≡ sameName (storedName c) (operandName x)
-    name-misfit e = let z = none-left (16 - i) 49 c at (sym read ∙ e) in let q = s .rdns-left in absurd (omega arith)
-
-    module _ (start len : ℕ) (e : v ≡ Inside.Of start len) (d : end ≡ 0 → ⊥) where
-      rdn-next : rdnsLeft c i at ≡ elementAt c at start len ∷ rdnsLeft c (i + 1) (start + len)
-      rdn-next = next-element 16 49 c n i at start len h (s .most) (s .rdns-left) (sym read ∙ e)
-
-      by-rdn : both b (both (sameRdn (storedRdn (part c start len)) (rdnBack x end)) (behindSame c x (start + len) end i)) ≡ sameName (storedName c) (operandName x)
-      unfolding sameName rdnsBack
-      by-rdn =
-          sym (ap₂ (λ (l : List Element) (y : Bool). both b (sameName (map rdnIn l) (pick y [] (rdnBack x end ∷ rdnsBack (16 - i) x (rdnStart x end)))))
-          rdn-next (ne-eqb end 0 d))
-          ∙ s .so-far
-
-      -- one RDN more, whether it is the same or not
-      pub name-on : (m : ℕ) (a : Bool) → m ≡ rdnStart x end → both a (behindSame c x (start + len) end i) ≡ sameName (storedName c) (operandName x) → Naming c x n (start + len) m (i + 1) a
-      name-on m a g f =
-          let l : length (rdnsLeft c i at) ≡ suc (length (rdnsLeft c (i + 1) (start + len))) = ap length rdn-next in
-          let k = s .rdns-left in
-          let t = s .most in
-          let z : suc (16 - (i + 1)) ≡ 16 - i = omega arith in
-          record {
-            few = omega arith;
-            most = s .most;
-            rdns-left = omega arith;
-            so-far = ap₂ (λ (y w : ℕ). both a (sameName (map rdnIn (rdnsLeft c (i + 1) (start + len))) (rdnsBack y x w))) z g ∙ f;
-          }
-
-      module _ (p : List ℕ) (q : p ≡ part c start len) (u : Bool) (told : u ≡ sameRdn (storedRdn p) (rdnBack x end)) where
-        by-told : both b (both u (behindSame c x (start + len) end i)) ≡ sameName (storedName c) (operandName x)
-        by-told = ap (λ (y : Bool). both b (both y (behindSame c x (start + len) end i))) (told ∙ ap (λ (y : List ℕ). sameRdn (storedRdn y) (rdnBack x end)) q) ∙ by-rdn
-
-        pub name-other : not u ≡ true → false ≡ sameName (storedName c) (operandName x)
-        name-other f = sym (never b) ∙ (rw (not-true u f) at by-told)
-
-        pub name-more : (m : ℕ) → not u ≡ false → m ≡ rdnStart x end → Naming c x n (start + len) m (i + 1) b
-        name-more m f g = name-on m b g (rw (not-false u f) at by-told)
-
-        pub name-only : both u (sameName (storedName c) (operandName x)) ≡ sameName (storedName c) (operandName x)
-        name-only = ap (both u) (sym by-told) ∙ go b u (behindSame c x (start + len) end i) ∙ by-told
-          where
-            go : (a u r : Bool) → both u (both a (both u r)) ≡ both a (both u r)
-            go true true r = refl
-            go false true r = refl
-            go true false r = refl
-            go false false r = refl
-
--- ---- the last RDN of a name: those before it are gone over
-pub record Reaching (c x : List ℕ) (n place end i : ℕ) : Type 0 where
-  pub short : i < n
-  pub before : Bool
-  pub naming : Naming c x n place end i before
-
-pub reach-start : (c x : List ℕ) (n : ℕ) → 0 < n → n ≡ length (elementsOf (elementsFrom 16 49 c 0)) → Reaching c x n 0 (length x) 0
-reach-start c x n h e = record { short = h; before = true; naming = name-start c x n e }
-
-module _ (c x : List ℕ) (n place end i : ℕ) (s : Reaching c x n place end i) where
-  pub reach-longer : end ≡ 0 → false ≡ sameName (storedName c) (operandName x)
-  reach-longer = name-longer c x n place end i (s .before) (s .naming) (s .short)
-
-  module _ (v : Inside) (read : v ≡ insideAt 49 c place (length c)) where
-    pub reach-misfit : v ≡ Inside.Misfit → false ≡ sameName (storedName c) (operandName x)
-    reach-misfit = name-misfit c x n place end i (s .before) (s .naming) (s .short) v read
-
-    module _ (start len : ℕ) (e : v ≡ Inside.Of start len) (d : end ≡ 0 → ⊥) where
-      upTo : Bool
-      upTo = both (s .before) (sameRdn (storedRdn (part c start len)) (rdnBack x end))
-
-      onward : (m : ℕ) → m ≡ rdnStart x end → Naming c x n (start + len) m (i + 1) upTo
-      unfolding upTo
-      onward m g =
-          name-on c x n place end i (s .before) (s .naming) (s .short) v read start len e d m
-          (both (s .before) (sameRdn (storedRdn (part c start len)) (rdnBack x end))) g
-          (joined (s .before) (sameRdn (storedRdn (part c start len)) (rdnBack x end)) (behindSame c x (start + len) end i)
-          ∙ by-rdn c x n place end i (s .before) (s .naming) (s .short) v read start len e d)
-        where
-          joined : (a b r : Bool) → both (both a b) r ≡ both a (both b r)
-          joined true b r = refl
-          joined false b r = refl
-
-      pub reach-more : (last m : ℕ) → last ≡ n - 1 → i < last → m ≡ rdnStart x end → Reaching c x n (start + len) m (i + 1)
-      reach-more last m k h g = record { short = omega arith; before = upTo; naming = onward m g }
-
-      pub reach-fewer : (last m : ℕ) → last ≡ n - 1 → last ≤ i → m ≡ rdnStart x end → (m ≡ 0 → ⊥) → false ≡ sameName (storedName c) (operandName x)
-      reach-fewer last m k h g f =
-          name-fewer c x n (start + len) m (i + 1) upTo (onward m g) (omega arith) f
-
-      pub reach-last : (p : List ℕ) (u : Bool) → p ≡ part c start len → u ≡ sameRdn (storedRdn p) (rdnBack x end)
-          → both u (sameName (storedName c) (operandName x)) ≡ sameName (storedName c) (operandName x)
-      reach-last p u q told = name-only c x n place end i (s .before) (s .naming) (s .short) v read start len e d p q u told
-
--- ---- both
-pub last-other : (u m : Bool) → both u m ≡ m → not u ≡ true → false ≡ m
-last-other u m e h = rw (not-true u h) at e

@@ -3,7 +3,6 @@ ghost use mathlib.Core.Path.{_≡_};
 ghost use mathlib.Core.Bool.{true};
 ghost use Prim.Native.Nat.{_≤_, _<_, _-_};
 ghost use lib.ListN.{length};
-ghost use Rattle.octets.specs.Pick.{both};
 ghost use Rattle.octets.specs.Octets.{octet, two, same};
 ghost use Rattle.octets.specs.inner.Answers.{between};
 ghost use Rattle.der.specs.Tag.{number};
@@ -15,6 +14,7 @@ ghost use Rattle.strings.specs.inner.Comparing.{folded};
 ghost use Rattle.names.specs.Compared as compared;
 ghost use Rattle.names.specs.inner.Operand as operand;
 ghost use Rattle.namematch.specs.inner.Marks as marks;
+ghost use Rattle.namematch.specs.inner.Names as places;
 use der::Inside;
 use der::Name;
 use der::PairParts;
@@ -219,37 +219,11 @@ fn rdn_start(x: &[u8], end: usize) -> usize
 }
 
 // ---- names
-// Whether the n RDNs of a stored name are the same as the operand's, one by one, those of the operand from its end on.
-fn same_rdns(c: &[u8], x: &[u8], n: usize) -> bool
-    requires counted { ⌜ n ≡ length (names.elementsOf (names.elementsFrom 16 49 (now c) 0)) ⌝ }
-    ensures { λ r. ⌜ r ≡ compared.sameName (compared.storedName (now (c .entry))) (operand.operandName (now (x .entry))) ⌝ }
-{
-    let mut at = 0;
-    let mut end = x.len();
-    let mut i = 0;
-    while i < n {
-        if end == 0 {
-            return false;
-        }
-        let Inside::Of(start, len) = der::open_within(Name::RDN_TAG, c, at, c.len()) else {
-            return false;
-        };
-        if !same_rdn_back(octets::part(c, start, len), x, end) {
-            return false;
-        }
-        end = rdn_start(x, end);
-        at = start + len;
-        i += 1;
-    }
-    end == 0
-}
-
-// Whether the operand has n RDNs as a stored name and the last of both is the same; false only where the names are not the same.
+// Whether the last of n RDNs of a stored name is the same as the operand's, and the operand has no more.
 fn same_last(c: &[u8], x: &[u8], n: usize) -> bool
     requires some { ⌜ 0 < n ⌝ }
-    requires counted { ⌜ n ≡ length (names.elementsOf (names.elementsFrom 16 49 (now c) 0)) ⌝ }
-    ensures { λ r. ⌜ both r (compared.sameName (compared.storedName (now (c .entry))) (operand.operandName (now (x .entry))))
-        ≡ compared.sameName (compared.storedName (now (c .entry))) (operand.operandName (now (x .entry))) ⌝ }
+    requires counted { ⌜ n ≡ places.rdnCount (now c) ⌝ }
+    ensures { λ r. ⌜ r ≡ places.sameFrom (now (c .entry)) (now (x .entry)) (n - 1) ⌝ }
 {
     let last = n - 1;
     let mut place = 0;
@@ -278,6 +252,32 @@ fn same_last(c: &[u8], x: &[u8], n: usize) -> bool
     same_rdn_back(octets::part(c, from, size), x, reached)
 }
 
+// Whether a stored name is the same as the operand, where those of its RDNs behind the first k are.
+fn same_before(c: &[u8], x: &[u8], k: usize) -> bool
+    requires within { ⌜ k ≤ places.rdnCount (now c) ⌝ }
+    requires rest { ⌜ places.sameFrom (now c) (now x) k ≡ true ⌝ }
+    ensures { λ r. ⌜ r ≡ compared.sameName (compared.storedName (now (c .entry))) (operand.operandName (now (x .entry))) ⌝ }
+{
+    let mut at = 0;
+    let mut end = x.len();
+    let mut i = 0;
+    while i < k {
+        if end == 0 {
+            return false;
+        }
+        let Inside::Of(start, len) = der::open_within(Name::RDN_TAG, c, at, c.len()) else {
+            return false;
+        };
+        if !same_rdn_back(octets::part(c, start, len), x, end) {
+            return false;
+        }
+        end = rdn_start(x, end);
+        at = start + len;
+        i += 1;
+    }
+    true
+}
+
 // ---- entries
 // Whether a stored RDN is the same as the operand's.
 pub fn same_single(c: &[u8], x: &[u8]) -> bool
@@ -291,11 +291,11 @@ pub fn same_name(c: &[u8], x: &[u8]) -> bool
     ensures { λ r. ⌜ r ≡ compared.sameName (compared.storedName (now (c .entry))) (operand.operandName (now (x .entry))) ⌝ }
 {
     let n = count(Name::RDN_TAG, Name::MAX_RDNS, c);
-    if n < 2 {
-        return same_rdns(c, x, n);
+    if n == 0 {
+        return x.len() == 0;
     }
     if !same_last(c, x, n) {
         return false;
     }
-    same_rdns(c, x, n)
+    same_before(c, x, n - 1)
 }

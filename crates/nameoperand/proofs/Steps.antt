@@ -5,9 +5,9 @@ use mathlib.Core.List.{List, [], _∷_, _++_, append-assoc, append-nil}
 use Prim.Native.Nat.{ℕ, suc, _≤_, _<_, _+_, _-_, _*_, _/_, _%_}
 use native.Mathlib.Omega.{arith}
 use native.Mathlib.Numerals.{add-one}
-use lib.ListN.{length, length-append, take, drop, set, length-set}
+use lib.ListN.{length, take, drop, set, length-set}
 use lib.Seq.{take-suc-set, length-take-le}
-use Rattle.octets.specs.Octets.{octet, part}
+use Rattle.octets.specs.Octets.{octet}
 use Rattle.octets.specs.inner.Answers.{between}
 use Rattle.octets.proofs.Laws.{rest-cons, rest-length}
 use Rattle.strings.specs.Prepared.{prepared}
@@ -60,7 +60,8 @@ module _ (p : List ℕ) (from to n : ℕ) (m₀ : List ℕ) (i at : ℕ) (m : Li
       begun = omega (arith, v .begun);
       within = omega arith;
       place = omega (arith, v .place, v .begun);
-      start = rw (add-one at, take-suc-set m at (octet p i) (omega (arith, copy-room, v .long)), append-assoc (take at m) (octet p i ∷ []) (between p (i + 1) to))
+      start =
+          rw (add-one at, take-suc-set m at (octet p i) (omega (arith, copy-room, v .long)), append-assoc (take at m) (octet p i ∷ []) (between p (i + 1) to))
           (ap (λ (l : List ℕ). take at m ++ l) (sym (between-first p i to h w)) ∙ v .start);
     }
 
@@ -124,7 +125,8 @@ module _ (p : List ℕ) (at equals end n : ℕ) (typed : at + 3 ≤ equals) (val
       let text-is : lengths - text ≡ length (prepared true (unescaped v)) = omega arith in
       g ∙ ap₂ (λ (x y : List ℕ). x ++ y) (f ∙ ap (λ (x : List ℕ). x ++ prepared true (unescaped v)) e)
       (ap₂ (λ (j k : ℕ). twoOctets j ++ twoOctets k) type-is text-is)
-      ∙ append-assoc (take n m ++ between p at equals) (prepared true (unescaped v)) (twoOctets (length (between p at equals)) ++ twoOctets (length (prepared true (unescaped v))))
+      ∙ append-assoc (take n m ++ between p at equals) (prepared true (unescaped v))
+      (twoOctets (length (between p at equals)) ++ twoOctets (length (prepared true (unescaped v))))
       ∙ append-assoc (take n m) (between p at equals)
       (prepared true (unescaped v) ++ (twoOctets (length (between p at equals)) ++ twoOctets (length (prepared true (unescaped v)))))
       ∙ ap (λ (y : List ℕ). take n m ++ attributeOctets (record { type = between p at equals; value = unescaped y })) value

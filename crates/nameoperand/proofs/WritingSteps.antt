@@ -11,7 +11,7 @@ use lib.Dec.{eqb}
 use lib.ListN.{length, take, set, length-set}
 use lib.Seq.{take-suc-set}
 use Rattle.octets.specs.Pick.{pick, both, bind, consed, isSome}
-use Rattle.octets.specs.Octets.{octet, part}
+use Rattle.octets.specs.Octets.{octet}
 use Rattle.octets.specs.Text.{isNumber, decimalFrom, ontoFirst, pieces}
 use Rattle.octets.specs.Quoted.{undoubled}
 use Rattle.octets.specs.inner.Answers.{between}
@@ -67,7 +67,8 @@ abbrev typeOr : Option (Read rfc.Attribute) → List ℕ
 typeOr none = []
 typeOr (some a) = a .got .type
 
-type-dotted : (ls : List rfc.Letter) (a : rfc.Attribute) (rest : List rfc.Letter) → attributeFrom ls ≡ some (record { got = a; rest = rest }) → isDotted (a .type) ≡ true
+type-dotted : (ls : List rfc.Letter) (a : rfc.Attribute) (rest : List rfc.Letter)
+    → attributeFrom ls ≡ some (record { got = a; rest = rest }) → isDotted (a .type) ≡ true
 unfolding attributeFrom
 type-dotted ls a rest = go (typeFrom ls)
   where
@@ -83,7 +84,8 @@ type-dotted ls a rest = go (typeFrom ls)
         tested true q false f = absurd (Option·none-ne-some _ f)
         tested false q v f = absurd (Option·none-ne-some _ f)
 
-pub type-long : (p : List ℕ) (at : ℕ) (r : AttributeAt) (a : Attribute) → reportAttribute p at r ≡ attributeFrom (lettersAt p at) → AttributePlaces at (length p) r
+pub type-long : (p : List ℕ) (at : ℕ) (r : AttributeAt) (a : Attribute)
+    → reportAttribute p at r ≡ attributeFrom (lettersAt p at) → AttributePlaces at (length p) r
     → r ≡ AttributeAt.Of a → at + 3 ≤ a .equals
 type-long p at AttributeAt.No a told places e = absurd (let z : _≡_ {A = ℕ} 0 1 = cc in omega arith)
 type-long p at (AttributeAt.Of b) a told places e =
@@ -238,8 +240,8 @@ module _ (p : List ℕ) (first from : ℕ) (m₀ : List ℕ) (at n count : ℕ) 
           writing-done n₂ m₂ f g l = record {
             long = l;
             rdn = v .whole;
-            read = v .all ∙ ap (λ (x : List rfc.Letter). readAs (v .whole) x) (sym (alone-rest most (lettersAt p at) this (lettersAt p (a .end)) (v .left) (v .rest)
-                this-read read-on (before ∙ ne-eqb b 43 q)));
+            read = v .all ∙ ap (λ (x : List rfc.Letter). readAs (v .whole) x)
+                (sym (alone-rest most (lettersAt p at) this (lettersAt p (a .end)) (v .left) (v .rest) this-read read-on (before ∙ ne-eqb b 43 q)));
             octets = f ∙ ap₂ (λ (x : List ℕ) (k : ℕ). x ++ (k ∷ []))
                 (written ∙ ap (λ (x : List ℕ). take n m ++ x) (sym (append-nil (attributeOctets this)))
                 ∙ ap (λ (x : List rfc.Attribute). take n m ++ attributesOctets x) (sym last) ∙ v .octets)
@@ -295,7 +297,8 @@ module _ (p m₀ m : List ℕ) (r : Written) (v : RdnWritten p 0 0 m₀ r m) whe
   pub single-long : length m ≡ 5120
   single-long = v .long
 
-  pub single-written : isSome (relativeDistinguishedName (undoubled p)) ≡ true → take (r .place) m ≡ rdnOctets (orNone (relativeDistinguishedName (undoubled p)))
+  pub single-written : isSome (relativeDistinguishedName (undoubled p)) ≡ true
+      → take (r .place) m ≡ rdnOctets (orNone (relativeDistinguishedName (undoubled p)))
   unfolding relativeDistinguishedName lettersAt
   single-written h = v .octets ∙ ap (λ (l : List rfc.Attribute). rdnOctets l) (go (lettersAt p (r .end)) (v .read) (rw (v .read) at h))
     where
@@ -335,7 +338,14 @@ naming-start p m n l h = go (distinguishedName (undoubled p)) refl h
   where
     go : (o : Option (List (List rfc.Attribute))) → distinguishedName (undoubled p) ≡ o → isSome o ≡ true → Naming p 0 0 m
     go none e q = absurd (false≢true q)
-    go (some rs) e q = record { long = l; behind = omega arith; most = mostRdns; left = rs; read = whole-name p n ∙ e; octets = ap (λ (o : Option (List (List rfc.Attribute))). nameOctets (orNone o)) (sym e) }
+    go (some rs) e q = record {
+      long = l;
+      behind = omega arith;
+      most = mostRdns;
+      left = rs;
+      read = whole-name p n ∙ e;
+      octets = ap (λ (o : Option (List (List rfc.Attribute))). nameOctets (orNone o)) (sym e);
+    }
 
 abbrev firstOr : Option (List (List rfc.Attribute)) → List (List rfc.Attribute)
 firstOr none = []

@@ -175,7 +175,8 @@ module _ (p : List ℕ) (at : ℕ) (h : at < length p) (esc : octet p at ≡ 92)
 
     unpaired : isSpecial c ≡ false → Met p at (pick (both (isHex c) (isHex d)) (Letter.Escaped (hexValue c * 16 + hexValue d) (at + 1 + 2)) Letter.Wrong)
     unpaired e =
-        pick-cases (Met p at) (both (isHex c) (isHex d)) (Letter.Escaped (hexValue c * 16 + hexValue d) (at + 1 + 2)) Letter.Wrong paired (λ x. (pair-wrong e x, tt))
+        pick-cases (Met p at) (both (isHex c) (isHex d)) (Letter.Escaped (hexValue c * 16 + hexValue d) (at + 1 + 2)) Letter.Wrong paired
+        (λ x. (pair-wrong e x, tt))
       where
         paired : both (isHex c) (isHex d) ≡ true → Met p at (Letter.Escaped (hexValue c * 16 + hexValue d) (at + 1 + 2))
         paired x = (pair-letters e x, record { beyond = omega arith; within = omega (arith, inside e x); octets = λ m. pair-octets e x })

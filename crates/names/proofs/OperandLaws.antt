@@ -16,8 +16,8 @@ use Rattle.strings.specs.Prepared.{prepared}
 use Rattle.strings.specs.inner.Comparing.{folded}
 use Rattle.strings.proofs.Preparing.{folded-prepared}
 use Rattle.der.specs.Names.{mostPairs}
-use Rattle.names.specs.Rfc4514.{Letter, Attribute, Read, letters, isBefore, behind, rdnFrom, rdnsFrom, distinguishedName, relativeDistinguishedName}
-use Rattle.names.specs.Compared.{Compared, asserted, sameRdn, sameName, turned, mapped, assertedName, assertedRdn}
+use Rattle.names.specs.Rfc4514.{Letter, Attribute, Read, letters, isBefore, behind, rdnFrom, rdnsFrom, distinguishedName}
+use Rattle.names.specs.Compared.{Compared, asserted, sameRdn, sameName, turned}
 use Rattle.names.specs.inner.Operand.{twoOctets, attributeOctets, attributesOctets, rdnOctets, nameOctets, textStart, typeStart}
 use Rattle.names.specs.inner.Operand.{attributeBack, attributesBack, startBack, rdnBack, rdnStart, rdnsBack, operandRdn, operandName}
 use Rattle.names.proofs.Matching.{none-some, some-same, consed-view, turned-same, turned-each}
@@ -288,16 +288,3 @@ few-rdns (suc m) ls rs e = go (rdnFrom mostPairs ls) (λ l qs q. few-rdns m l qs
 pub few-asserted : (s : List ℕ) (rs : List (List Attribute)) → distinguishedName s ≡ some rs → length rs ≤ 16
 few-asserted [] rs e = let k : 0 ≡ length rs = ap length (some-same [] rs e) in omega arith
 few-asserted (b ∷ s) rs e = few-rdns 16 (letters (b ∷ s)) rs e
-
-pub name-asserted : (c : List (List Compared)) (s : List ℕ) (rs : List (List Attribute)) → distinguishedName s ≡ some rs
-    → mapped (sameName c) (assertedName s) ≡ some (sameName c (operandName (nameOctets rs)))
-unfolding assertedName
-name-asserted c s rs e =
-    ap (λ (o : Option (List (List Attribute))). mapped (sameName c) (mapped (λ l. turned (map (map asserted) l)) o)) e
-    ∙ ap some (sym (name-by-operand c rs (let l = few-asserted s rs e in omega arith)))
-
-pub rdn-asserted : (c : List Compared) (s : List ℕ) (r : List Attribute) → relativeDistinguishedName s ≡ some r
-    → mapped (sameRdn c) (assertedRdn s) ≡ some (sameRdn c (operandRdn (rdnOctets r)))
-unfolding assertedRdn
-rdn-asserted c s r e =
-    ap (λ (o : Option (List Attribute)). mapped (sameRdn c) (mapped (map asserted) o)) e ∙ ap some (sym (rdn-by-operand c r))

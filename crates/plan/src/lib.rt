@@ -53,8 +53,8 @@ impl Sort {
 }
 
 // The comparisons of a test: any value, none, a truth; an integer equal to one, to one below or above all that can be stored, or less; arcs; octets equal or
-// less; bits of hexadecimal or binary digits; a string, folded or exact; a time equal or earlier; bits with names, of hexadecimal or binary digits, or listed; a
-// distinguished name; an RDN.
+// less; bits of hexadecimal or binary digits; a string, folded or exact; a time equal or earlier; bits with names, of hexadecimal or binary digits, or listed;
+// a distinguished name; an RDN.
 pub struct Comparison;
 
 impl Comparison {

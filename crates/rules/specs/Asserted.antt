@@ -21,7 +21,8 @@ use Rattle.names.specs.Compared.{Compared, assertedName, assertedRdn}
 use Rattle.types.specs.Types.{NamedBit, basic, sequence, choice, listOf}
 use Rattle.reference.specs.Allowed.{Target, ofType, ofCount}
 use Rattle.bitnames.specs.Names.{listedBits}
-use Rattle.rules.specs.Rule.{Syntax, booleans, integers, objectIdentifiers, octetStrings, bitStrings, strings, times, names, rdns, Rule, present, equal, less}
+use Rattle.rules.specs.Rule.{Syntax, booleans, integers, objectIdentifiers, octetStrings, bitStrings, strings, times, names, rdns}
+use Rattle.rules.specs.Rule.{Rule, present, equal, less}
 
 -- any value; a truth; an integer; the arcs of an OID; octets; bits; bits whose trailing zeros don't count; the characters of a string, to be compared with
 -- letters folded (true) or as they are; a time; the RDNs of a name, and the pairs of an RDN, as they are compared

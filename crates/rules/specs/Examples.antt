@@ -212,25 +212,30 @@ holder : List ℕ
 holder = hex "310B3009060355040613024155" ++ hex "310F300D060355040A0C0641646163656C" ++ hex "3114301206035504030C0B" ++ bytes "Steven Legg"
 
 -- the last RDN stands first in the text, and values are compared as caseIgnoreMatch; another order, fewer RDNs, none, another value
-name-match : tests 19 "distinguishedNameMatch" holder ("\"2.5.4.3=Steven Legg,2.5.4.10=Adacel,2.5.4.6=AU\"" ∷ "\"2.5.4.3=\\53TEVEN  legg\\ ,2.5.4.10=adacel,2.5.4.6=au\""
-    ∷ "\"2.5.4.6=AU,2.5.4.10=Adacel,2.5.4.3=Steven Legg\"" ∷ "\"2.5.4.10=Adacel,2.5.4.6=AU\"" ∷ "\"\"" ∷ "\"2.5.4.3=Steven Leg,2.5.4.10=Adacel,2.5.4.6=AU\"" ∷ [])
+name-match : tests 19 "distinguishedNameMatch" holder
+    ("\"2.5.4.3=Steven Legg,2.5.4.10=Adacel,2.5.4.6=AU\"" ∷ "\"2.5.4.3=\\53TEVEN  legg\\ ,2.5.4.10=adacel,2.5.4.6=au\""
+    ∷ "\"2.5.4.6=AU,2.5.4.10=Adacel,2.5.4.3=Steven Legg\"" ∷ "\"2.5.4.10=Adacel,2.5.4.6=AU\"" ∷ "\"\""
+    ∷ "\"2.5.4.3=Steven Leg,2.5.4.10=Adacel,2.5.4.6=AU\"" ∷ [])
     ≡ some true ∷ some true ∷ some false ∷ some false ∷ some false ∷ some false ∷ []
 unfolding rulesCompute testOctets test tests holder
 name-match = refl
 
 -- no quotes, a label, a name of a type, a `#` value, a space after a comma
-name-undefined : tests 19 "distinguishedNameMatch" holder ("2.5.4.3=a" ∷ "rdnSequence:\"2.5.4.3=a\"" ∷ "\"cn=a\"" ∷ "\"2.5.4.3=#0C0161\"" ∷ "\"2.5.4.3=a, 2.5.4.6=AU\"" ∷ [])
+name-undefined : tests 19 "distinguishedNameMatch" holder
+    ("2.5.4.3=a" ∷ "rdnSequence:\"2.5.4.3=a\"" ∷ "\"cn=a\"" ∷ "\"2.5.4.3=#0C0161\"" ∷ "\"2.5.4.3=a, 2.5.4.6=AU\"" ∷ [])
     ≡ none ∷ none ∷ none ∷ none ∷ none ∷ []
 unfolding rulesCompute testOctets test tests holder
 name-undefined = refl
 
 -- one pair with the value `x"`: a quote is escaped, and doubled; doubled alone
-quote-in-name : tests 20 "rdnMatch" (hex "300906035504030C027822") ("\"2.5.4.3=x\\\"\"\"" ∷ "\"2.5.4.3=x\\22\"" ∷ "\"2.5.4.3=x\"\"\"" ∷ []) ≡ some true ∷ some true ∷ none ∷ []
+quote-in-name : tests 20 "rdnMatch" (hex "300906035504030C027822") ("\"2.5.4.3=x\\\"\"\"" ∷ "\"2.5.4.3=x\\22\"" ∷ "\"2.5.4.3=x\"\"\"" ∷ [])
+    ≡ some true ∷ some true ∷ none ∷ []
 unfolding rulesCompute testOctets test tests
 quote-in-name = refl
 
 -- cn=a twice stored: pairs match one to one; a type above 2^32; several RDNs and none are no RDN
-rdn-match : tests 20 "rdnMatch" (hex "300806035504030C0161" ++ hex "300806035504030C0161") ("\"2.5.4.3=a+2.5.4.3=A\"" ∷ "\"2.5.4.3=a\"" ∷ "\"2.5.4.3=a+2.5.4.3=b\""
+rdn-match : tests 20 "rdnMatch" (hex "300806035504030C0161" ++ hex "300806035504030C0161")
+    ("\"2.5.4.3=a+2.5.4.3=A\"" ∷ "\"2.5.4.3=a\"" ∷ "\"2.5.4.3=a+2.5.4.3=b\""
     ∷ "\"2.5.4.4294967299=a+2.5.4.3=a\"" ∷ "\"2.5.4.3=a,2.5.4.3=a\"" ∷ "\"\"" ∷ [])
     ≡ some true ∷ some false ∷ some false ∷ some false ∷ none ∷ none ∷ []
 unfolding rulesCompute testOctets test tests
@@ -245,7 +250,8 @@ no-rdns = refl
 name-targets : map (λ k. test (ofType (basic k [])) "distinguishedNameMatch" (contents k []) "\"2.5=a\"") (19 ∷ 20 ∷ 8 ∷ [])
     ++ map (λ k. test (ofType (basic k [])) "1.2.36.79672281.1.13.3" (contents k []) "\"2.5=a\"") (19 ∷ 20 ∷ 8 ∷ [])
     ++ map (λ k. test (ofType (basic k [])) "presentMatch" (contents k []) "NULL") (19 ∷ 20 ∷ [])
-    ++ test (ofType (listOf 14 (basic 20 []))) "distinguishedNameMatch" (contents 19 []) "\"\"" ∷ test (ofType (basic 19 [])) "caseIgnoreMatch" (contents 19 []) "\"a\"" ∷ []
+    ++ test (ofType (listOf 14 (basic 20 []))) "distinguishedNameMatch" (contents 19 []) "\"\""
+    ∷ test (ofType (basic 19 [])) "caseIgnoreMatch" (contents 19 []) "\"a\"" ∷ []
     ≡ some false ∷ none ∷ none ∷ none ∷ some false ∷ none ∷ some true ∷ some true ∷ none ∷ none ∷ []
 unfolding rulesCompute testOctets test
 name-targets = refl

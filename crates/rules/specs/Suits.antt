@@ -7,7 +7,8 @@ use Rattle.der.specs.Kind as kind
 use Rattle.der.specs.Kind.{isString}
 use Rattle.types.specs.Types.{Tagging, untagged, explicit, implicit, Ty, basic, sequence, choice, listOf, Members, noMore, more}
 use Rattle.reference.specs.Allowed.{Target, ofType, ofCount}
-use Rattle.rules.specs.Rule.{Syntax, booleans, integers, objectIdentifiers, octetStrings, bitStrings, strings, times, names, rdns, Rule, present, equal, less}
+use Rattle.rules.specs.Rule.{Syntax, booleans, integers, objectIdentifiers, octetStrings, bitStrings, strings, times, names, rdns}
+use Rattle.rules.specs.Rule.{Rule, present, equal, less}
 
 abbrev pub suitsKind : Syntax → ℕ → Bool
 suitsKind booleans k = eqb k kind.boolean

@@ -1,4 +1,4 @@
-use Rattle.namematch.proofs.Steps.{Reaching, reach-start, reach-longer, reach-misfit, reach-more, reach-fewer, reach-last}
+use Rattle.namematch.proofs.NameSteps.{Reaching, reach-start, reach-none, reach-misfit, reach-more, reach-fewer, reach-last}
 use Rattle.der.proofs.NameLaws.{rdn-usable}
 use Rattle.der.proofs.NameSteps.{contents-fit}
 use Prim.Native.Nat.{_-_}
@@ -20,7 +20,7 @@ same-last-spec =
     μ-loop
     (λ c. search needs)  -- sub-last
     (λ c. search reach-start)  -- loop-holds
-    (λ c. search reach-longer)  -- returns
+    (λ c. search reach-none)  -- returns
     (λ c κs. (search needs, search rdn-usable))  -- open-within-requires
     (λ c. search needs)  -- enum-known-start
     (λ c. search needs)  -- enum-told
@@ -30,7 +30,7 @@ same-last-spec =
     (λ c. search needs)  -- add-i
     (λ c. search needs)  -- loop-less
     (λ c. search reach-more)  -- loop-again
-    (λ c. search reach-longer)  -- returns-3
+    (λ c. search reach-none)  -- returns-3
     (λ c κs. (search needs, search rdn-usable))  -- open-within-requires-2
     (λ c. search needs)  -- enum-known-from
     (λ c. search needs)  -- enum-told-2

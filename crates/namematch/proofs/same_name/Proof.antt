@@ -1,4 +1,4 @@
-use Rattle.namematch.proofs.Steps.{last-other}
+use Rattle.namematch.proofs.NameSteps.{name-empty, name-other, name-last, name-within}
 use Rattle.der.proofs.NameLaws.{rdn-usable}
 use borrow.Author.Needs.{needs}
 use Rattle.namematch.proofs.same_name.Statement.{statement}
@@ -9,9 +9,9 @@ same-name-spec =
     tie.close
     (tie.spec
     (λ c κs. search rdn-usable)  -- count-requires
-    (λ c κs. search needs)  -- same-rdns-requires
-    (λ c. search needs)  -- returns
+    (λ c. search name-empty)  -- returns
     (λ c κs. search needs)  -- same-last-requires
-    (λ c. search last-other)  -- returns-2
-    (λ c κs. search needs)  -- same-rdns-requires-2
+    (λ c. search name-other)  -- returns-2
+    (λ c. search needs)  -- sub-t
+    (λ c κs. (search name-within, search name-last))  -- same-before-requires
     (λ c. search needs))  -- returns-3

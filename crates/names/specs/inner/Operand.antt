@@ -1,5 +1,5 @@
--- An asserted name as the operand of a test: octets that are written once, in the order of the text, and read from their end, so that the first RDN comes first.
--- An attribute is its dotted type, its value as prepared, and the lengths of both in two octets each; an RDN its attributes and their number in one octet.
+-- An asserted name as the operand of a test: octets that are written once, in the order of the text, and read from their end, so that the first RDN comes
+-- first. An attribute is its dotted type, its value as prepared, and the lengths of both in two octets each; an RDN its attributes and their number in one octet.
 use Prim.Native.Nat.{ℕ, zero, suc, _-_, _/_, _%_}
 use mathlib.Core.Bool.{true}
 use mathlib.Core.Option.{Option, none, some}

@@ -17,7 +17,8 @@ use Rattle.times.specs.Asserted.{assertedTime}
 use Rattle.names.specs.Compared.{Compared, assertedName, assertedRdn}
 use Rattle.rows.specs.Row.{modeAt}
 use Rattle.table.specs.inner.Rows.{placeAt, memberKindAt}
-use Rattle.rules.specs.Rule.{Syntax, booleans, integers, objectIdentifiers, octetStrings, bitStrings, strings, times, names, rdns, Rule, present, equal, less}
+use Rattle.rules.specs.Rule.{Syntax, booleans, integers, objectIdentifiers, octetStrings, bitStrings, strings, times, names, rdns}
+use Rattle.rules.specs.Rule.{Rule, present, equal, less}
 use Rattle.rules.specs.Rule.{sameName}
 use Rattle.rules.specs.Asserted.{Asserted, anyValue, truth, integer, arcs, octets, bits, text, time, name, rdn, isTruth}
 use Rattle.rules.specs.declared.Syntax as syntax
