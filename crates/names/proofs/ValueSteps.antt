@@ -14,7 +14,7 @@ use Rattle.octets.specs.inner.Answers.{between}
 use Rattle.octets.specs.declared.Awaiting.{Awaiting}
 use Rattle.octets.proofs.Laws.{both-true}
 use Rattle.strings.specs.inner.Escaped.{unescaped}
-use Rattle.strings.proofs.Steps.{unescaped-nil}
+use Rattle.strings.proofs.Steps.{unescaped-nil, not-no}
 use Rattle.names.specs.Rfc4514 as rfc
 use Rattle.names.specs.Rfc4514.{bare, escaped, wrong, ends, upToEnd, fromEnd, isReserved, isStringChar, mayStand, mayLead, mayTrail}
 use Rattle.names.specs.Rfc4514.{octetOf, everyLetter, leads, trails, isString}
@@ -23,10 +23,6 @@ use Rattle.names.specs.inner.Reading.{reportValue, ValuePlaces}
 use Rattle.names.specs.declared.Letter.{Letter}
 use Rattle.names.specs.declared.ValueEnd.{ValueEnd}
 use Rattle.names.proofs.Laws.{between-none}
-
-not-no : (t : Bool) → not t ≡ no t
-not-no true = refl
-not-no false = refl
 
 -- ---- the letters of a value, one after another
 -- the letters v may end, where those before may be the last

@@ -9,6 +9,7 @@ use lib.Dec.{ltb, leb, eqb}
 use lib.ListN.{length, getD}
 use Rattle.octets.specs.Pick.{pick, both, either, no}
 use Rattle.octets.specs.Octets.{part, same, below, paired}
+use Rattle.octets.proofs.Laws.{part-rest}
 use Rattle.der.specs.Time as times
 use Rattle.der.specs.declared.Time.{Time}
 use Rattle.der.specs.Meaning.{plus, sameWhole, lessWhole, integerOf, booleanOf, arcsOf, bitsOf}
@@ -169,6 +170,29 @@ module _ (k n : ℕ) (x c : List ℕ) (r : Bool) where
             pub accepts-name : 22 ≤ k → r ≡ accepted (nameTest k) x c → r ≡ accepted (testOf k n) x c
             unfolding testOf
             accepts-name m e = rw (le-ltb k 4 a, le-ltb k 7 b, le-ltb k 10 d, le-ltb k 15 h, le-ltb k 19 l, le-ltb k 22 m) e
+
+-- the same of those from 10 on
+module _ (k n : ℕ) (x c : List ℕ) (r : Bool) (d : 10 ≤ k) where
+  pub octets-digits : k < 15 → r ≡ accepted (digitTest k) x c → r ≡ accepted (testOf k n) x c
+  octets-digits = accepts-digits k n x c r (omega arith) (omega arith) d
+
+  module _ (h : 15 ≤ k) where
+    pub octets-text : k < 19 → r ≡ accepted (textTest k) x c → r ≡ accepted (testOf k n) x c
+    octets-text = accepts-text k n x c r (omega arith) (omega arith) d h
+
+    module _ (l : 19 ≤ k) where
+      pub octets-named : k < 22 → r ≡ accepted (namedTest k n) x c → r ≡ accepted (testOf k n) x c
+      octets-named = accepts-named k n x c r (omega arith) (omega arith) d h l
+
+      pub octets-name : 22 ≤ k → r ≡ accepted (nameTest k) x c → r ≡ accepted (testOf k n) x c
+      octets-name = accepts-name k n x c r (omega arith) (omega arith) d h l
+
+whole : (s p : List ℕ) → p ≡ part s 0 (length s) → p ≡ s
+whole s p e = e ∙ part-rest s 0 (length s) (omega arith)
+
+pub accepts-whole : (k n : ℕ) (x c y d : List ℕ) (r : Bool) → y ≡ part x 0 (length x) → d ≡ part c 0 (length c) → r ≡ accepted (testOf k n) y d
+    → r ≡ accepted (testOf k n) x c
+accepts-whole k n x c y d r e f g = g ∙ ap₂ (accepted (testOf k n)) (whole x y e) (whole c d f)
 
 module _ (k n m : ℕ) where
   pub count-plain : k < 4 → eqb k 0 ≡ acceptedCount (testOf k n) m

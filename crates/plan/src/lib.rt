@@ -561,6 +561,25 @@ fn accepts_text(comparison: usize, x: &[u8], c: &[u8]) -> bool
     strings::same_prepared(c, x, comparison == Comparison::FOLDED)
 }
 
+// All that is no plain test and no integer.
+fn accepts_octets(comparison: usize, n: usize, x: &[u8], c: &[u8]) -> bool
+    requires { ⌜ 10 ≤ comparison ⌝ }
+    ensures { λ r. ⌜ r ≡ tests.accepted (tests.testOf comparison n) (now (x .entry)) (now (c .entry)) ⌝ }
+{
+    if comparison < Comparison::FOLDED {
+        return accepts_digits(comparison, x, c);
+    }
+    if comparison < Comparison::NAMED_HEXADECIMAL {
+        return accepts_text(comparison, x, c);
+    }
+    if comparison < Comparison::NAME {
+        return accepts_named(comparison, n, x, c);
+    }
+    accepts_name(comparison, x, c)
+}
+
+// Whether a test accepts contents. Slices that are handed on are made anew where they are: so those that came stay in registers, and an integer is compared
+// without a look at memory.
 fn accepts(comparison: usize, n: usize, x: &[u8], c: &[u8]) -> bool
     ensures { λ r. ⌜ r ≡ tests.accepted (tests.testOf comparison n) (now (x .entry)) (now (c .entry)) ⌝ }
 {
@@ -573,16 +592,12 @@ fn accepts(comparison: usize, n: usize, x: &[u8], c: &[u8]) -> bool
     if comparison < Comparison::ARCS {
         return integers::less_contents(c, numbered_bound(comparison - Comparison::LESS_INTEGER, n));
     }
-    if comparison < Comparison::FOLDED {
-        return accepts_digits(comparison, x, c);
-    }
-    if comparison < Comparison::NAMED_HEXADECIMAL {
-        return accepts_text(comparison, x, c);
-    }
-    if comparison < Comparison::NAME {
-        return accepts_named(comparison, n, x, c);
-    }
-    accepts_name(comparison, x, c)
+    accepts_octets(
+        comparison,
+        n,
+        octets::part(x, 0, x.len()),
+        octets::part(c, 0, c.len()),
+    )
 }
 
 // Whether the task lets contents pass: a test by its comparison with the operand.

@@ -1,6 +1,6 @@
 -- Quoted strings and characters: one lemma for each return; its premises are the facts as the code has them.
 use mathlib.Core.Path.{_≡_, refl, sym, ap, ap₂, _∙_}
-use mathlib.Core.Bool.{Bool, true, false}
+use mathlib.Core.Bool.{Bool, true, false, not, false≢true}
 use mathlib.Core.Option.{none, some}
 use mathlib.Core.List.{List, [], _∷_}
 use Prim.Native.Nat.{ℕ, _≤_, _<_, _+_, _-_, _*_}
@@ -8,7 +8,7 @@ use native.Mathlib.Omega.{arith}
 use borrow.Author.Tests.{eq-eqb, ne-eqb, eqb-true, eqb-false}
 use lib.Dec.{eqb}
 use lib.ListN.{length, length-take, drop}
-use Rattle.octets.specs.Pick.{pick, both, isSome}
+use Rattle.octets.specs.Pick.{pick, both, no, isSome}
 use Rattle.octets.specs.Octets.{octet, part}
 use Rattle.octets.specs.Text.{isDigit, isHex, hexValue, lower}
 use Rattle.octets.specs.Quoted.{closingAt, undoubled, unquoted}
@@ -17,7 +17,7 @@ use Rattle.octets.specs.declared.Place.{Place}
 use Rattle.octets.proofs.Laws.{rest-cons, rest-none, rest-length}
 use Rattle.octets.proofs.QuotedLaws.{undoubled-nil, undoubled-one, undoubled-two, undoubled-other, unquoted-none, unquoted-longer, unquoted-whole}
 use Rattle.strings.specs.Asserted.{textOr, assertedText}
-use Rattle.strings.specs.inner.Comparing.{octetsOf, reportOctet, foldOctet}
+use Rattle.strings.specs.inner.Comparing.{octetsOf, isItself, reportOctet, foldOctet}
 use Rattle.strings.specs.inner.Escaped.{unescapedAt, unescaped}
 use Rattle.strings.specs.declared.Form.{Form}
 use Rattle.strings.specs.declared.Letter.{Letter}
@@ -198,6 +198,32 @@ module _ (s : List ℕ) (form : Form) (at : ℕ) where
 
   pub octet-escaped : (r : Letter) → form ≡ Form.Escaped → reportOctet Form.Escaped s r ≡ unescaped (drop at s) → reportOctet form s r ≡ octetsOf form (drop at s)
   octet-escaped r e q = rw e q
+
+  pub octet-itself : (u : Bool) → at < length s → u ≡ isItself form (octet s at) → u ≡ true
+      → reportOctet form s (Letter.Got (octet s at) (at + 1)) ≡ octetsOf form (drop at s)
+  octet-itself u h told e = go form (sym told ∙ e)
+    where
+      other : (b k : ℕ) → no (eqb b k) ≡ true → b ≡ k → ⊥
+      other b k q f = false≢true (sym (ap no (eq-eqb b k f)) ∙ q)
+
+      go : (f : Form) → isItself f (octet s at) ≡ true → reportOctet f s (Letter.Got (octet s at) (at + 1)) ≡ octetsOf f (drop at s)
+      go Form.Stored q = sym (rest-cons s at h)
+      go Form.Quoted q = quoted-other s at h (other (octet s at) 34 q)
+      go Form.Escaped q = escaped-other s at h (other (octet s at) 92 q)
+
+pub not-no : (u : Bool) → not u ≡ no u
+not-no true = refl
+not-no false = refl
+
+module _ (form : Form) (b : ℕ) where
+  pub itself-stored : form ≡ Form.Stored → true ≡ isItself form b
+  itself-stored e = rw e
+
+  pub itself-quoted : form ≡ Form.Quoted → not (eqb b 34) ≡ isItself form b
+  itself-quoted e = rw e (not-no (eqb b 34))
+
+  pub itself-escaped : form ≡ Form.Escaped → not (eqb b 92) ≡ isItself form b
+  itself-escaped e = rw e (not-no (eqb b 92))
 
 -- ---- folding
 pub fold-lower : (fold : Bool) (b r : ℕ) → fold ≡ true → r ≡ lower b → r ≡ foldOctet fold b

@@ -183,6 +183,31 @@ fn read_octet(s: &[u8], form: Form, at: usize) -> Letter
     }
 }
 
+// Whether an octet of a string of a form stands for itself whatever comes after it.
+fn is_itself(form: Form, b: u8) -> bool
+    ensures { λ r. ⌜ r ≡ inner.isItself form b ⌝ }
+{
+    match form {
+        Form::Stored => true,
+        Form::Quoted => b != 34,
+        Form::Escaped => b != 92,
+    }
+}
+
+// The octet at a place of a string of a form; most stand for themselves.
+fn read_letter(s: &[u8], form: Form, at: usize) -> Letter
+    ensures { λ r. ⌜ inner.reportOctet form (now (s .entry)) r ≡ inner.octetsOf form (drop at (now (s .entry))) ⌝ }
+{
+    if s.len() <= at {
+        return Letter::End;
+    }
+    let b = s[at];
+    if is_itself(form, b) {
+        return Letter::Got(b, at + 1);
+    }
+    read_octet(s, form, at)
+}
+
 // An octet as it is compared.
 fn fold_octet(fold: bool, b: u8) -> u8
     ensures { λ r. ⌜ r ≡ inner.foldOctet fold b ⌝ }
@@ -503,7 +528,7 @@ fn next_image(s: &[u8], form: Form, fold: bool, first: usize, behind: Before) ->
     let mut at = first;
     let mut before = behind;
     loop {
-        let Letter::Got(b, after) = read_octet(s, form, at) else {
+        let Letter::Got(b, after) = read_letter(s, form, at) else {
             return Found::End;
         };
         let piece = read_piece(s, form, fold, b, after);

@@ -1,4 +1,4 @@
-use Rattle.plan.proofs.PassSteps.{accepts-digits, accepts-less, accepts-plain, accepts-same, accepts-text, accepts-named, accepts-name}
+use Rattle.plan.proofs.PassSteps.{accepts-less, accepts-plain, accepts-same, accepts-whole}
 use borrow.Author.Needs.{needs}
 use Rattle.plan.proofs.accepts.Statement.{statement}
 use Rattle.plan.proofs.accepts.Tie as tie
@@ -15,11 +15,7 @@ accepts-spec =
     (λ c κs. search needs)  -- numbered-bound-requires-2
     (λ c κs. search needs)  -- less-contents-requires
     (λ c. search accepts-less)  -- returns-3
-    (λ c κs. search needs)  -- accepts-digits-requires
-    (λ c. search accepts-digits)  -- returns-4
-    (λ c κs. search needs)  -- accepts-text-requires
-    (λ c. search accepts-text)  -- returns-5
-    (λ c κs. search needs)  -- accepts-named-requires
-    (λ c. search accepts-named)  -- returns-6
-    (λ c κs. search needs)  -- accepts-name-requires
-    (λ c. search accepts-name))  -- returns-7
+    (λ c κs. search needs)  -- part-requires
+    (λ c κs. search needs)  -- part-requires-2
+    (λ c κs. search needs)  -- accepts-octets-requires
+    (λ c. search accepts-whole))  -- returns-4

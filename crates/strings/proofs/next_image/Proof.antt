@@ -17,7 +17,7 @@ next-image-spec =
     Inv-loop
     μ-loop
     (λ c. search seek-start)  -- loop-holds
-    (λ c κs. search needs)  -- read-octet-requires
+    (λ c κs. search needs)  -- read-letter-requires
     (λ c. search needs)  -- enum-known-b
     (λ c. search needs)  -- enum-told
     (λ c. (search seek-end, search needs))  -- returns

@@ -28,6 +28,12 @@ octetsOf Form.Stored s = s
 octetsOf Form.Quoted s = undoubled s
 octetsOf Form.Escaped s = unescaped s
 
+-- an octet that stands for itself whatever comes after it
+abbrev pub isItself : Form → ℕ → Bool
+isItself Form.Stored b = true
+isItself Form.Quoted b = no (eqb b 34)
+isItself Form.Escaped b = no (eqb b 92)
+
 abbrev pub reportOctet : Form → List ℕ → Letter → List ℕ
 reportOctet form s Letter.End = []
 reportOctet form s (Letter.Got b next) = b ∷ octetsOf form (drop next s)
