@@ -1,6 +1,6 @@
 """Inputs that ask for much work: tables, values and filters at their limits. Every answer expected is the second program's."""
 
-from workloads import LONGEST_FILTER, LONGEST_VALUE, NAME_ROW, RDN_ROW, Question, attribute, bits, named_bits, rdn, samples
+from workloads import LARGEST_TABLE, LONGEST_FILTER, LONGEST_VALUE, NAME_ROW, RDN_ROW, Question, attribute, bits, long_member, named_bits, rdn, samples
 
 choice, item, member, of, sequence, tlv = samples.choice, samples.item, samples.member, samples.of, samples.sequence, samples.tlv
 
@@ -8,7 +8,8 @@ NULL_ROW, INTEGER_ROW, OID_ROW, OCTETS_ROW, BITS_ROW, UTF8_ROW = (bytes([kind]) 
 NULL = tlv(5)
 PRESENT = item(None, "presentMatch", "NULL")
 DEEPEST = 16
-BIT_NAMES = [("m" * 23 + last, at) for at, last in enumerate("abcdefghijklmnop")]
+SHORT_NAMES, LONG_NAMES = (["m" * letters + last for last in "abcdefghijklmnop"] for letters in (23, 47))
+BIT_NAMES = [(name, at) for at, name in enumerate(SHORT_NAMES)]
 CN = "2.5.4.3"
 MOST_RDNS, MOST_PAIRS = 16, 4
 
@@ -46,6 +47,17 @@ def nested_choices():
     return of(14, 1) + b"".join(rows) + OCTETS_ROW + NULL_ROW
 
 
+def member_of(name, *fields):
+    """A member of the kind that its name takes."""
+    return (member if len(name) <= 24 else long_member)(name, *fields)
+
+
+def most_members(names, last_names):
+    """128 rows: 7 SEQUENCEs of 16 names, one of 7, and one without members, which is the type of all members."""
+    groups = [names] * 7 + [last_names]
+    return b"".join(sequence(*(member_of(name, 127) for name in group)) for group in groups) + sequence()
+
+
 def tables():
     """Tables, each with a value that is not of its type."""
     yield asks("sequences-16-deep", chain(DEEPEST, sequence, 7, True), NULL)
@@ -53,7 +65,7 @@ def tables():
     yield asks("choices-16-deep", chain(DEEPEST, choice, 7, True), NULL)
     yield asks("choices-alike", chain(DEEPEST, choice, 7, False), NULL)
     yield asks("untagged-choices", nested_choices(), NULL)
-    late = (sequence(*(member("m" * 23 + last, 119) for last in "abcdefghijklmnop")) for _ in range(7))
+    late = (sequence(*(member(name, 119) for name in SHORT_NAMES)) for _ in range(7))
     yield asks("last-letters-differ", b"".join(late) + INTEGER_ROW, NULL)
     yield asks("names-alike", sequence(*[member("m" * 24, 17)] * 16) + NULL_ROW, NULL)
     yield asks("lists-127-deep", b"".join(of(14, row + 1) for row in range(127)) + NULL_ROW, NULL)
@@ -63,6 +75,16 @@ def tables():
     yield asks("bit-names-differ-late", named_bits(BIT_NAMES) * 7 + named_bits(BIT_NAMES[:8]), NULL)
     yield asks("last-bit-name-twice", named_bits(BIT_NAMES) * 7 + named_bits(BIT_NAMES[:7] + [(BIT_NAMES[6][0], 7)]), NULL)
     yield asks("bit-names-alone", named_bits([("m", 0)])[2:] * 128, NULL)
+
+
+def tables_of_long_names():
+    """Tables of members with long names, and others as large as there may be."""
+    yield asks("48th-letters-differ", most_members(LONG_NAMES, LONG_NAMES[:7]), NULL)
+    yield asks("last-long-name-twice", most_members(LONG_NAMES, LONG_NAMES[:6] + [LONG_NAMES[5]]), NULL)
+    mixed = [name for short in SHORT_NAMES[:8] for name in (short, short + "m" * 24)]
+    yield asks("long-names-after-short", most_members(mixed, mixed[:7]), NULL)
+    yield asks("long-members-alone", long_member("m" * 48, 1) * 128, NULL)
+    yield asks("8064-octets-of-rows", INTEGER_ROW * LARGEST_TABLE, NULL)
 
 
 def values():
@@ -153,9 +175,9 @@ def questions_of_named_bits():
 
 def questions_of_names():
     """References of long names, and one that no type allows."""
-    names = ["m" * 23 + last for last in "abcdefghijklmnop"]
-    table = of(14, 1) + sequence(*(member(name, 18, 1, at, 1) for at, name in enumerate(names))) + NULL_ROW
-    yield asks("long-names", table, tlv(0x30, contents(b"\x30\0")), items(item("*." + names[-1], "presentMatch", "NULL")))
+    for question, names in (("names-of-24-letters", SHORT_NAMES), ("names-of-48-letters", LONG_NAMES)):
+        table = of(14, 1) + sequence(*(member_of(name, 18, 1, at, 1) for at, name in enumerate(names))) + NULL_ROW
+        yield asks(question, table, tlv(0x30, contents(b"\x30\0")), items(item("*." + names[-1], "presentMatch", "NULL")))
     rows = b"".join(sequence(member("m" * 24, 2 * level + 2)) for level in range(DEEPEST - 1)) + NULL_ROW
     value = NULL
     for _ in range(DEEPEST - 1):
@@ -293,5 +315,5 @@ def questions_of_holders():
 
 def questions():
     """All of them."""
-    return [*tables(), *values(), *questions_of_strings(), *questions_of_numbers(), *questions_of_digits(), *questions_of_named_bits(), *questions_of_names(),
-            *questions_of_lists(), *questions_of_nested_lists(), *questions_of_holders()]
+    return [*tables(), *tables_of_long_names(), *values(), *questions_of_strings(), *questions_of_numbers(), *questions_of_digits(), *questions_of_named_bits(),
+            *questions_of_names(), *questions_of_lists(), *questions_of_nested_lists(), *questions_of_holders()]

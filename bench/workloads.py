@@ -11,7 +11,7 @@ sys.path.insert(0, str(pathlib.Path(__file__).resolve().parent.parent / "second"
 
 import samples  # noqa: E402
 
-LONGEST_FILTER, LONGEST_VALUE = 2048, 4096
+LARGEST_TABLE, LONGEST_FILTER, LONGEST_VALUE = 8064, 2048, 4096
 PARTS = 250
 SIZES = [64, 128, 256] + list(range(512, LONGEST_VALUE + 1, 512))
 EVENT_TABLE = b"\x08"  # one row, UTF8String
@@ -19,6 +19,7 @@ RIGHTS = [("print", 0), ("perform", 1), ("record", 2)]
 NAME_ROW, RDN_ROW = bytes([19]), bytes([20])
 COUNTRY, ORGANIZATION, COMMON_NAME = "2.5.4.6", "2.5.4.10", "2.5.4.3"
 GIVEN_NAMES = ["Ann", "Ben", "Eva", "Ida", "Jan", "Kim", "Leo", "Mia", "Ole", "Pia"]
+CATEGORY = "educationalConcessionCategory"
 FAMILY_NAMES = ["Berg", "Falk", "Holm", "Lind", "Moe", "Roy", "Sand", "Vik"]
 
 
@@ -107,10 +108,14 @@ def bits(digits):
     return samples.tlv(3, bytes([-len(digits) % 8] + [int(octet, 2) for octet in octets]))
 
 
+def parts_table(part):
+    """SEQUENCE { event UTF8String, parts SEQUENCE OF Part }, and the rows of Part, from row 5 on."""
+    return samples.sequence(samples.member("event", 3), samples.member("parts", 4)) + b"\x08" + samples.of(14, 5) + part
+
+
 def rights_table():
     """SEQUENCE { event UTF8String, parts SEQUENCE OF SEQUENCE { name PrintableString, rights BIT STRING { print(0), perform(1), record(2) } } }."""
-    licence_rows = samples.sequence(samples.member("event", 3), samples.member("parts", 4)) + b"\x08" + samples.of(14, 5)
-    return licence_rows + samples.sequence(samples.member("name", 8), samples.member("rights", 9)) + b"\x09" + named_bits(RIGHTS)
+    return parts_table(samples.sequence(samples.member("name", 8), samples.member("rights", 9)) + b"\x09" + named_bits(RIGHTS))
 
 
 def parts_with_rights(count):
@@ -173,6 +178,40 @@ def of_holders():
     yield asked("holder-names-false", "2.5.4.3=Pia Vik,2.5.4.10=Voces,2.5.4.6=AU", "FALSE %d" % len(holders))
 
 
+def long_member(name, *fields):
+    """A member with a name of 25 to 48 characters; the fields are those of samples.member."""
+    return bytes([21]) + name.encode().ljust(48, b"\0") + samples.member("m", *fields)[1 + 24:]
+
+
+def concessions_table():
+    """SEQUENCE { event UTF8String, parts SEQUENCE OF SEQUENCE { name PrintableString, educationalConcessionCategory PrintableString } }."""
+    return parts_table(samples.sequence(samples.member("name", 8), long_member(CATEGORY, 8)) + b"\x09")
+
+
+def concession(name, category):
+    """A part with its category."""
+    return samples.tlv(0x30, samples.tlv(0x13, name.encode()), samples.tlv(0x13, category.encode()))
+
+
+def parts_with_concessions(count):
+    """Parts of 16 octets, by turns of three categories."""
+    turns = [("P-%03d", "pupil"), ("%04d", "school"), ("%03d", "student")]
+    return [concession(name % at, category) for at, (name, category) in zip(range(count), itertools.cycle(turns))]
+
+
+def of_concessions():
+    """250 parts with a category, the member of a long name; none has the one that is asked for. asn1c's code isn't asked."""
+    table, parts = concessions_table(), parts_with_concessions(PARTS)
+
+    def asked(name, parts, reference, answer, timed=False):
+        text = samples.item("parts.*." + reference, "caseIgnoreMatch", '"teacher"')
+        return Question(name, "-", table, sized(LONGEST_VALUE, parts), text, answer, timed)
+
+    yield asked("long-names", parts, CATEGORY, "FALSE %d" % PARTS, timed=True)
+    yield asked("long-names-true", parts[:-1] + [concession("Las", "Teacher")], CATEGORY, "TRUE %d" % PARTS)
+    yield asked("long-names-cut", parts, CATEGORY[:24], "UNDEFINED 0")
+
+
 # What the items of the two `or` filters assert. An item: the comparing in harness/by_hand.c, reference, rule, asserted value (a text or a number).
 
 
@@ -226,7 +265,7 @@ def of_items():
 
 def questions():
     """All questions."""
-    return list(of_parts()) + list(of_items()) + list(of_rights()) + list(of_holders())
+    return list(of_parts()) + list(of_items()) + list(of_rights()) + list(of_holders()) + list(of_concessions())
 
 
 def further_of_bits():
@@ -271,6 +310,31 @@ def further_of_names():
         yield (*sixteen, samples.item(None, "distinguishedNameMatch", '"%s"' % ",".join(["0.0="] * count)))
 
 
+def further_of_members():
+    """Members with long names beside others that begin as they do, as alternatives too: whole names, cut ones, names that go on. Sizes of a table."""
+    first, stem = CATEGORY[:24], "a-name-of-48-characters-begins-as-others-do-"
+    alike = [stem + last for last in ("ab-1", "ab-2", "ac-1")]
+    part = samples.sequence(long_member(CATEGORY, 6), samples.member(first, 7, 2, 0, 1), long_member(CATEGORY + "Copies", 7, 2, 1, 2, b"\1"),
+                            long_member(alike[0], 8, 1, 2, 1)) + b"\x09\x02"
+    reason = samples.choice(*(long_member(name, 12, 2, at) for at, name in enumerate(alike))) + b"\x02"
+    record = samples.of(14, 1) + part + reason, samples.tlv(
+        0x30, samples.tlv(0x30, samples.tlv(0x13, b"pupil"), samples.tlv(0x80, b"\3")),
+        samples.tlv(0x30, samples.tlv(0x13, b"x"), samples.tlv(0x81, b"\2"), samples.tlv(0xA2, samples.tlv(0x82, b"\7"))))
+    for reference in (CATEGORY, CATEGORY[:28], CATEGORY[:25], CATEGORY + "1", CATEGORY.lower()):
+        yield (*record, samples.item("*." + reference, "caseIgnoreMatch", '"PUPIL"'))
+    for reference in (first, first + "e", first[:-1], CATEGORY + "Copies", CATEGORY + "Copie", CATEGORY + "CopiesOfAPart"):
+        yield (*record, samples.item("*." + reference, "integerMatch", 3))
+        yield (*record, samples.item("2." + reference, "integerOrderingMatch", 3, "FALSE"))
+    for reference in [*alike, stem[:-1], alike[0][:47], alike[2] + "1"]:
+        yield (*record, samples.item("*.%s.%s" % (alike[0], reference), "integerMatch", 7))
+        yield (*record, samples.item("*." + reference, "presentMatch", "NULL"))
+    value = samples.tlv(0x30, samples.tlv(2, b"\5"))
+    for name in ("m" * 24, "m" * 25, "m" * 48, "m" * 23 + "-m", "m\0" + "m" * 46, "m" * 47 + "-", "m" * 24 + "\0m"):
+        yield samples.sequence(long_member(name, 2)) + b"\x02", value, samples.item(name.replace("\0", ""), "integerMatch", 5)
+    for size in (4993, LARGEST_TABLE, LARGEST_TABLE + 1):
+        yield b"\x02" * size, samples.tlv(2, b"\5"), samples.item(None, "integerMatch", 5)
+
+
 def further():
     """Questions on the samples' other types, for changing: every rule, lists of lists, wrappers, a CHOICE, a SET OF, strings that aren't plain."""
     stored = ["\u00c9lan", "stra\u00dfe", "a\u00a0\u00adb", "x \u00b4y", "\u0130\u0149", "\u00bc\u017f", "\u0132\u00b5 "]
@@ -288,7 +352,7 @@ def further():
              (bytes([11]), samples.leaf(11, b"20240229120000Z"), "not:" + samples.item(None, "generalizedTimeMatch", '"20240229120000Z"')),
              (samples.LICENCE, samples.RECORD, "and:{%s,or:{},%s}" % (samples.item("parts.0", "integerMatch", 2), samples.item("x", "integerMatch", 2)))]
     asked += [(*strings, samples.item("*", rule, '"%s"' % text)) for rule in ("caseIgnoreMatch", "caseExactMatch") for text in texts + stored]
-    asked += [*further_of_bits(), *further_of_names()]
+    asked += [*further_of_bits(), *further_of_names(), *further_of_members()]
     return [Question("further-%d" % at, "-", *question, samples.asked(*question), timed=False) for at, question in enumerate(asked)]
 
 

@@ -29,7 +29,7 @@ extern "C" {
 
 /* Limits. Beyond those of sizes and of the budget an input is refused 1. */
 #define TEZQULOM_MIN_TABLE 1        /* octets */
-#define TEZQULOM_MAX_TABLE 4992     /* octets */
+#define TEZQULOM_MAX_TABLE 8064     /* octets */
 #define TEZQULOM_MIN_VALUE 2        /* octets */
 #define TEZQULOM_MAX_VALUE 4096     /* octets */
 #define TEZQULOM_MIN_FILTER 1       /* octets */
@@ -38,12 +38,13 @@ extern "C" {
 #define TEZQULOM_MAX_BUDGET 65535   /* tests */
 
 /* Limits of what stands in a table, refused 2, and in a filter, refused 3. */
-#define TEZQULOM_MAX_ROWS 128   /* rows of a table */
-#define TEZQULOM_MAX_CHAIN 16   /* type rows, each naming the next as its element or as its member's type */
-#define TEZQULOM_MAX_MEMBERS 16 /* members of a SEQUENCE, alternatives of a CHOICE */
-#define TEZQULOM_MAX_NAME 24    /* octets of a member's name, of a named bit's */
-#define TEZQULOM_MAX_DEPTH 16   /* of a filter */
-#define TEZQULOM_MAX_ITEMS 64   /* of a filter */
+#define TEZQULOM_MAX_ROWS 128     /* rows of a table */
+#define TEZQULOM_MAX_CHAIN 16     /* type rows, each naming the next as its element or as its member's type */
+#define TEZQULOM_MAX_MEMBERS 16   /* members of a SEQUENCE, alternatives of a CHOICE */
+#define TEZQULOM_MAX_NAME 24      /* octets of a member's name in a row of kind 16, of a named bit's */
+#define TEZQULOM_MAX_LONG_NAME 48 /* octets of a member's name in a row of kind 21, which is for names above TEZQULOM_MAX_NAME alone */
+#define TEZQULOM_MAX_DEPTH 16     /* of a filter */
+#define TEZQULOM_MAX_ITEMS 64     /* of a filter */
 
 /* Limits of a distinguished name. A stored one beyond them is refused 4; an asserted one doesn't conform, and its item is Undefined. */
 #define TEZQULOM_MAX_RDNS 16 /* RDNs of a name */

@@ -221,7 +221,7 @@ def main():
     parser.add_argument("--limit", type=float, default=0, help="seconds for one run, 0 for none")
     parser.add_argument("--command", default="rt check demands")
     given = parser.parse_args()
-    drawer = draw.CaseDrawer(given.seed, draw.LARGE if given.large else draw.SMALL, names=True)
+    drawer = draw.CaseDrawer(given.seed, draw.LARGER if given.large else draw.SMALL, longer=True)
     cases = written.cases(given.longest) if given.written else []
     cases = [case for case in cases if given.only in (None, case.entry)]
     cases += [drawer.of(given.only) if given.only else drawer.case() for _ in range(given.cases)]

@@ -13,27 +13,19 @@ import sys
 from collections import Counter
 
 import corpus_bits
+import corpus_long
 import corpus_names
 import draw
 import engine
 import questions
 import written
-from samples import choice, member, of, sequence, tlv
+from samples import choice, layered, member, of, sequence, tlv
 
 FOLDER = pathlib.Path(__file__).resolve().parent.parent / "crates" / "cases"
 EDGES, SMALL, LARGE, LOOSE = 2400, 2700, 60, 200
 VALUE_EDGES, VALUES, BROKEN, LARGE_VALUES = 1200, 900, 3200, 40
 PARTS, LARGE_PARTS = 800, 20
-LONGEST, LONGEST_VALUE = 4993, 4097
-
-
-def layered(depth, width, owner, tag):
-    """`depth` groups of `width` members, each member of a group of the type of the next group."""
-    table = b""
-    for level in range(depth):
-        after = (level + 1) * (width + 1)
-        table += owner(*[member("m%d" % at, after, *tag(level, at)) for at in range(width)])
-    return table + b"\2"
+LONGEST, LONGEST_VALUE = engine.TABLE_SIZES.stop, engine.VALUE_SIZES.stop
 
 
 def long_names(last):
@@ -170,12 +162,19 @@ def given(octets):
 
 
 def groups():
-    """Tables, values, parts and questions: those up to Q-2, and after all of them those about names (Q-3), so that each case stays where it stands."""
+    """Tables, values, parts and questions, each case once.
+
+    Those up to Q-2 stand first, after all of them those about names (Q-3), then those about members of kind 21 (Q-4), so that each case stays where it stands.
+    """
     several = tables(), value_cases(), parts(), questions.subjects(hostile_values().values())
     yield several
-    earlier = set(several[0]), set(several[1])
-    yield ([table for table in corpus_names.tables() if table not in earlier[0]], [both for both in corpus_names.values() if both not in earlier[1]], [],
-           questions.name_subjects(several[3]))
+    for request, asked in ((corpus_names, questions.name_subjects), (corpus_long, questions.long_subjects)):
+        earlier = [*map(set, several[:2])]
+        more = ([table for table in request.tables() if table not in earlier[0]], [both for both in request.values() if both not in earlier[1]], [],
+                questions.without(asked(), several[3]))
+        yield more
+        subjects = {subject: several[3].get(subject, []) + more[3].get(subject, []) for subject in several[3] | more[3]}
+        several = several[0] + more[0], several[1] + more[1], [], subjects
 
 
 def cases():

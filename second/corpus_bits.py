@@ -4,6 +4,7 @@ import random
 
 import draw
 import draw_bits
+import engine
 import written
 from samples import RIGHTS, bit_name, choice, leaf, member, named_bits, of, sequence, tlv
 
@@ -192,7 +193,7 @@ def tables():
     add(found, EDGES, lambda: getattr(edges, edges.deal("tables", ["bit_fields"] * 3 + ["bit_places"] + ["bit_clashes"] * 2))()[1][0])
     add(found, DRAWN, lambda: drawn(small, ["table", "table", "none"]))
     add(found, LARGE, lambda: drawn(large, ["table", "none"]))
-    return [table for table in found if len(table) <= 4993]
+    return [table for table in found if len(table) <= engine.TABLE_SIZES.stop]
 
 
 def add(found, count, one):

@@ -5,6 +5,7 @@ import random
 
 import draw
 import draw_names
+import engine
 import written
 from corpus_bits import add
 from draw_edges import CONTENTS
@@ -168,7 +169,7 @@ def tables():
     add(found, EDGES, lambda: edges.name_rows()[1][0])
     add(found, DRAWN, lambda: drawn(small, ["table", "table", "none"]))
     add(found, LARGE, lambda: drawn(large, ["table", "none"]))
-    return [table for table in found if len(table) <= 4993]
+    return [table for table in found if len(table) <= engine.TABLE_SIZES.stop]
 
 
 # A name as a tree: a tag octet, and contents or further values. Two RDNs, the first of two pairs.

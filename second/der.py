@@ -1,21 +1,23 @@
-"""DER headers and contents, from the section "Stored value" of document 01 and from Q-2 and Q-3 of document 02."""
+"""DER headers and contents, from the section "Stored value" of document 01 and from Q-2 to Q-4 of document 02."""
 
 import calendar
 import re
 
-# Kinds of rows, as numbered in the section "Type table", in Q-2 and in Q-3.
+# Kinds of rows, as numbered in the section "Type table", in Q-2, in Q-3 and in Q-4.
 BOOLEAN, INTEGER, ENUMERATED, NULL, OBJECT_IDENTIFIER, OCTET_STRING = 1, 2, 3, 4, 5, 6
 BIT_STRING, UTF8_STRING, PRINTABLE_STRING, IA5_STRING, GENERALIZED_TIME = 7, 8, 9, 10, 11
 SEQUENCE, CHOICE, SEQUENCE_OF, SET_OF, MEMBER = 12, 13, 14, 15, 16
 NAMED_BIT_STRING, BIT_NAME = 17, 18
 RDN_SEQUENCE, RELATIVE_NAME = 19, 20
+LONG_MEMBER = 21
 
 STRING_KINDS = (UTF8_STRING, PRINTABLE_STRING, IA5_STRING)
 LIST_KINDS = (SEQUENCE_OF, SET_OF)
 BIT_KINDS = (BIT_STRING, NAMED_BIT_STRING)
 NAME_KINDS = (RDN_SEQUENCE, RELATIVE_NAME)
-# Rows that only follow another, by the kinds that they follow. All other rows are of types.
-FOLLOWERS = {SEQUENCE: MEMBER, CHOICE: MEMBER, NAMED_BIT_STRING: BIT_NAME}
+MEMBER_KINDS = (MEMBER, LONG_MEMBER)
+# The kinds of rows that only follow another, by the kinds that they follow. All other rows are of types.
+FOLLOWERS = {SEQUENCE: MEMBER_KINDS, CHOICE: MEMBER_KINDS, NAMED_BIT_STRING: (BIT_NAME,)}
 
 UNIVERSAL, CONTEXT = 0, 2
 

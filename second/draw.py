@@ -2,7 +2,7 @@
 
 import random
 from collections import Counter
-from dataclasses import dataclass
+from dataclasses import dataclass, replace
 
 import der
 import draw_types
@@ -15,6 +15,7 @@ import table as types
 import value as values
 from draw_bits import BitDrawer
 from draw_forms import FormDrawer
+from draw_long import LongDrawer
 from draw_names import NameDrawer
 from draw_text import TextDrawer
 
@@ -33,6 +34,8 @@ class Limits:
 
 SMALL = Limits(rows=12, table=300, value=60, filter=160, deepest=3, longest=4)
 LARGE = Limits(rows=128, table=4992, value=4096, filter=2048, deepest=9, longest=300)
+# As large as tables are from Q-4 on; what is drawn with LARGE stays the same.
+LARGER = replace(LARGE, table=8064)
 
 ENTRIES = {"table": engine.check_table, "value": engine.check_value, "part": engine.part,
            "ask": engine.ask, "list": engine.listing}
@@ -56,12 +59,16 @@ class Case:
 
 
 class CaseDrawer:
-    """Draws one case after another from a seed, with named BIT STRINGs (Q-2 of document 02) on request, or with them and names (Q-3)."""
+    """Draws one case after another from a seed.
 
-    def __init__(self, seed, limits=SMALL, bits=False, names=False):
-        self.dice, self.limits = random.Random(seed), limits
-        self.edges = (NameDrawer if names else BitDrawer if bits else FormDrawer)(self.dice)
+    On request it draws named BIT STRINGs too (Q-2 of document 02), or them and names (Q-3), or these and members of kind 21 (Q-4).
+    """
+
+    def __init__(self, seed, limits=SMALL, bits=False, names=False, longer=False):
+        self.dice, self.limits, names = random.Random(seed), limits, names or longer
+        self.edges = (LongDrawer if longer else NameDrawer if names else BitDrawer if bits else FormDrawer)(self.dice)
         self.leaves = draw_types.LEAVES_WITH_NAMES if names else draw_types.LEAVES_WITH_BITS if bits else draw_types.LEAVES
+        self.member_names = draw_types.NAMES_WITH_LONG if longer else draw_types.NAMES
         self.rules = rules.RULES if names else rules.BASE_RULES
 
     def case(self):
@@ -93,7 +100,7 @@ class CaseDrawer:
         least = dice.choice([0, 0, 40, 80, 80, 120])
         while True:
             room = 20 if dice.random() < 0.1 else dice.randint(100, limits.table)
-            root = draw_types.TypeDrawer(dice, room, limits.deepest, self.leaves).type()
+            root = draw_types.TypeDrawer(dice, room, limits.deepest, self.leaves, self.member_names).type()
             rows = draw_types.lay_out(dice, root, dice.random() < 0.05)
             octets = draw_types.table_octets(rows)
             if len(rows) > limits.rows or not least <= len(octets) <= limits.table:
@@ -204,8 +211,8 @@ class CaseDrawer:
 
 
 def corpus(seed, count, limits=SMALL):
-    """The first `count` cases of a seed, with named BIT STRINGs and names among them."""
-    drawer = CaseDrawer(seed, limits, names=True)
+    """The first `count` cases of a seed, with named BIT STRINGs, names and members of kind 21 among them."""
+    drawer = CaseDrawer(seed, limits, longer=True)
     return [drawer.case() for _ in range(count)]
 
 
@@ -232,8 +239,9 @@ def coverage(cases):
         table = types.Table(case.inputs[0])
         for row in table.rows:
             seen["kind", row.kind] += 1
-            if row.kind == der.MEMBER:
+            if row.kind in der.MEMBER_KINDS:
                 seen["tag mode", row.mode] += 1
+                seen["kind and presence", (row.kind, row.presence)] += 1
                 seen["presence", row.presence] += 1
                 if row.mode == 0 and table.rows[row.points].kind == der.CHOICE:
                     seen["untagged CHOICE", "member"] += 1
@@ -247,6 +255,8 @@ def coverage(cases):
                 answer = engine.ask(case.inputs[0], case.inputs[1], alone.encode("utf-8"), 65535)
                 if rule and answer[0] == "answer":
                     seen["rule says", rule.name + " " + answer[1]] += 1
+                    if max(map(len, (item.component or "").split("."))) > 24:
+                        seen["long name", answer[1]] += 1
                     if rule.read is rules.bits_of and answer[1] == "TRUE" and table.rows[target_of(table, item)].kind == der.NAMED_BIT_STRING:
                         seen["bits", "names" if item.value[0] == "{" else "digits"] += 1
                     if rule in rules.NAME_RULES and answer[1] == "TRUE":
@@ -266,9 +276,11 @@ def wanted():
                "ask": ["TRUE", "FALSE", "UNDEFINED"] + ["refused %d" % n for n in range(1, 6)],
                "list": ["listed"] + ["refused %d" % n for n in (1, 2, 3, 4, 6)]}
     things = [(entry, answer) for entry, several in answers.items() for answer in several]
-    things += [("kind", kind) for kind in range(1, 21)] + [("bits", way) for way in ("names", "digits")]
+    things += [("kind", kind) for kind in range(1, 22)] + [("bits", way) for way in ("names", "digits")]
     things += [("name", way + sign) for way in ("with ", "without ") for sign in "\\,+"]
     things += [("tag mode", mode) for mode in range(3)] + [("presence", n) for n in range(3)]
+    things += [("kind and presence", (kind, n)) for kind in der.MEMBER_KINDS for n in range(3)]
+    things += [("long name", truth) for truth in ("TRUE", "FALSE", "UNDEFINED")]
     things += [("source", n) for n in range(3)] + [("untagged CHOICE", "member")]
     things += [("rule", rule.name) for rule in rules.RULES] + [("rule", "unknown")]
     things += [("rule says", rule.name + " " + truth) for rule in rules.RULES

@@ -3,6 +3,7 @@
 from dataclasses import dataclass, field
 
 import der
+from rows import either_member, long_member
 
 NAMES = ["a", "b", "c", "d", "n1", "xY", "x-y", "a-b-c", "content", "value", "item", "z9-9",
          "abcdefghijklmnopqrstuvwx", "b-0", "seats"]
@@ -12,6 +13,12 @@ INTEGERS = [0, 1, -1, 2, 3, 5, 127, 128, -128, -129, 255, 256, 32767, 32768, -32
 LEAVES = [1, 1, 2, 2, 2, 3, 4, 5, 6, 6, 7, 8, 9, 10, 11, 11]
 LEAVES_WITH_BITS = LEAVES + [der.NAMED_BIT_STRING] * 10 + [der.BIT_STRING] * 2
 LEAVES_WITH_NAMES = LEAVES_WITH_BITS + [der.RDN_SEQUENCE] * 10 + [der.RELATIVE_NAME] * 10
+# Names of members of kind 21 (Q-4), some of which begin alike, up to 24, 25, 40 or 47 characters, or begin with a name of kind 16.
+NAMES_WITH_LONG = NAMES[:6] + NAMES[-3:-2] + [
+    "educationalConcessionCategory", "educationalConcessionCategoryCode", "abcdefghijklmnopqrstuvwxy", "abcdefghijklmnopqrstuvwxz",
+    "abcdefghijklmnopqrstuvwxyZ", "abcdefghijklmnopqrstuvwxyzABCDEFGHIJKLMNOPQRSTUV", "abcdefghijklmnopqrstuvwxyzABCDEFGHIJKLMNOPQRSTUW",
+    "abcdefghijklmnopqrstuvwxyzABCDEFGHIJKLMNOPQRSTU",
+    "abcdefghijklmnopqrstuvwxyzABCDEFGHIJKLMN-9", "x-1-2-3-4-5-6-7-8-9-a-b-c-d-e-f", "content-of-the-licence-record-9"]
 BIT_NAMES = ["print", "perform", "record", "a", "ab", "aB", "a-b", "printing", "prin", "x9", "content",
              "abcdefghijklmnopqrstuvwx", "abcdefghijklmnopqrstuvwy"]
 BIT_NUMBERS = [0, 0, 1, 1, 2, 3, 6, 7, 8, 9, 15, 16, 31, 32, 62, 63]
@@ -58,11 +65,11 @@ def integer_octets(number):
 
 
 class TypeDrawer:
-    """Draws types within a number of octets for their table, from these leaves."""
+    """Draws types within a number of octets for their table, from these leaves and names of members."""
 
-    def __init__(self, dice, room, deepest, leaves=tuple(LEAVES)):
+    def __init__(self, dice, room, deepest, leaves=tuple(LEAVES), member_names=tuple(NAMES)):
         self.dice, self.room, self.deepest, self.made = dice, room, deepest, []
-        self.leaves = leaves
+        self.leaves, self.member_names = leaves, member_names
 
     def type(self, depth=0):
         """One type; a finished one may be used again."""
@@ -101,13 +108,14 @@ class TypeDrawer:
         """Members with names that differ and tags as the table's conditions ask."""
         dice = self.dice
         least = 1 if owner.kind == der.CHOICE or dice.random() < 0.97 else 0
-        names = dice.sample(NAMES, min(len(NAMES), max(least, dice.randint(1, 4))) if least else 0)
+        names = dice.sample(self.member_names, min(len(self.member_names), max(least, dice.randint(1, 4))) if least else 0)
         strings = owner.kind == der.CHOICE and dice.random() < 0.4
         taken = set()
         for name in names:
-            if self.room < 45 and owner.members:
+            size = len(either_member(name, 0))
+            if self.room < size + 6 and owner.members:
                 break
-            self.room -= 39
+            self.room -= size
             inner = Type(dice.choice(der.STRING_KINDS)) if strings else self.type(depth + 1)
             member = Member(name, inner)
             if dice.random() < (0.1 if strings else 0.45):
@@ -169,13 +177,21 @@ def lay_out(dice, root, loose=False):
         for name, number in drawn.names:
             out.append([der.BIT_NAME, bytearray(name.encode().ljust(24, b"\0") + bytes([number]))])
         for member in drawn.members:
-            out.append([16, bytearray(
-                member.name.encode().ljust(24, b"\0") + place[member.type].to_bytes(2, "big")
-                + bytes([member.mode, member.number, member.presence, len(member.default)])
-                + member.default.ljust(8, b"\0"))])
+            row = either_member(member.name, place[member.type], member.mode, member.number, member.presence, member.default)
+            out.append([row[0], bytearray(row[1:])])
     if loose:
         out.append([dice.randint(1, 11), bytearray()])
     return out
+
+
+# The kinds of rows that name another row.
+POINTING = der.LIST_KINDS + der.MEMBER_KINDS
+
+
+def point(body, row):
+    """Let the body of a row that names another name this one."""
+    place = 0 if len(body) == 2 else len(body) - 14
+    body[place:place + 2] = row.to_bytes(2, "big")
 
 
 def table_octets(rows):
@@ -185,6 +201,8 @@ def table_octets(rows):
 
 def break_rows(dice, rows):
     """Break one condition of the table in place; the name of the break."""
+    if any(kind == der.LONG_MEMBER for kind, _ in rows) and dice.random() < 0.7:
+        return break_long_names(dice, rows)
     if any(kind in der.NAME_KINDS for kind, _ in rows) and dice.random() < 0.6:
         return break_names(dice, rows)
     if any(kind == der.BIT_NAME for kind, _ in rows) and dice.random() < 0.7:
@@ -243,7 +261,7 @@ def break_bits(dice, rows):
     """Break one condition on rows of kinds 17 and 18 in place, or come close to it; the name of the break."""
     lists = [at for at, (kind, _) in enumerate(rows) if kind == der.NAMED_BIT_STRING]
     names = [at for at, (kind, _) in enumerate(rows) if kind == der.BIT_NAME]
-    pointers = [body for kind, body in rows if kind in (14, 15, 16)]
+    pointers = [body for kind, body in rows if kind in POINTING]
     what = dice.choice(["count", "count", "name", "fill", "repeat", "repeat", "number", "number", "less", "more", "move", "between", "kind"]
                        + ["points"] * 2 * bool(pointers))
     at, other = dice.choice(names), dice.choice(names)
@@ -271,9 +289,7 @@ def break_bits(dice, rows):
     elif what == "kind":
         rows[dice.choice([at, dice.choice(lists)])][0] = dice.choice([0, 7, 12, 13, 16, 17, 18, 19])
     else:
-        pointer = dice.choice(pointers)
-        place = 24 if len(pointer) == 38 else 0
-        pointer[place:place + 2] = dice.choice([at, dice.choice(lists)]).to_bytes(2, "big")
+        point(dice.choice(pointers), dice.choice([at, dice.choice(lists)]))
     return what
 
 
@@ -281,7 +297,7 @@ def break_names(dice, rows):
     """Break one condition around rows of kinds 19 and 20 in place, or come close to it; the name of the break."""
     names = [at for at, (kind, _) in enumerate(rows) if kind in der.NAME_KINDS]
     members = [at for at, (kind, _) in enumerate(rows) if kind == der.MEMBER]
-    pointers = [body for kind, body in rows if kind in (14, 15, 16)]
+    pointers = [body for kind, body in rows if kind in POINTING]
     what = dice.choice(["kind", "kind", "body", "more", "chain"] + ["default", "between", "tags", "tags", "optional"] * bool(members)
                        + ["points", "leaf"] * bool(pointers))
     at = dice.choice(names)
@@ -306,9 +322,72 @@ def break_names(dice, rows):
     elif what == "optional":
         body[24:26], body[28] = at.to_bytes(2, "big"), 1
     elif what == "points":
-        pointer = dice.choice(pointers)
-        place = 24 if len(pointer) == 38 else 0
-        pointer[place:place + 2] = dice.choice([at, at, at + 1, len(rows)]).to_bytes(2, "big")
+        point(dice.choice(pointers), dice.choice([at, at, at + 1, len(rows)]))
     else:
-        rows[dice.choice([place for place, (kind, _) in enumerate(rows) if kind not in (12, 13, 14, 15, 16, 17, 18)])][0] = dice.choice(der.NAME_KINDS)
+        rows[dice.choice([place for place, (kind, _) in enumerate(rows) if kind not in (12, 13, 14, 15, 16, 17, 18, 21)])][0] = dice.choice(der.NAME_KINDS)
+    return what
+
+
+def break_long_names(dice, rows):
+    """Break one condition on rows of kind 21 in place, or come close to it; the name of the break."""
+    long = [at for at, (kind, _) in enumerate(rows) if kind == der.LONG_MEMBER]
+    members = [at for at, (kind, _) in enumerate(rows) if kind in der.MEMBER_KINDS]
+    owners = [body for kind, body in rows if kind in (12, 13)]
+    what = dice.choice(["name", "name", "short", "short", "form", "cut", "fill", "fill", "repeat", "repeat", "alike", "field", "kind", "kind", "count",
+                        "points", "element", "mode", "number", "presence", "default", "default", "tags", "tags", "less", "more", "move", "between"])
+    at, other = dice.choice(long), dice.choice(members)
+    body, size = rows[at][1], len(rows[at][1].split(b"\0")[0])
+    if what == "name":
+        body[:48] = dice.choice([bytes(body[:size]) + dice.choice([b"-", b"--", b"-x"]), b"A" + bytes(body[1:size]), b"9" + bytes(body[1:size]),
+                                 bytes(body[:24]) + dice.choice([b"_", b".", b" ", b"\xe9", b"--"]) + bytes(body[25:size])])[:48].ljust(48, b"\0")
+    elif what == "short":
+        body[:48] = bytes(body[:dice.choice([0, 1, 12, 23, 24, 24, 24, 25])]).ljust(48, b"\0")
+    elif what == "form":
+        # A name that has a row of kind 16 in one of kind 21.
+        kept = bytes(rows[other][1])
+        rows[other] = [der.LONG_MEMBER, bytearray(kept[:-14].split(b"\0")[0].ljust(48, b"\0") + kept[-14:])]
+    elif what == "cut":
+        # The name's first 24 characters in a row of kind 16.
+        rows[at] = [der.MEMBER, bytearray(bytes(body[:24]).rstrip(b"-").ljust(24, b"\0") + bytes(body[48:]))]
+    elif what == "fill":
+        body[dice.choice([0, 1, 23, 24, 25, 46, 47, size % 48])] = dice.choice([0, 1, 45, 97])
+    elif what == "repeat":
+        body[:48] = bytes(rows[dice.choice(long)][1][:48])
+    elif what == "alike":
+        shared = dice.choice([23, 24, 25, 40, 47])
+        body[:48] = bytes(rows[dice.choice(long)][1][:shared]).replace(b"\0", b"z") + bytes(body[shared:48])
+    elif what == "field":
+        body[:48] = dice.choice([bytes(body[:47]), bytes(body[:48]) + b"\0", bytes(body[:24]), bytes(body[:48]) + b"a"])
+    elif what == "kind":
+        rows[dice.choice([at, other])][0] = dice.choice([0, 12, 14, 16, 16, 17, 18, 20, 21, 22])
+    elif what == "count":
+        stated = dice.choice(owners)
+        stated[0] = dice.choice([0, stated[0] + 1, max(0, stated[0] - 1), 16, 17])
+    elif what == "points":
+        point(body, dice.choice([at, at - 1, at + 1, other, 0, len(rows) - 1, len(rows), 256]))
+    elif what == "element":
+        rows.insert(0, [dice.choice(der.LIST_KINDS), bytearray((at + 1).to_bytes(2, "big"))])
+    elif what == "mode":
+        body[50] = dice.choice([0, 1, 2, 3])
+    elif what == "number":
+        body[51] = dice.choice([0, 1, 30, 31, 255])
+    elif what == "presence":
+        body[52] = dice.choice([0, 1, 2, 3])
+    elif what == "default":
+        contents = bytes.fromhex(dice.choice(["01", "00", "FF", "007F", "0080", "FF80", "FF7F", "", "0102030405060708"]))
+        body[52], body[53] = dice.choice([2, 2, 1]), dice.choice([len(contents), len(contents), 9, 0])
+        body[54:62] = contents.ljust(8, b"\0")
+    elif what == "tags":
+        fields = bytes(rows[other][1][-14:])
+        body[50:52] = fields[2:4]
+        body[48:50] = dice.choice([bytes(body[48:50]), max(bytes(body[48:50]), fields[:2])])
+    elif what == "less":
+        del rows[at]
+    elif what == "more":
+        row = long_member(dice.choice(["educationalConcessionCategory", "q" * 25]), len(rows))
+        rows.insert(dice.choice([at, at + 1, len(rows)]), [row[0], bytearray(row[1:])])
+    elif what == "move":
+        rows.insert(dice.randrange(len(rows)), rows.pop(at))
+    else:
+        rows.insert(at, [dice.randint(1, 11), bytearray()])
     return what

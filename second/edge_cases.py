@@ -106,7 +106,7 @@ class Tables(unittest.TestCase):
 
     def test_rows(self):
         self.assertEqual(engine.check_table(b""), ("refused", 1))
-        self.assertEqual(engine.check_table(bytes(4993)), ("refused", 1))
+        self.assertEqual(engine.check_table(bytes(4993)), ("refused", 2))
         self.good(b"\1" * 128, 128)
         self.bad(b"\1" * 129, bytes(4992), b"\0", b"\x11", b"\x0c", b"\x0e\0", sequence(member("a", 2))[:-1],
                  member("a", 1) + b"\1", b"\x0c\0" + member("a", 2) + b"\1", b"\x0c\x11" + b"\1", b"\x0d\0")

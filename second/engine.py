@@ -14,7 +14,8 @@ import value as values
 
 TRUE, FALSE, UNDEFINED = "TRUE", "FALSE", "UNDEFINED"
 
-TABLE_SIZES = range(1, 4992 + 1)
+# Q-4 takes 8,064 octets for the table.
+TABLE_SIZES = range(1, 8064 + 1)
 VALUE_SIZES = range(2, 4096 + 1)
 FILTER_SIZES = range(1, 2048 + 1)
 REFERENCE_SIZES = range(0, 2048 + 1)

@@ -2,9 +2,9 @@
 
 import draw_bits
 import draw_text
+import question_filters
 import rules
-import written
-from question_filters import ANY_TEXT, CHANGES
+from question_filters import ANY_TEXT, CHANGES, around
 from samples import RIGHTS, bit_contents, choice, item, leaf, member, named_bits, of, sequence, tlv
 
 RULE = "2.5.13.16"
@@ -93,9 +93,7 @@ def broken(found):
         table, value = (of(14, 1) + NAMED, of_bits(["1", "11"])) if "*" in base else (NAMED, stored("11"))
         found.filter(table, value, base)
         for at in range(base.index("value"), len(base)):
-            several = [base[:at], base[:at] + base[at + 1:], base[:at] + " " + base[at:], base[:at] + base[at] + base[at:],
-                       base[:at] + base[at + 1:at + 2] + base[at] + base[at + 2:], base[:at] + base[at].swapcase() + base[at + 1:],
-                       base[:at] + dice.choice("{},\" '") + base[at:], base[:at] + dice.choice(CHANGES) + base[at + 1:]]
+            several = around(base, at) + [base[:at] + dice.choice("{},\" '") + base[at:], base[:at] + dice.choice(CHANGES) + base[at + 1:]]
             for text in dice.sample(several, 6):
                 found.filter(table, value, text)
 
@@ -301,27 +299,15 @@ def refusals(found):
 
 def drawn(found):
     """Drawn filters and listings close to the edges of Q-2."""
-    edges, asked = draw_bits.BitDrawer(found.dice), 0
-    while asked < EDGES:
-        entry, inputs = edges.bit_texts() if found.dice.random() < 0.8 else edges.bit_contents()
-        if entry == "ask":
-            found.filter(*inputs)
-        elif entry == "list":
-            found.add(inputs[0], inputs[1], ("l",) + inputs[2:])
-        else:
-            continue
-        asked += 1
+    edges = draw_bits.BitDrawer(found.dice)
+    question_filters.close_to_edges(found, EDGES, lambda: edges.bit_texts() if found.dice.random() < 0.8 else edges.bit_contents())
     for text in draw_text.ODD_BITS:
         found.filter(NAMED, stored("1"), item(None, RULE, text))
 
 
 def of_the_tests(found):
     """What the tests of this request ask."""
-    for case in written.cases(10000, ("Bits",)):
-        if case.entry == "ask":
-            found.filter(*case.inputs)
-        elif case.entry == "list":
-            found.add(case.inputs[0], case.inputs[1], ("l",) + case.inputs[2:5] + (min(case.inputs[5], 12),))
+    question_filters.of_the_tests(found, "Bits")
 
 
 def ask(found):

@@ -7,6 +7,7 @@ import draw_edges
 import draw_types
 import draw_values
 import rules
+import written
 from samples import LICENCE, RECORD, choice, item, leaf, member, of, tlv
 
 MOST_BUDGET = 65535
@@ -119,6 +120,35 @@ BASES = [
 ]
 NO_UTF8 = [b"\x80", b"\xff", b"\xc3", b"\xc0\x80", b"\xed\xa0\x80", b"\xf4\x90\x80\x80", b"\xe2\x82"]
 CHANGES = ' ,:{}"\'.-a0AZ9*(\t\n\0\x7f'
+
+
+def around(text, at):
+    """A text cut off at a place, or there with one character missing, a space put in, one doubled, two exchanged, or a letter of the other case."""
+    return [text[:at], text[:at] + text[at + 1:], text[:at] + " " + text[at:], text[:at] + text[at] + text[at:],
+            text[:at] + text[at + 1:at + 2] + text[at] + text[at + 2:], text[:at] + text[at].swapcase() + text[at + 1:]]
+
+
+def of_the_tests(found, request):
+    """What the tests of a request ask, by the name of their class."""
+    for case in written.cases(10000, (request,)):
+        if case.entry == "ask":
+            found.filter(*case.inputs)
+        elif case.entry == "list":
+            found.add(case.inputs[0], case.inputs[1], ("l",) + case.inputs[2:5] + (min(case.inputs[5], 12),))
+
+
+def close_to_edges(found, count, one):
+    """So many drawn filters and listings; `one` draws an entry and its inputs."""
+    asked = 0
+    while asked < count:
+        entry, inputs = one()
+        if entry == "ask":
+            found.filter(*inputs)
+        elif entry == "list":
+            found.add(inputs[0], inputs[1], ("l",) + inputs[2:])
+        else:
+            continue
+        asked += 1
 
 
 def broken_texts(found):

@@ -1,7 +1,7 @@
 """Listings and filters for crates/cases: tables and values, each with what is asked about it.
 
-Like corpus.py this module and those that it draws on, question_filters.py, question_places.py, question_strings.py, question_bits.py and
-question_names.py, choose cases; engine.py answers them.
+Like corpus.py this module and those that it draws on, question_filters.py, question_places.py, question_strings.py, question_bits.py,
+question_names.py and question_long.py, choose cases; engine.py answers them.
 """
 
 import random
@@ -11,6 +11,7 @@ import draw_values
 import engine
 import question_bits
 import question_filters
+import question_long
 import question_names
 import question_places
 import question_strings
@@ -18,7 +19,8 @@ import written
 from samples import LICENCE, RECORD, item
 
 # What the program's buffers hold.
-LONGEST_TABLE, LONGEST_VALUE, LONGEST_TEXT, MOST_NUMBERS = 4993, 4097, 2049, 6144
+LONGEST_TABLE, LONGEST_VALUE, LONGEST_TEXT = engine.TABLE_SIZES.stop, engine.VALUE_SIZES.stop, engine.FILTER_SIZES.stop
+MOST_NUMBERS = 6144
 MOST_BUDGET = 65535
 # What each number of the room is before a listing.
 UNWRITTEN = 9999
@@ -125,9 +127,9 @@ def edges(found, seed):
         asked += 1
 
 
-def drawn(found, seed, limits, subjects, filters, listings, where=("none",), bits=False, names=False):
+def drawn(found, seed, limits, subjects, filters, listings, where=("none",), bits=False, names=False, longer=False):
     """Drawn tables with drawn values, and so many drawn filters and listings about each."""
-    drawer = draw.CaseDrawer(seed, limits, bits, names)
+    drawer = draw.CaseDrawer(seed, limits, bits, names, longer)
     dice = drawer.dice
     for _ in range(subjects):
         table, value = drawer.both(dice.choice(where))
@@ -166,14 +168,29 @@ def subjects(hostile):
     return {subject: list(asked) for subject, asked in found.of.items()}
 
 
-def name_subjects(earlier):
-    """Those about names (Q-3), likewise, without questions that stand among the earlier ones."""
+def name_subjects():
+    """Those about names (Q-3), likewise."""
     found = Questions(91)
     question_names.ask(found)
     drawn(found, 92, draw.SMALL, 36, 5, 2, names=True)
     drawn(found, 93, draw.SMALL, 20, 2, 1, ("table", "value", "value", "value"), names=True)
     drawn(found, 94, draw.LARGE, 5, 5, 2, names=True)
-    left = {subject: [question for question in asked if question not in earlier.get(subject, ())] for subject, asked in found.of.items()}
+    return {subject: list(asked) for subject, asked in found.of.items()}
+
+
+def long_subjects():
+    """Those about members of kind 21 (Q-4), likewise."""
+    found = Questions(101)
+    question_long.ask(found)
+    drawn(found, 102, draw.SMALL, 50, 5, 2, longer=True)
+    drawn(found, 103, draw.SMALL, 30, 2, 1, ("table", "value", "value", "value"), longer=True)
+    drawn(found, 104, draw.LARGER, 5, 5, 2, longer=True)
+    return {subject: list(asked) for subject, asked in found.of.items()}
+
+
+def without(subjects, earlier):
+    """These questions but those that stand among the earlier ones."""
+    left = {subject: [question for question in asked if question not in earlier.get(subject, ())] for subject, asked in subjects.items()}
     return {subject: asked for subject, asked in left.items() if asked}
 
 

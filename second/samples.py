@@ -3,12 +3,7 @@
 import der
 import draw_values
 import engine
-
-
-def member(name, row, mode=0, number=0, presence=0, default=b"", fill=b""):
-    """A member row."""
-    return (bytes([16]) + name.encode().ljust(24, b"\0") + row.to_bytes(2, "big")
-            + bytes([mode, number, presence, len(default)]) + (default + fill).ljust(8, b"\0"))
+from rows import either_member, member, name_field
 
 
 def sequence(*members):
@@ -23,8 +18,7 @@ def choice(*members):
 
 def bit_name(name, number):
     """A row of kind 18: a bit's name, as a text or as octets, and its number."""
-    name = name.encode() if isinstance(name, str) else name
-    return bytes([18]) + name.ljust(24, b"\0") + bytes([number])
+    return bytes([der.BIT_NAME]) + name_field(name, 24) + bytes([number])
 
 
 def named_bits(*pairs, count=None):
@@ -69,6 +63,15 @@ def quoted(string):
 def of(kind, row):
     """A SEQUENCE OF (14) or SET OF (15) row."""
     return bytes([kind]) + row.to_bytes(2, "big")
+
+
+def layered(depth, width, owner, tag, named="m%d".__mod__):
+    """`depth` groups of `width` members, each member of a group of the type of the next group; the last type is an INTEGER."""
+    table = b""
+    for level in range(depth):
+        after = (level + 1) * (width + 1)
+        table += owner(*[either_member(named(at), after, *tag(level, at)) for at in range(width)])
+    return table + b"\2"
 
 
 def tlv(tag, *contents):
@@ -150,3 +153,7 @@ RIGHTS = (("print", 0), ("perform", 1), ("record", 2))
 # Tables of one row of kind 19 and of kind 20, from Q-3 of document 02, and X.520's types commonName, countryName and organizationName.
 NAME, RDN = bytes([der.RDN_SEQUENCE]), bytes([der.RELATIVE_NAME])
 CN, C, O = "2.5.4.3", "2.5.4.6", "2.5.4.10"
+
+# The name that Q-4 of document 02 was asked for, of 29 letters, and one of 48, the most that kind 21 takes.
+CATEGORY = "educationalConcessionCategory"
+LONGEST_NAME = "abcdefghijklmnopqrstuvwxyzABCDEFGHIJKLMNOPQRSTUV"

@@ -19,12 +19,14 @@ NAME = re.compile(rb"([a-z][A-Za-z0-9]*(?:-[A-Za-z0-9]+)*)\x00*")
 
 BODY = {**{kind: 0 for kind in range(1, 12)},
         der.SEQUENCE: 1, der.CHOICE: 1, der.SEQUENCE_OF: 2, der.SET_OF: 2, der.MEMBER: 38,
-        der.NAMED_BIT_STRING: 1, der.BIT_NAME: 25, der.RDN_SEQUENCE: 0, der.RELATIVE_NAME: 0}
-FOLLOWING = frozenset(der.FOLLOWERS.values())
+        der.NAMED_BIT_STRING: 1, der.BIT_NAME: 25, der.RDN_SEQUENCE: 0, der.RELATIVE_NAME: 0, der.LONG_MEMBER: 62}
+# How many characters a name has, by the kind of its row: the most of them fill its field. One that fits in 24 octets has no other form (Q-4).
+NAME_SIZES = {der.MEMBER: range(1, 24 + 1), der.BIT_NAME: range(1, 24 + 1), der.LONG_MEMBER: range(25, 48 + 1)}
+FOLLOWING = frozenset(kind for kinds in der.FOLLOWERS.values() for kind in kinds)
 
 
 class NotAdmitted(Exception):
-    """A condition of the section "Type table", or of Q-2 on rows 17 and 18, does not hold. Q-3 puts none on its rows 19 and 20."""
+    """A condition of the section "Type table", of Q-2 on rows 17 and 18 or of Q-4 on rows 21, does not hold. Q-3 puts none on its rows 19 and 20."""
 
 
 def need(condition, what):
@@ -50,11 +52,14 @@ class Row:
     default: bytes = b""
 
 
-def read_name(field):
-    """The name of a member or of a bit from its field of 24 octets, filled with zeros."""
-    name = NAME.fullmatch(field)
+def read_name(kind, body):
+    """The name of a member or of a bit from its field, which stands first and is filled with zeros, and what stands after it."""
+    sizes = NAME_SIZES[kind]
+    field = sizes[-1]
+    name = NAME.fullmatch(body[:field])
     need(name, "name")
-    return name.group(1).decode("ascii")
+    need(len(name.group(1)) in sizes, "length of the name")
+    return name.group(1).decode("ascii"), body[field:]
 
 
 def read_row(kind, body):
@@ -69,19 +74,20 @@ def read_row(kind, body):
         need(1 <= body[0] <= MOST_NAMES, "names of bits")
         return Row(kind, count=body[0])
     if kind == der.BIT_NAME:
-        need(body[24] <= LARGEST_BIT, "bit number")
-        return Row(kind, name=read_name(body[:24]), number=body[24])
-    if kind != der.MEMBER:
+        name, after = read_name(kind, body)
+        need(after[0] <= LARGEST_BIT, "bit number")
+        return Row(kind, name=name, number=after[0])
+    if kind not in der.MEMBER_KINDS:
         return Row(kind)
-    name = read_name(body[:24])
-    mode, number, presence, size = body[26:30]
+    name, after = read_name(kind, body)
+    mode, number, presence, size = after[2:6]
     need(mode in (NONE, EXPLICIT, IMPLICIT), "tag mode")
     need(number <= 30 and (mode != NONE or number == 0), "tag number")
     need(presence in (MANDATORY, OPTIONAL, DEFAULT), "presence")
     need(1 <= size <= 8 if presence == DEFAULT else size == 0, "default length")
-    need(not any(body[30 + size:]), "fill of the default")
-    return Row(kind, points=int.from_bytes(body[24:26], "big"), name=name,
-               mode=mode, number=number, presence=presence, default=body[30:30 + size])
+    need(not any(after[6 + size:]), "fill of the default")
+    return Row(kind, points=int.from_bytes(after[:2], "big"), name=name,
+               mode=mode, number=number, presence=presence, default=after[6:6 + size])
 
 
 def read_rows(octets):
@@ -136,16 +142,17 @@ class Table:
         return self._tags[number]
 
     def _check_followers_stand_right(self):
-        """Member rows stand directly after their SEQUENCE or CHOICE, names of bits after their row 17, and nowhere else."""
-        owned = {(member, der.FOLLOWERS[row.kind]) for number, row in enumerate(self.rows) if row.kind in der.FOLLOWERS
-                 for member in self.members(number)}
-        held = {(number, row.kind) for number, row in enumerate(self.rows) if row.kind in FOLLOWING}
-        need(owned == held, "rows that follow another")
+        """Member rows of either kind stand directly after their SEQUENCE or CHOICE, names of bits after their row 17, and nowhere else."""
+        owned = {follower: der.FOLLOWERS[row.kind] for number, row in enumerate(self.rows) if row.kind in der.FOLLOWERS
+                 for follower in self.members(number)}
+        held = {number: row.kind for number, row in enumerate(self.rows) if row.kind in FOLLOWING}
+        need(owned.keys() == held.keys(), "rows that follow another")
+        need(all(kind in owned[number] for number, kind in held.items()), "kind of a row that follows another")
 
     def _check_pointers(self):
         """Row numbers point to later rows of types."""
         for number, row in enumerate(self.rows):
-            if row.kind in der.LIST_KINDS or row.kind == der.MEMBER:
+            if row.kind in der.LIST_KINDS + der.MEMBER_KINDS:
                 need(number < row.points < len(self.rows), "row number")
                 need(self.rows[row.points].kind not in FOLLOWING, "row number of a row that follows another")
 
@@ -154,7 +161,7 @@ class Table:
         longest = [0] * len(self.rows)
         for number in reversed(range(len(self.rows))):
             row = self.rows[number]
-            if row.kind == der.MEMBER:
+            if row.kind in der.MEMBER_KINDS:
                 longest[number] = longest[row.points]
             elif row.kind == der.BIT_NAME:
                 longest[number] = 0
@@ -168,7 +175,7 @@ class Table:
     def _find_tags(self, number):
         """An untagged CHOICE can start with any tag its alternatives can."""
         row = self.rows[number]
-        if row.kind == der.MEMBER:
+        if row.kind in der.MEMBER_KINDS:
             if row.mode == NONE:
                 return self._tags[row.points]
             return frozenset({(der.CONTEXT, row.number)})

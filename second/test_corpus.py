@@ -17,8 +17,8 @@ import table as types
 import value as values
 from samples import LICENCE, NAME, RDN, RECORD, item, leaf
 
-# The cases up to Q-2, which stand first and stay as they are: the number of their octets and what these hash to.
-EARLIER = 7621207, "81f076a66690c82fe904757d95330bc913d0b746dabd1b07d82dda485b27efff"
+# The cases up to Q-3, which stand first and stay as they are: the number of their octets and what these hash to.
+EARLIER = 8683171, "685d7fe4765d3d317eb57ffc4799b920c7dd866c0daebb281973afa8b1518a8c"
 
 
 class Reader:
@@ -185,8 +185,70 @@ class Files(unittest.TestCase):
         for sign in '\\"+,;<> #=':
             self.assertGreaterEqual(sum(seen[rule, "T", "\\" + sign] for rule, _, _ in [*seen]), 5, sign)
 
+    def test_long_names(self):
+        """Tables, values and questions with rows of kind 21 stand in all answers, and tables of all sizes around the limits."""
+        seen = Counter((kind, corpus.word_of(line)) for kind, inputs, line in self.cases if kind != "p" and self.has_rows(inputs[0], (der.LONG_MEMBER,)))
+        for kind, words in (("t", ["admitted", "refused 2"]), ("v", ["good", "refused 4"]),
+                            ("f", ["TRUE", "FALSE", "UNDEFINED", "refused 3", "refused 5"]), ("l", ["listed", "refused 3", "refused 6"])):
+            for word in words:
+                self.assertGreaterEqual(seen[kind, word], 100, (kind, word))
+        sizes = {(len(inputs[0]), corpus.word_of(line)) for kind, inputs, line in self.cases if kind == "t"}
+        for size, word in ((4992, "admitted"), (4993, "admitted"), (7515, "admitted"), (4993, "refused 2"), (7515, "refused 2"), (7516, "refused 2"),
+                           (8063, "refused 2"), (8064, "refused 2"), (8065, "refused 1")):
+            self.assertIn((size, word), sizes)
+        self.assertEqual([one for one in sizes if one[1] == "refused 1" and 1 <= one[0] <= 8064 or one[1] == "admitted" and one[0] > 7515], [])
+
+    def test_each_place_of_a_name(self):
+        """16 long names that differ at one place are told apart, for each of the 48 places, and two of 16 are equal, for any two rows."""
+        told, pairs = Counter(), set()
+        for kind, inputs, line in self.cases:
+            if kind == "t" and corpus.word_of(line) == "refused 2" and len(inputs[0]) == 2 + 16 * 63 + 1 and inputs[0][:1] in (b"\x0c", b"\x0d"):
+                names = [inputs[0][at + 1:at + 49] for at in range(2, 1010, 63)]
+                pairs.update((one, two) for two in range(16) for one in range(two) if names[one] == names[two])
+            if kind == "f" and line[0] in "TF" and len(inputs[0]) == 2 + 16 * 63 + 3 + 1 and inputs[2].endswith((b"value 0}", b"value 99}")):
+                names = [row.name for row in types.Table(inputs[0]).rows[1:17]]
+                places = [at for at in range(48) if len({name[at:at + 1] for name in names}) == 16]
+                name = inputs[2].decode().split('"')[1].split(".")
+                if len(places) == 1 and len({name[:places[0]] + name[places[0] + 1:] for name in names}) == 1 and name[1:] == ["*"]:
+                    self.assertEqual(line, "%s %d" % ("TRUE" if b"value 0}" in inputs[2] else "FALSE", names.index(name[0]) + 1))
+                    told[places[0]] += 1
+        self.assertEqual({place for place in told if told[place] >= 4}, {*range(48)})
+        self.assertEqual(len(pairs), 120)
+
+    def test_short_names_instead(self):
+        """A table whose long names are made short answers the same: its rows, its values, and listings by its names."""
+        seen, words = Counter(), ("admitted", "good", "refused 4", "listed", "refused 6")
+        for kind, inputs, line in self.cases:
+            if kind in "tvl" and corpus.word_of(line) in words and self.has_rows(inputs[0], (der.LONG_MEMBER,)):
+                table, names = self.shortened(inputs[0])
+                seen[kind] += 1
+                if kind == "t":
+                    self.assertEqual("%s %d" % engine.check_table(table), line)
+                elif kind == "v":
+                    self.assertEqual(" ".join(map(str, engine.check_value(table, inputs[1]))), line)
+                else:
+                    steps = [names.get(step, step) for step in inputs[3].decode("utf-8", "replace").split(".")]
+                    self.assertEqual(questions.answered(table, inputs[1], ("l", inputs[2], ".".join(steps).encode(), *inputs[4:])), line + "\n")
+        self.assertGreaterEqual(min(seen[kind] for kind in "tvl"), 500)
+
+    def shortened(self, octets):
+        """An admitted table with each long name made a short one, in rows of kind 16, and the short name of each."""
+        rows, names, place = [], {}, 0
+        while place < len(octets):
+            kind = octets[place]
+            row = octets[place:place + 1 + types.BODY[kind]]
+            place += len(row)
+            if kind == der.LONG_MEMBER:
+                name = names.setdefault(row[1:49].rstrip(b"\0").decode(), "short-%d" % len(names))
+                row = bytes([der.MEMBER]) + name.encode().ljust(24, b"\0") + row[49:]
+            rows.append(row)
+        return b"".join(rows), names
+
+    def test_each_once(self):
+        self.assertEqual(len({(kind, inputs) for kind, inputs, _ in self.cases}), self.number)
+
     def test_earlier_cases_stay(self):
-        """What was there before Q-3 is there still, octet for octet, before the rest."""
+        """What was there before Q-4 is there still, octet for octet, before the rest."""
         octets = (corpus.FOLDER / "stdin").read_bytes()[:EARLIER[0]]
         self.assertEqual((len(octets), hashlib.sha256(octets).hexdigest()), EARLIER)
 

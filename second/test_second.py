@@ -12,12 +12,13 @@ import table as types
 import value as values
 from bit_cases import Bits
 from edge_cases import Contents, Filters, Tables
+from long_cases import LongNames
 from name_cases import Names
 from preparation_cases import Preparation
 from rule_cases import Published, Rules
 from samples import LICENCE, RECORD, asked, item, listed, of, tlv
 
-__all__ = ["Bits", "Contents", "Filters", "Names", "Tables", "Preparation", "Published", "Rules"]
+__all__ = ["Bits", "Contents", "Filters", "LongNames", "Names", "Tables", "Preparation", "Published", "Rules"]
 
 COPIES = "parts.*.copies"
 
@@ -184,7 +185,7 @@ class Drawn(unittest.TestCase):
         self.assertEqual(cases[:50], draw.corpus(2024, 50))
 
     def test_large(self):
-        self.laws(draw.corpus(7, 250, draw.LARGE))
+        self.laws(draw.corpus(7, 250, draw.LARGER))
 
     def test_any_octets(self):
         dice = random.Random(5)

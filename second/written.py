@@ -7,7 +7,7 @@ import engine
 
 # The classes of the tests: those of document 01, and one for each request of document 02.
 BASE = ("Licence", "Lists", "Rules", "Published", "Entries", "Contents", "Tables", "Filters")
-REQUESTS = ("Preparation", "Bits", "Names")
+REQUESTS = ("Preparation", "Bits", "Names", "LongNames")
 NAMES = {"table": "check_table", "value": "check_value", "part": "part", "ask": "ask", "list": "listing"}
 
 

@@ -16,7 +16,7 @@
 #include "question.h"
 #include "tezqulom.h"
 
-enum { MOST_QUESTIONS = 256, LONGEST = 5000 };
+enum { MOST_QUESTIONS = 256, LONGEST = 8100 };
 static const double SAMPLE_NS = 50e6, BATCH_NS = 1e6;
 static const uint64_t BUDGET = 65535;
 
@@ -118,7 +118,7 @@ static void expect(question *q, const char *word, uint64_t told)
 
 static void read_questions(const char *path)
 {
-    static char table[2 * LONGEST + 1], value[2 * LONGEST + 1], filter[2 * LONGEST + 1]; /* 2 * LONGEST: the 10000 below */
+    static char table[2 * LONGEST + 1], value[2 * LONGEST + 1], filter[2 * LONGEST + 1]; /* 2 * LONGEST: the 16200 below */
     char use[8], hand[32], word[16];
     uint64_t told;
     question *q = questions;
@@ -126,7 +126,7 @@ static void read_questions(const char *path)
 
     if (!file)
         fail("cannot be read", path);
-    while (question_count < MOST_QUESTIONS && fscanf(file, "%7s %31s %31s %15s %lu %10000s %10000s %10000s", use, q->name, hand, word, &told, table,
+    while (question_count < MOST_QUESTIONS && fscanf(file, "%7s %31s %31s %15s %lu %16200s %16200s %16200s", use, q->name, hand, word, &told, table,
                                                      value, filter) == 8) {
         q->timed = !strcmp(use, "timed");
         expect(q, word, told);

@@ -17,7 +17,7 @@
 #include <stdlib.h>
 #include <string.h>
 
-enum { LARGEST = 8192, PAIRS = 270, NUMBERS = 19 };
+enum { MANY = TEZQULOM_MAX_TABLE /* the largest limit of a size */, LARGEST = 2 * MANY, PAIRS = 270, NUMBERS = 19 };
 enum entry { CHECK_TABLE, CHECK_VALUE, PART, LIST, ASK, ENTRIES };
 
 static const uint64_t UNWRITTEN = 9999; /* no listing writes it */
@@ -62,7 +62,7 @@ static uint64_t below(uint64_t limit)
 /* One change of what stands in `octets`, which has room for LARGEST. The length afterwards. */
 static uint64_t damage(uint8_t *octets, uint64_t length)
 {
-    uint64_t at = below(length + 1), more = below(40) == 0 ? 5000 : 1 + below(3);
+    uint64_t at = below(length + 1), more = below(40) == 0 ? MANY : 1 + below(3);
     switch (below(5)) {
     case 0:
         return at;

@@ -99,10 +99,12 @@ static uint64_t chained(int rows)
     return tezqulom_check_table(table, (uint64_t)(3 * i + 1)).number;
 }
 
+enum { KIND_16 = 0x10, KIND_21 = 0x15, AFTER_NAME = 14, LONG_TABLE = 3 + TEZQULOM_MAX_LONG_NAME + AFTER_NAME + 1 };
+
 /* A table of a SEQUENCE of so many INTEGERs with explicit tags. */
 static uint64_t with_members(int members)
 {
-    enum { MEMBER = 39 };
+    enum { MEMBER = 1 + TEZQULOM_MAX_NAME + AFTER_NAME };
     uint8_t table[2 + (TEZQULOM_MAX_MEMBERS + 1) * MEMBER + 1];
     int i;
     memset(table, 0, sizeof table);
@@ -110,7 +112,7 @@ static uint64_t with_members(int members)
     table[1] = (uint8_t)members;
     for (i = 0; i < members; i++) {
         uint8_t *row = table + 2 + i * MEMBER, *after = row + 1 + TEZQULOM_MAX_NAME;
-        row[0] = 0x10;
+        row[0] = KIND_16;
         row[1] = (uint8_t)('a' + i);
         after[1] = (uint8_t)(members + 1);
         after[2] = 1;
@@ -118,6 +120,71 @@ static uint64_t with_members(int members)
     }
     table[2 + members * MEMBER] = 0x02;
     return tezqulom_check_table(table, (uint64_t)(2 + members * MEMBER + 1)).number;
+}
+
+/* Writes a table of a SEQUENCE of one INTEGER, whose name is so many letters of this one, in a row of this kind; the number of its octets, up to
+ * LONG_TABLE. */
+static uint64_t with_name(uint8_t *table, uint8_t kind, const char *name, int letters)
+{
+    int field = kind == KIND_21 ? TEZQULOM_MAX_LONG_NAME : TEZQULOM_MAX_NAME;
+    int last = 3 + field + AFTER_NAME;
+    memset(table, 0, (size_t)last);
+    table[0] = 0x0C;
+    table[1] = 1;
+    table[2] = kind;
+    memcpy(table + 3, name, (size_t)letters);
+    table[3 + field + 1] = 2;
+    table[last] = 0x02;
+    return (uint64_t)(last + 1);
+}
+
+/* The refusal of such a table, or another answer's number. */
+static uint64_t with_letters(uint8_t kind, int letters)
+{
+    static const char name[] = "abcdefghijklmnopqrstuvwxyzABCDEFGHIJKLMNOPQRSTUV";
+    uint8_t table[LONG_TABLE];
+    uint64_t length = with_name(table, kind, name, letters);
+    return tezqulom_check_table(table, length).number;
+}
+
+static const uint8_t record[] = {0x30, 0x03, 0x02, 0x01, 0x05}; /* a SEQUENCE of 5 */
+
+/* The number of the listing of a member of the record. */
+static uint64_t listed_of(const uint8_t *table, uint64_t length, const char *member)
+{
+    uint64_t room[3];
+    tezqulom_answer answer = tezqulom_list(table, length, record, sizeof record, 1, (const uint8_t *)member, strlen(member), 0, room, 3);
+    check(answer.number != TEZQULOM_DONE || (answer.count == 1 && room[0] == 0 && room[1] == 2 && room[2] == 3), "the member is listed");
+    return answer.number;
+}
+
+/* The truth of a filter that a member of the record is 5. */
+static uint64_t asked_of(const uint8_t *table, uint64_t length, const char *member)
+{
+    char filter[TEZQULOM_MAX_FILTER];
+    sprintf(filter, "item:{component \"%s\",rule integerMatch,value 5}", member);
+    return tezqulom_ask(table, length, record, sizeof record, (const uint8_t *)filter, strlen(filter), TEZQULOM_MAX_BUDGET).number;
+}
+
+/* A long name names its member; its first 24 letters name nothing. */
+static void check_long_name(void)
+{
+    static const char name[] = "educationalConcessionCategory", cut[] = "educationalConcessionCat";
+    uint8_t table[LONG_TABLE];
+    uint64_t length = with_name(table, KIND_21, name, sizeof name - 1);
+    check(listed_of(table, length, name) == TEZQULOM_DONE, "a long name is listed");
+    check(listed_of(table, length, cut) == TEZQULOM_REFUSED_FORM, "a long name that is cut is refused");
+    check(asked_of(table, length, name) == TEZQULOM_TRUE, "a long name is asked about");
+    check(asked_of(table, length, cut) == TEZQULOM_UNDEFINED, "a long name that is cut is Undefined");
+}
+
+static void check_member_names(void)
+{
+    check(with_letters(KIND_16, 1) == TEZQULOM_DONE && with_letters(KIND_16, TEZQULOM_MAX_NAME) == TEZQULOM_DONE, "names in kind 16");
+    check(with_letters(KIND_21, TEZQULOM_MAX_NAME + 1) == TEZQULOM_DONE, "the shortest name in kind 21");
+    check(with_letters(KIND_21, TEZQULOM_MAX_LONG_NAME) == TEZQULOM_DONE, "the longest name in kind 21");
+    check(with_letters(KIND_21, TEZQULOM_MAX_NAME) == TEZQULOM_REFUSED_TABLE, "a shorter name in kind 21");
+    check_long_name();
 }
 
 static void check_tables(void)
@@ -196,6 +263,7 @@ int main(void)
     check_sizes('r', 0, TEZQULOM_MAX_REFERENCE, "a reference's sizes");
     check_filters();
     check_tables();
+    check_member_names();
     check_room();
     check_names();
     printf("version %s\n", TEZQULOM_VERSION);

@@ -21,7 +21,8 @@ sys.path.insert(0, str(ROOT / "second"))
 
 import corpus_names  # noqa: E402
 import draw  # noqa: E402
-from samples import CLASSES, EXAMPLE, LICENCE, RECORD  # noqa: E402
+from rows import long_member, member  # noqa: E402
+from samples import CATEGORY, CLASSES, EXAMPLE, LICENCE, LONGEST_NAME, RECORD  # noqa: E402
 
 try:
     from pyasn1.codec.der import encoder
@@ -108,6 +109,31 @@ class Descriptions(unittest.TestCase):
                 build.build(given)
         self.assertEqual(tezqulom.check_table(build.build(build.Choice(a=build.RDNSequence(), b=build.RelativeDistinguishedName()))), 5)
 
+    def test_long_names(self):
+        """The kind of a member's row goes by the length of its name."""
+        table = build.build(build.Sequence({"event": build.UTF8String(), CATEGORY: build.Optional(build.Implicit(0, build.Integer()))}))
+        self.assertEqual(table, b"\x0c\2" + member("event", 3) + long_member(CATEGORY, 4, 2, 0, 1) + b"\x08\2")
+        self.assertEqual(Table(table).text().splitlines(), ["SEQUENCE", "  event UTF8String", "  %s [0] IMPLICIT INTEGER OPTIONAL" % CATEGORY])
+        for letters in range(1, len(LONGEST_NAME) + 1):
+            name = LONGEST_NAME[:letters]
+            row = Table(build.build(build.Choice({name: build.Integer()}))).rows[1]
+            self.assertEqual((row.kind, row.identifier), (Kind.MEMBER if letters <= 24 else Kind.LONG_MEMBER, name))
+        default = Table(build.build(build.Sequence(educational_concession_category=build.Default(build.Boolean(), True)))).rows[1]
+        self.assertEqual((default.kind, default.identifier, default.default), (Kind.LONG_MEMBER, "educational-concession-category", b"\xff"))
+
+    def test_long_names_errors(self):
+        for sentence, given in [
+                ("^a{49}: a member's name has at most 48 characters", build.Sequence({"a" * 49: build.Integer()})),
+                ("^c.a{49}: a member's name has at most 48", build.Sequence(c=build.Choice({"a" * 49: build.Integer()}))),
+                ("^r.a{25}: a named bit's name has at most 24 characters", build.Sequence(r=build.BitString({"a" * 25: 0}))),
+                ("^Educ[^ ]*: its name is not a lowercase letter", build.Sequence({CATEGORY.capitalize(): build.Integer()})),
+                ("^a{24}é: its name is not a lowercase letter", build.Sequence({"a" * 24 + "é": build.Integer()})),
+                ("^a{24}-b: member a{24}-b has the name of row 1", build.Sequence({"a" * 24 + "-b": build.Integer()}, **{"a" * 24 + "_b": build.Null()})),
+                ("^%s: members a and %s start with the same tag" % (CATEGORY, CATEGORY),
+                 build.Sequence({"a": build.Optional(build.Integer()), CATEGORY: build.Integer()}))]:
+            with self.assertRaisesRegex(build.TableError, sentence):
+                build.build(given)
+
     def test_defaults(self):
         for kind, default, contents in [(build.Boolean(), True, b"\xff"), (build.Boolean(), False, b"\0"), (build.Integer(), -129, b"\xff\x7f"),
                                         (build.Integer(), 2 ** 63 - 1, b"\x7f" + b"\xff" * 7), (build.Enumerated(), 128, b"\0\x80")]:
@@ -140,12 +166,10 @@ class Descriptions(unittest.TestCase):
                 (r"\*: tags and presence stand on members only", build.SequenceOf(build.Explicit(1, build.Integer()))),
                 ("when: no row for UTCTime", build.Sequence(when=build.Optional(build.UTCTime()))), ("s: no row for Set", build.Sequence(s=build.Set(a=1))),
                 ("a: tag number 31, not 0 to 30", build.Sequence(a=build.Implicit(31, build.Integer()))),
-                ("a{25}: a name has at most 24 characters", build.Sequence({"a" * 25: build.Integer()})),
                 ("more than 16 types in one another", deep), ("a: BitString is no description; write", build.Sequence(a=build.BitString)),
                 ("r: named bit print: bit number 64, not 0 to 63", build.Sequence(r=build.BitString(print=64))),
                 ("^named bit print: bit number True, not", build.BitString(print=True)), ("^named bit print: bit number '0'", build.BitString(print="0")),
                 ("^named bit 0: its name is no text", build.BitString({0: 1})),
-                ("r.a{25}: a name has at most 24", build.Sequence(r=build.BitString({"a" * 25: 0}))),
                 ("a: a default on BIT STRING", build.Sequence(a=build.Default(build.BitString(RIGHTS), 1))),
                 ("290 rows, more than 128", build.Sequence(
                     {"m%d" % at: build.Sequence({"n%d-%d" % (at, of): build.Integer() for of in range(16)}) for at in range(16)}))]:
@@ -216,6 +240,12 @@ class Pyasn1(unittest.TestCase):
         self.assertEqual(Table(table).text().splitlines()[1:], ["  a [0] IMPLICIT BIT STRING {print(0), perform(1), record(2)}", "  b BIT STRING"])
         for names in (["print"], ["perform", "record"], ["print", "record"]):
             self.assertEqual(encoder.encode(rights(",".join(names))), records.encoded_bits(RIGHTS_TABLE, None, names))
+
+    def test_long_names(self):
+        described = self.sequence(namedtype.NamedType("event", char.UTF8String()), namedtype.OptionalNamedType(CATEGORY, univ.Integer()))
+        self.assertEqual(build.build(described), b"\x0c\2" + member("event", 3) + long_member(CATEGORY, 4, presence=1) + b"\x08\2")
+        with self.assertRaisesRegex(build.TableError, "a{49}: a member's name has at most 48 characters"):
+            build.build(self.sequence(namedtype.NamedType("a" * 49, univ.Integer())))
 
     def rdns(self, value=None, pair_tag=None):
         """X.501's RDNSequence and RelativeDistinguishedName, as pyasn1's classes."""
@@ -429,7 +459,65 @@ class Causes(unittest.TestCase):
             cause = clauses.why_table(octets)
             self.assertEqual(cause is None, clauses.admitted(octets), octets.hex())
             self.assertNotIn(NOT_FOUND, str(cause), octets.hex())
-        self.assertEqual(str(clauses.why_table(b"\x15")), "row 0: at octet 0: there is no kind 21")
+        self.assertEqual(str(clauses.why_table(b"\x16")), "row 0: at octet 0: there is no kind 22")
+
+    def test_long_tables(self):
+        """Tables near one with long member names: a cause exactly where the engine refuses."""
+        table = build.build(build.Sequence({"a": build.Optional(build.Integer()), CATEGORY: build.Default(build.Explicit(0, build.Integer()), 5),
+                                            LONGEST_NAME: build.Choice({"b" * 25: build.Null(), "c": build.Boolean()})}))
+        changed = [table[:at] + bytes([octet]) + table[at + 1:] for at in range(len(table)) for octet in (0, 1, 2, 16, 18, 21, 22, 45, 97, table[at] ^ 1)]
+        cut = [table[:at] for at in range(1, len(table))] + [table[at:] for at in range(1, len(table))]
+        moved = [table[:at] + row + table[at:] for at in range(len(table)) for row in (member("y", 9), long_member("y" * 25, 9), b"\x15", b"\0" * 24)]
+        answers = set()
+        for octets in changed + cut + moved:
+            cause = clauses.why_table(octets)
+            self.assertEqual(cause is None, clauses.admitted(octets), octets.hex())
+            self.assertNotIn(NOT_FOUND, str(cause), octets.hex())
+            answers.add(re.sub("[0-9]+|[a-z]+(?=:| stands| has)", "", str(cause)))
+        self.assertGreaterEqual(len(answers), 20)
+
+    def test_long_sentences(self):
+        def one(name, *fields, **more):
+            return b"\x0c\1" + long_member(name, 2, *fields, **more) + b"\2"
+        category = long_member(CATEGORY, 3)
+        for sentence, octets in [
+                ("row 1: member %s: a name of 24 characters in a row of kind 21, not 25 to 48" % CATEGORY[:24], one(CATEGORY[:24])),
+                ("row 1: member a: a name of 1 character in a row of kind 21, not 25 to 48", one("a")),
+                ("row 1: member without a name: its name is not a lowercase letter", one("")),
+                ("row 1: member %s-: its name is not a lowercase letter" % CATEGORY, one(CATEGORY + "-")),
+                ("row 1: member %s\\x00b: its name is not a lowercase letter" % CATEGORY, one(CATEGORY.encode() + b"\0b")),
+                ("row 1: member %s: tag mode 3, not 0 to 2" % CATEGORY, one(CATEGORY, 3)),
+                ("row 1: member %s: a default with contents 0001, no INTEGER" % CATEGORY, one(CATEGORY, presence=2, default=b"\0\1")),
+                ("row 0: row 0 is a member, not a type", category), ("row 1: member %s stands after no SEQUENCE or CHOICE" % CATEGORY, b"\2" + category),
+                ("row 1: at octet 2: member is cut off after 62 of 63 octets", b"\x0c\1" + category[:-1]),
+                ("row 1: member stands where a named bit is counted: 1 more", b"\x11\1" + category),
+                ("row 1: named bit stands where a member is counted: 1 more", b"\x0c\1" + bit_row("a", 0)),
+                ("row 1: member %s: names row 3, the last one is 2" % CATEGORY, b"\x0c\1" + category + b"\2"),
+                ("row 0: names row 2, a member", b"\x0e\0\2\x0c\1" + category + b"\2"),
+                ("row 2: member %s has the name of row 1" % CATEGORY, b"\x0c\2" + category * 2 + b"\2"),
+                ("the table has 8065 octets, not 1 to 8064", b"\2" * 8065)]:
+            self.assertTrue(str(clauses.why_table(octets)).startswith(sentence), (clauses.why_table(octets), sentence))
+        self.assertEqual(str(clauses.why_table(b"\2" * 8064)), "the table has 8064 rows, not 1 to 128")
+
+    def test_long_values(self):
+        """The tree of a record with long member names, and the first cause in a refused one."""
+        table = build.build(build.Sequence({"event": build.UTF8String(), CATEGORY: build.Default(build.Integer(), 1),
+                                            LONGEST_NAME: build.Optional(build.Choice({"b" * 25: build.Null(), "c": build.Boolean()}))}))
+        for value, names in [("30040C026531", [CATEGORY]), ("30070C026531020103", [CATEGORY]),
+                             ("30060C0265310500", [CATEGORY, LONGEST_NAME, "b" * 25]), ("30070C0265310101FF", [CATEGORY, LONGEST_NAME, "c"])]:
+            self.compare_tree(table, bytes.fromhex(value))
+            found = [node.name for node in records.tree(table, bytes.fromhex(value))]
+            self.assertEqual([name for name in found if name in names], names)
+        self.assertEqual(str(records.why_value(table, bytes.fromhex("30070C026531020101"))),
+                         "at octet 6, %s: 1, the default, is stored; a default never is" % CATEGORY)
+        self.assertEqual(str(records.why_value(table, bytes.fromhex("30070C026531050100"))).split(": ")[0], "at octet 6, %s.%s" % (LONGEST_NAME, "b" * 25))
+
+    def test_long_undefined(self):
+        """A name isn't cut: a part of it is not the member."""
+        table = build.build(build.Sequence({CATEGORY: build.Integer()}))
+        for name in (CATEGORY[:24], CATEGORY[:-1], CATEGORY + "s", CATEGORY.lower()):
+            line, = filters.explain(table, bytes.fromhex("3003020105"), tezqulom.item(name, "presentMatch", "NULL"))
+            self.assertEqual((line.truth, line.cause), (Truth.UNDEFINED, 'the reference "%s" is malformed, or the table\'s type doesn\'t allow it' % name))
 
     def test_name_values(self):
         """The second program's stored names, most of them near misses: a cause exactly where the engine refuses, and the tree of good ones."""

@@ -24,7 +24,8 @@ from tezqulom.values import encoded
 ROOT = pathlib.Path(__file__).resolve().parents[2]
 sys.path.insert(0, str(ROOT / "second"))
 
-from samples import LICENCE, RECORD  # noqa: E402
+from rows import long_member  # noqa: E402
+from samples import CATEGORY, LICENCE, RECORD, sequence  # noqa: E402
 
 TRUE = 'item:{component "parts.*.copies",rule integerMatch,value 3}'
 FALSE = 'item:{component "parts.*.copies",rule integerMatch,value 7}'
@@ -125,7 +126,7 @@ class Statuses(Command):
 
     def test_sizes(self):
         (self.folder / "empty").write_bytes(b"")
-        self.gives(3, "REFUSED 1\n", "check", "empty", error="empty: refused 1: the table has 0 octets, not 1 to 4992")
+        self.gives(3, "REFUSED 1\n", "check", "empty", error="empty: refused 1: the table has 0 octets, not 1 to 8064")
         self.gives(3, "REFUSED 1\n", "check", "table", "empty", error="empty: refused 1: the value has 0 octets, not 2 to 4096")
         self.gives(3, "REFUSED 1\n", "ask", "table", "record", "empty", error="empty: refused 1: the filter has 0 octets, not 1 to 2048")
         self.gives(3, "REFUSED 1\n", "run", "table", "empty", "record", error="empty: refused 1")
@@ -306,6 +307,57 @@ class NamedBits(Command):
             listed, = json.loads(self.gives(0, None, "list", "rights", name, "rights", "--json"))
             for found in (shown, listed):
                 self.assertEqual((found["kind"], found["value"], found["names"]), ("BIT STRING", value, names))
+
+
+class LongNames(Command):
+    """A member with a long name: in a table, shown, asked about, and cut."""
+
+    def setUp(self):
+        super().setUp()
+        (self.folder / "concessions.py").write_text(
+            "from tezqulom.builder import *\ntable = Sequence(event=UTF8String(), %s=Default(Integer(), 1))\n" % CATEGORY)
+        for name, octets in (("three", "30070C026531020103"), ("one", "30040C026531"), ("stored", "30070C026531020101")):
+            (self.folder / name).write_bytes(bytes.fromhex(octets))
+
+    def made(self):
+        self.gives(0, "", "table", "concessions.py", "-o", "concessions")
+
+    def test_table(self):
+        self.made()
+        self.gives(0, "concessions: admitted, 5 rows\nthree: good\n", "check", "concessions", "three")
+        self.gives(0, "SEQUENCE\n  event UTF8String\n  %s INTEGER DEFAULT 1\n" % CATEGORY, "table", "--show", "concessions")
+        (self.folder / "long.py").write_text("from tezqulom.builder import *\ntable = Sequence(%s=Integer())\n" % ("a" * 49))
+        self.gives(3, "", "table", "long.py", error="long.py: %s: a member's name has at most 48 characters\n" % ("a" * 49))
+
+    def test_show(self):
+        self.made()
+        self.gives(0, '    0  SEQUENCE\n    2    event UTF8String "e1"\n    6    %s INTEGER 3\n' % CATEGORY, "show", "concessions", "three")
+        self.gives(0, "       %s INTEGER 1 (default)\n" % CATEGORY, "show", "concessions", "one", CATEGORY)
+        self.gives(0, "stored 6 3 %s INTEGER 3\n" % CATEGORY, "list", "concessions", "three", CATEGORY)
+        listed, = json.loads(self.gives(0, None, "list", "concessions", "one", CATEGORY, "--json"))
+        self.assertEqual(listed, {"source": "default", "place": 0, "row": 2, "reference": CATEGORY, "kind": "INTEGER", "value": 1})
+
+    def test_ask(self):
+        self.made()
+        for name, status, answer in (("three", 0, "TRUE 1"), ("one", 1, "FALSE 1")):
+            self.gives(status, answer + "\n", "ask", "concessions", name, tezqulom.item(CATEGORY, "integerMatch", "3"))
+        cut = tezqulom.item(CATEGORY[:24], "integerMatch", "3")
+        self.gives(2, "UNDEFINED 0\n", "ask", "concessions", "three", cut)
+        self.gives(2, 'UNDEFINED 0  %s\n  because the reference "%s" is malformed, or the table\'s type doesn\'t allow it\n' % (cut, CATEGORY[:24]), "explain",
+                   "concessions", "three", cut)
+        self.gives(3, "REFUSED 3\n", "list", "concessions", "three", CATEGORY[:24], error="the reference: refused 3")
+
+    def test_refused(self):
+        self.made()
+        self.gives(3, "stored: refused 4: the value is not one of the table's type: at octet 6, %s: 1, the default, is stored; a default never is\n" % CATEGORY,
+                   "why", "concessions", "stored")
+        (self.folder / "short").write_bytes(sequence(long_member(CATEGORY[:24], 2)) + b"\2")
+        self.gives(3, "short: refused 2: the table is not admitted: row 1: member %s: a name of 24 characters in a row of kind 21, not 25 to 48\n"
+                   % CATEGORY[:24], "why", "short")
+        for octets, message in ((8064, "refused 2: the table is not admitted: the table has 8064 rows, not 1 to 128\n"),
+                                (8065, "refused 1: the table has 8065 octets, not 1 to 8064\n")):
+            (self.folder / "large").write_bytes(b"\2" * octets)
+            self.gives(3, "large: " + message, "why", "large")
 
 
 class Forms(Command):

@@ -1,4 +1,4 @@
-"""The examples of the README's first steps and of the GUIDE's cookbook, rights and holders, each run."""
+"""The examples of the README's first steps and of the GUIDE's cookbook, rights, holders and long member names, each run."""
 
 import doctest
 import os
@@ -129,6 +129,14 @@ class Examples(unittest.TestCase):
         self.assertEqual([int(place) for place, _ in apart], [6 + len(b"".join(octets[:at])) for at in range(len(apart))])
         self.assertEqual(self.records(title)["p"][6:60], b"".join(octets))
         self.interact(title, 12)
+
+    def test_long_names(self):
+        """As the rights."""
+        title = "Long member names"
+        self.fill(title)
+        self.play(section(GUIDE, title), 4)
+        self.questions(title, self.rows(title, "concessions.table"), "uvw", 5)
+        self.interact(title, 7)
 
     def test_bindings(self):
         code = re.search(r"```python\n(.*?)```", (ROOT / "docs" / "BINDINGS.md").read_text(encoding="utf-8"), flags=re.DOTALL).group(1)

@@ -32,7 +32,8 @@ sys.path.insert(0, str(ROOT / "second"))
 import draw  # noqa: E402
 import names as second_names  # noqa: E402
 from name_text import ODD_NAMES  # noqa: E402
-from samples import LICENCE, RECORD, item  # noqa: E402
+from rows import long_member, member  # noqa: E402
+from samples import CATEGORY, LICENCE, LONGEST_NAME, RECORD, choice, item, sequence  # noqa: E402
 
 COPIES = "parts.*.copies"
 P1 = item(COPIES, "integerMatch", "3")
@@ -178,7 +179,7 @@ class Document(unittest.TestCase):
 
     def test_sentences(self):
         for sentence, entry, inputs in [
-                ("refused 1: the table has 0 octets, not 1 to 4992", tezqulom.check_table, [b""]),
+                ("refused 1: the table has 0 octets, not 1 to 8064", tezqulom.check_table, [b""]),
                 ("refused 1: the value has 1 octet, not 2 to 4096", tezqulom.check_value, [LICENCE, b"0"]),
                 ("refused 1: the filter has 0 octets, not 1 to 2048", tezqulom.ask, [LICENCE, RECORD, ""]),
                 ("refused 1: the budget is 65536, above 65535", tezqulom.ask, [LICENCE, RECORD, P1, 65536]),
@@ -449,6 +450,70 @@ class DistinguishedNames(unittest.TestCase):
         for value, tag in [("", 0x13), ("aZ09 '()+,-./:=?", 0x13), ("a@", 0x0C), ("é", 0x0C), ("a\n", 0x0C), ("*", 0x0C), ('"', 0x0C)]:
             self.assertEqual(encoded_rdn([(COMMON, value)])[9], tag, value)
         self.assertEqual(encoded_rdn("2.5.4.5=aa+2.5.4.6=b+2.5.4.3=b").hex(), "311f" "30080603550403130162" "30080603550406130162" "3009060355040513026161")
+
+
+class LongNames(unittest.TestCase):
+    """Members of kind 21, whose names have 25 to 48 characters; document 02's Q-4."""
+
+    TABLE = sequence(member("event", 4), long_member(CATEGORY, 5, presence=2, default=b"\1"), long_member(LONGEST_NAME, 6, 1, 0, 1)) + b"\x08\2" + choice(
+        long_member("b" * 25, 9), member("c", 10)) + b"\4\1"
+    STORED, ABSENT = bytes.fromhex("300C0C026531020103A0030101FF"), bytes.fromhex("30040C026531")
+
+    def refused(self, refusal, entry, *inputs):
+        with self.assertRaises(Refused) as caught:
+            entry(*inputs)
+        self.assertIs(caught.exception.refusal, refusal)
+
+    def test_listing(self):
+        self.assertEqual(tezqulom.check_table(self.TABLE), 11)
+        alternative = LONGEST_NAME + ".c"
+        for value, reference, named in [
+                (self.STORED, CATEGORY, [Stored(6, 3)]), (self.STORED, LONGEST_NAME, [Stored(11, 3)]), (self.STORED, alternative, [Stored(11, 3)]),
+                (self.STORED, LONGEST_NAME + "." + "b" * 25, []), (self.ABSENT, CATEGORY, [Default(0, 2)]), (self.ABSENT, LONGEST_NAME, [])]:
+            self.assertEqual(tezqulom.listing(self.TABLE, value, reference), named, reference)
+
+    def test_answers(self):
+        for component, rule, text, truths in [
+                (CATEGORY, "integerMatch", "3", "TRUE FALSE"), (CATEGORY, "integerMatch", "1", "FALSE TRUE"),
+                (LONGEST_NAME + ".c", "booleanMatch", "TRUE", "TRUE FALSE"), (LONGEST_NAME, "presentMatch", "NULL", "TRUE FALSE"),
+                (CATEGORY, "booleanMatch", "TRUE", "UNDEFINED UNDEFINED")]:
+            asked = [tezqulom.ask(self.TABLE, value, item(component, rule, text)).truth.name for value in (self.STORED, self.ABSENT)]
+            self.assertEqual(asked, truths.split(), (component, rule, text))
+
+    def test_not_cut(self):
+        """A part of a name is not the member, its first 24 letters neither."""
+        for name in (CATEGORY[:24], CATEGORY[:25], CATEGORY[:-1], CATEGORY + "s", CATEGORY.lower(), LONGEST_NAME[:24], LONGEST_NAME + "W"):
+            self.refused(Refusal.FORM, tezqulom.listing, self.TABLE, self.STORED, name)
+            self.assertEqual(tezqulom.ask(self.TABLE, self.STORED, item(name, "presentMatch", "NULL")), Answer(Truth.UNDEFINED, 0))
+
+    def test_both(self):
+        """A member whose name is the first 24 letters of another's is another member."""
+        table = sequence(member(CATEGORY[:24], 3), long_member(CATEGORY, 4)) + b"\2\1"
+        value = bytes.fromhex("3006020105" "0101FF")
+        self.assertEqual([tezqulom.listing(table, value, name) for name in (CATEGORY[:24], CATEGORY)], [[Stored(2, 3)], [Stored(5, 3)]])
+
+    def test_one_form(self):
+        """Names of up to 24 characters are for kind 16 alone, and zeros stand after a name alone."""
+        for letters in range(49):
+            name = LONGEST_NAME[:letters]
+            if letters > 24:
+                self.assertEqual(tezqulom.check_table(sequence(long_member(name, 2)) + b"\2"), 3)
+            else:
+                self.refused(Refusal.TABLE, tezqulom.check_table, sequence(long_member(name, 2)) + b"\2")
+        for name in (CATEGORY + "-", CATEGORY.capitalize(), CATEGORY + "\0s", "\0" + CATEGORY, CATEGORY[:24] + "\0" + CATEGORY[24:]):
+            self.refused(Refusal.TABLE, tezqulom.check_table, sequence(long_member(name, 2)) + b"\2")
+
+    def test_sizes(self):
+        """Up to 8,064 octets are not refused by their size; the largest table that is admitted has 7,515."""
+        for octets in (4992, 4993, 7515, 8063, 8064):
+            self.refused(Refusal.TABLE, tezqulom.check_table, b"\2" * octets)
+        self.refused(Refusal.SIZE, tezqulom.check_table, b"\2" * 8065)
+        most = long_member(LONGEST_NAME, 127)
+        self.refused(Refusal.TABLE, tezqulom.check_table, most * 128)
+        groups = [sequence(*(long_member("%s%02d" % ("a" * 46, at), 127) for at in range(count))) for count in [16] * 7 + [7]]
+        largest = b"".join(groups) + b"\x0c\0"
+        self.assertEqual((len(largest), tezqulom.check_table(largest)), (7515, 128))
+        self.assertEqual(tezqulom.engine.LONGEST_TABLE, len(most) * 128)
 
 
 def carried(record):

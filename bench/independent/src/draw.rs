@@ -3,15 +3,17 @@
 //! A case is a drawn table with a drawn value of its type, either of them broken now and then, and
 //! questions about them. Small domains make equal values likely.
 
+mod members;
 mod names;
 
 use crate::table::{Basic, BitName, Form, Member, Presence, Table, Tagging, Type};
 use crate::{check_table, der, list};
+use members::FIELDS;
 use names::Kind;
 
 const QUESTIONS: usize = 12;
 /// No input of a case is longer (docs/CASES.md): one octet more than the limits.
-const LONGEST_TABLE: usize = 4993;
+const LONGEST_TABLE: usize = 8065;
 const LONGEST_VALUE: usize = 4097;
 const LONGEST_FILTER: usize = 2049;
 const RULES: [(&str, &str); 14] = [
@@ -109,7 +111,7 @@ impl Draw {
         if self.once_in(16) {
             return self.long_names();
         }
-        let mut table = self.table();
+        let mut table = if self.once_in(16) { self.large_table() } else { self.table() };
         let mut value = Vec::new();
         let mut questions = Vec::new();
         if let Some(parsed) = Table::parse(&table) {
@@ -126,8 +128,12 @@ impl Draw {
             self.broken(&mut table);
         } else if self.once_in(10) {
             table = self.other_bit_names(&table);
+        } else if self.once_in(6) {
+            table = self.other_members(&table);
         } else if self.once_in(20) {
             table = self.other_kind(&table);
+        } else if self.once_in(50) {
+            self.resized(&mut table);
         }
         table.truncate(LONGEST_TABLE);
         value.truncate(LONGEST_VALUE);
@@ -170,11 +176,11 @@ impl Draw {
 
     fn loose_table(&mut self) -> Vec<u8> {
         let most = self.pick(&[4, 10, 20, 40]);
-        // Some tables have many named bit strings or distinguished names, the others none.
-        let (named_bits, names) = (self.below(5) < 2, self.below(5) < 2);
+        // Some tables have many named bit strings, distinguished names or long members, the others none.
+        let [named_bits, names, long_members] = [2, 2, 3].map(|often| self.below(5) < often);
         let mut rows: Vec<Vec<u8>> = Vec::new();
-        // Rows that wait for a type: which, where their row number stands, and whether they are alternatives.
-        let mut waiting: Vec<(usize, usize, bool)> = Vec::new();
+        // Rows that wait for a type: which, and whether they are alternatives.
+        let mut waiting: Vec<(usize, bool)> = Vec::new();
         loop {
             let row = rows.len();
             let open = row + waiting.len() < most;
@@ -192,9 +198,9 @@ impl Draw {
             let sharing = if self.once_in(6) { 2 } else { 1 };
             for _ in 0..sharing.min(waiting.len()) {
                 let last = self.below(waiting.len());
-                let (from, at, alternative) = waiting.swap_remove(last);
-                rows[from][at..at + 2].copy_from_slice(&(row as u16).to_be_bytes());
-                if at == 25 {
+                let (from, alternative) = waiting.swap_remove(last);
+                put_number(&mut rows[from], row);
+                if matches!(rows[from][0], 16 | 21) {
                     self.presence(&mut rows[from], kind, alternative);
                 }
             }
@@ -204,12 +210,12 @@ impl Draw {
                     let members = self.below(few).max(usize::from(kind == 13));
                     rows.push(vec![kind, members as u8]);
                     for i in 0..members {
-                        waiting.push((rows.len(), 25, kind == 13));
-                        rows.push(self.member(i));
+                        waiting.push((rows.len(), kind == 13));
+                        rows.push(self.member(i, long_members));
                     }
                 }
                 14 | 15 => {
-                    waiting.push((row, 1, false));
+                    waiting.push((row, false));
                     rows.push(vec![kind, 0, 0]);
                 }
                 17 => rows.extend(self.bit_names()),
@@ -219,22 +225,6 @@ impl Draw {
                 return rows.concat();
             }
         }
-    }
-
-    /// A member whose type isn't known yet.
-    fn member(&mut self, number: usize) -> Vec<u8> {
-        let mut row = vec![16];
-        let longest = if self.once_in(10) { "a-very-long-name-of-24-c" } else { "m" };
-        let name = self.pick(&["content", "a", "b", "c", "d", "aB", "x-1", longest]);
-        row.extend(name.bytes());
-        if self.below(4) > 0 && row.len() < 20 {
-            row.extend(number.to_string().bytes());
-        }
-        row.resize(27, 0);
-        let mode = self.pick(&[0, 0, 1, 2]);
-        row.extend([mode, if mode == 0 { 0 } else { number as u8 }]);
-        row.resize(39, 0);
-        row
     }
 
     /// The rows of a named bit string.
@@ -284,18 +274,18 @@ impl Draw {
                 rows.insert(self.pick(&[head, one, rows.len()]), row);
                 rows[head][1] += self.pick(&[0, 1]);
             }
-            _ => {
-                // A row number that is a name's.
-                let lists: Vec<usize> =
-                    (0..rows.len()).filter(|&at| matches!(rows[at][0], 14..=16)).collect();
-                if !lists.is_empty() {
-                    let from = self.pick(&lists);
-                    let at = if rows[from][0] == 16 { 25 } else { 1 };
-                    rows[from][at..at + 2].copy_from_slice(&(other as u16).to_be_bytes());
-                }
-            }
+            _ => self.point_to(&mut rows, other),
         }
         rows.concat()
+    }
+
+    /// Makes this row the type of a member or of a list's elements, if there are any.
+    fn point_to(&mut self, rows: &mut [Vec<u8>], row: usize) {
+        let pointing: Vec<usize> =
+            (0..rows.len()).filter(|&at| matches!(rows[at][0], 14..=16 | 21)).collect();
+        if !pointing.is_empty() {
+            put_number(&mut rows[self.pick(&pointing)], row);
+        }
     }
 
     /// The table with another kind in one of its rows that have no body, if it has any: a name most often.
@@ -312,15 +302,16 @@ impl Draw {
         if alternative {
             return;
         }
-        row[29] = match kind {
+        let at = row.len() - FIELDS + 4;
+        row[at] = match kind {
             1..=3 => self.pick(&[0, 1, 2, 2]),
             _ => self.pick(&[0, 0, 1]),
         };
-        if row[29] == 2 {
+        if row[at] == 2 {
             let basic = if kind == 1 { Basic::Boolean } else { Basic::Integer };
             let default = self.contents(basic);
-            row[30] = default.len() as u8;
-            row[31..31 + default.len()].copy_from_slice(&default);
+            row[at + 1] = default.len() as u8;
+            row[at + 2..at + 2 + default.len()].copy_from_slice(&default);
         }
     }
 
@@ -481,7 +472,7 @@ impl Draw {
                         break;
                     }
                     let member = &members[self.below(members.len())];
-                    text += &String::from_utf8_lossy(member.name);
+                    text += &self.referred(member.name);
                     Some(&*member.ty)
                 }
                 Form::SequenceOf(inner) | Form::SetOf(inner) => {
@@ -711,6 +702,7 @@ fn rows(table: &[u8]) -> Vec<Vec<u8>> {
             14 | 15 => 3,
             16 => 39,
             18 => 26,
+            21 => 63,
             _ => 1,
         };
         let (row, after) = rest.split_at(size.min(rest.len()));
@@ -718,6 +710,12 @@ fn rows(table: &[u8]) -> Vec<Vec<u8>> {
         rest = after;
     }
     rows
+}
+
+/// Puts the number of a type's row into the row of a member or a list.
+fn put_number(row: &mut [u8], number: usize) {
+    let at = if matches!(row[0], 14 | 15) { 1 } else { row.len() - FIELDS };
+    row[at..at + 2].copy_from_slice(&(number as u16).to_be_bytes());
 }
 
 /// The contents of a BIT STRING of binary digits.

@@ -1,6 +1,6 @@
 //! Component filters (RFC 3687) over DER values whose type a table describes.
 //!
-//! An implementation of document 01 and of of document 02 in plain Rust, written from the documents alone. It is there to
+//! An implementation of document 01 and of of document 02 in plain Rust, written from the documents alone. It is there to
 //! be compared with the proved engine, in its answers and in its speed.
 //!
 //! The five entries are [`check_table`], [`check_value`], [`part`], [`list`] and [`ask`]. A refusal is the

@@ -4,7 +4,7 @@ use crate::der;
 use std::rc::Rc;
 
 /// The size of a table in octets.
-pub const SIZES: std::ops::RangeInclusive<usize> = 1..=4992;
+pub const SIZES: std::ops::RangeInclusive<usize> = 1..=8064;
 const MAX_ROWS: usize = 128;
 const MAX_CHAIN: usize = 16;
 const MAX_MEMBERS: usize = 16;
@@ -12,6 +12,7 @@ const MAX_BIT_NAMES: usize = 16;
 const MAX_BIT: u8 = 63;
 const MAX_TAG: u8 = 30;
 const NAME: usize = 24;
+const LONG_NAME: usize = 48;
 const DEFAULT: usize = 8;
 
 const SEQUENCE: u8 = 12;
@@ -19,12 +20,15 @@ const CHOICE: u8 = 13;
 const SEQUENCE_OF: u8 = 14;
 const SET_OF: u8 = 15;
 const MEMBER: u8 = 16;
-const MEMBER_BODY: usize = 38;
+/// What the body of a member has after the name.
+const MEMBER_FIELDS: usize = 6 + DEFAULT;
 const NAMED_BITS: u8 = 17;
 const BIT_NAME: u8 = 18;
 const BIT_NAME_BODY: usize = NAME + 1;
 const RDN_SEQUENCE: u8 = 19;
 const RDN: u8 = 20;
+/// A member whose name is too long for the other kind of member.
+const LONG_MEMBER: u8 = 21;
 
 /// A type that has no parts.
 #[derive(Clone, Copy, Debug, PartialEq, Eq)]
@@ -265,7 +269,8 @@ fn split(octets: &[u8]) -> Option<Vec<Row<'_>>> {
         let size = match kind {
             SEQUENCE | CHOICE | NAMED_BITS => 1,
             SEQUENCE_OF | SET_OF => 2,
-            MEMBER => MEMBER_BODY,
+            MEMBER => NAME + MEMBER_FIELDS,
+            LONG_MEMBER => LONG_NAME + MEMBER_FIELDS,
             BIT_NAME => BIT_NAME_BODY,
             RDN_SEQUENCE | RDN => 0,
             _ => Basic::from_kind(kind).map(|_| 0)?,
@@ -285,11 +290,11 @@ fn type_rows(rows: &[Row]) -> Option<Vec<usize>> {
     let mut found = Vec::new();
     let mut at = 0;
     while let Some(&(kind, body)) = rows.get(at) {
-        let (follower, allowed) = match kind {
-            MEMBER | BIT_NAME => return None,
-            SEQUENCE => (MEMBER, 0..=MAX_MEMBERS),
-            CHOICE => (MEMBER, 1..=MAX_MEMBERS),
-            NAMED_BITS => (BIT_NAME, 1..=MAX_BIT_NAMES),
+        let (followers, allowed): (&[u8], _) = match kind {
+            MEMBER | LONG_MEMBER | BIT_NAME => return None,
+            SEQUENCE => (&[MEMBER, LONG_MEMBER], 0..=MAX_MEMBERS),
+            CHOICE => (&[MEMBER, LONG_MEMBER], 1..=MAX_MEMBERS),
+            NAMED_BITS => (&[BIT_NAME], 1..=MAX_BIT_NAMES),
             _ => {
                 found.push(at);
                 at += 1;
@@ -298,7 +303,7 @@ fn type_rows(rows: &[Row]) -> Option<Vec<usize>> {
         };
         let count = usize::from(body[0]);
         let owned = rows.get(at + 1..at + 1 + count)?;
-        if !allowed.contains(&count) || owned.iter().any(|row| row.0 != follower) {
+        if !allowed.contains(&count) || owned.iter().any(|row| !followers.contains(&row.0)) {
             return None;
         }
         found.push(at);
@@ -314,8 +319,9 @@ fn named<'t>(octets: &[u8], types: &[Option<Rc<Type<'t>>>]) -> Option<Rc<Type<'t
 }
 
 fn member<'t>(row: usize, body: &'t [u8], types: &[Option<Rc<Type<'t>>>]) -> Option<Member<'t>> {
-    let (name, body) = body.split_at(NAME);
-    let name = identifier(name)?;
+    let (field, body) = body.split_at(body.len() - MEMBER_FIELDS);
+    // A name that fits into the shorter field stands in no other.
+    let name = identifier(field).filter(|name| field.len() == NAME || name.len() > NAME)?;
     let ty = named(body, types)?;
     let (mode, number, presence, length) = (body[2], body[3], body[4], usize::from(body[5]));
     if number > MAX_TAG || length > DEFAULT {

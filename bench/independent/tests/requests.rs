@@ -2,7 +2,7 @@
 
 mod common;
 
-use common::member;
+use common::{licence_table, long_member, member, LICENCE};
 use independent::draw::encoded;
 use independent::{ask, check_table, check_value, list, Truth};
 
@@ -1143,7 +1143,6 @@ fn tables_of_names() {
         assert_eq!(check_table(&[vec![17, 1, kind], vec![2]].concat()), Err(2));
         assert_eq!(check_table(&[vec![12, 1, kind], vec![2]].concat()), Err(2));
     }
-    assert_eq!(check_table(&[21]), Err(2));
 
     // Two members of these types, with the second type after the first.
     let two = |group: u8, presence: u8, first: &[u8], second: &[u8]| {
@@ -1192,4 +1191,433 @@ fn tables_of_names() {
     };
     assert_eq!(asked(""), UNDEFINED);
     assert_eq!(asked("component \"rdnSequence\","), TRUE);
+}
+
+// longer member names.
+
+/// 29 letters.
+const CATEGORY: &str = "educationalConcessionCategory";
+/// As long as a name may be.
+const LONGEST: &str = "a-name-of-48-characters-begins-as-another-does-1";
+
+/// A SEQUENCE or CHOICE of two members, and an INTEGER, which is row 3.
+fn two(group: u8, first: Vec<u8>, second: Vec<u8>) -> Result<usize, u8> {
+    check_table(&[vec![group, 2], first, second, vec![2]].concat())
+}
+
+/// A table of up to 8,064 octets is looked at, a larger one is not, by each entry alike.
+#[test]
+fn sizes_of_tables() {
+    for (size, number) in
+        [(4992, 2), (4993, 2), (7515, 2), (7516, 2), (8063, 2), (8064, 2), (8065, 1), (9000, 1)]
+    {
+        for octet in [2, 0, 12, 16, 21] {
+            let table = vec![octet; size];
+            assert_eq!(check_table(&table), Err(number), "{size} {octet}");
+            assert_eq!(check_value(&table, &LICENCE), Err(number), "{size} {octet}");
+            assert_eq!(list(&table, &LICENCE, Some(b"x"), true, &mut []), Err(number), "{size} {octet}");
+            assert_eq!(ask(&table, &LICENCE, b"x", BUDGET), Err(number), "{size} {octet}");
+        }
+    }
+    assert_eq!(check_table(&[]), Err(1));
+    // 128 rows of 63 octets have this size, but none of them is a type.
+    let members = long_member(LONGEST, 1, 0, 0, 0, &[]).repeat(128);
+    assert_eq!((members.len(), check_table(&members)), (8064, Err(2)));
+    // Another size that isn't good goes first too.
+    assert_eq!(check_value(&[2; 8064], &[2]), Err(1));
+    assert_eq!(ask(&[2; 8064], &LICENCE, b"x", 65_536), Err(1));
+}
+
+/// SEQUENCEs of long members of the last row's type, which is given: 16 in each and what is left in the last.
+fn many_long(members: usize, last: &[u8]) -> Vec<u8> {
+    let groups = members.div_ceil(16);
+    let row = |at: usize| {
+        let name = format!("{}{}", &LONGEST[..47], char::from(b'a' + at as u8));
+        long_member(&name, (groups + members) as u16, 0, 0, 0, &[])
+    };
+    let mut table = Vec::new();
+    for group in 0..groups {
+        let count = (members - 16 * group).min(16);
+        table.extend([12, count as u8]);
+        table.extend((0..count).flat_map(row));
+    }
+    table.extend(last);
+    table
+}
+
+/// The largest table that is admitted: 8 SEQUENCEs, 119 long members and a SEQUENCE without any.
+#[test]
+fn largest_table() {
+    let largest = many_long(119, &[12, 0]);
+    assert_eq!((largest.len(), check_table(&largest)), (7515, Ok(128)));
+    assert_eq!(check_table(&many_long(119, &[2])), Ok(128));
+    // The last row has to be a type without a row number; 129 rows are too many.
+    assert_eq!(check_table(&many_long(119, &[14, 0, 127])), Err(2));
+    assert_eq!(check_table(&many_long(119, &[12, 0, 2])), Err(2));
+    assert_eq!(check_table(&many_long(120, &[2])), Err(2));
+    assert_eq!(check_table(&largest[..7514]), Err(2));
+    assert_eq!(check_table(&largest[..7513]), Err(2));
+
+    // 16 empty SEQUENCEs; the last member's name.
+    let value = encoded(0x30, &[0x30, 0].repeat(16));
+    let last = format!("{}p", &LONGEST[..47]);
+    let mut room = [9999; 4];
+    assert_eq!(check_value(&largest, &value), Ok(()));
+    assert_eq!(list(&largest, &value, Some(last.as_bytes()), true, &mut room), Ok(1));
+    assert_eq!(room, [0, 32, 2, 9999]);
+    let filter = format!("item:{{component \"{last}\",rule presentMatch,value NULL}}");
+    assert_eq!(ask(&largest, &value, filter.as_bytes(), BUDGET), TRUE);
+    // One octet of the last name of all makes it the one before.
+    let mut twice = largest.clone();
+    assert_eq!(twice[7515 - 2 - 15], b'g');
+    twice[7515 - 2 - 15] = b'f';
+    assert_eq!(check_table(&twice), Err(2));
+}
+
+/// A name of 25 to 48 characters stands in the long field, a shorter one in the other: each has one form.
+#[test]
+fn forms_of_long_names() {
+    let one = |row: Vec<u8>| check_table(&[vec![12, 1], row, vec![2]].concat());
+    for length in 1..=48 {
+        let name = "m".repeat(length);
+        let expected = if length > 24 { Ok(3) } else { Err(2) };
+        assert_eq!(one(long_member(&name, 2, 0, 0, 0, &[])), expected, "{length}");
+        if length <= 24 {
+            assert_eq!(one(member(&name, 2, 0, 0, 0, &[])), Ok(3), "{length}");
+        }
+    }
+    for (name, expected) in [
+        (CATEGORY, Ok(3)),
+        (LONGEST, Ok(3)),
+        ("a-name-of-25-characters-1", Ok(3)),
+        ("a-name-of-24-characters1", Err(2)),
+        ("aA1-bB2-cC3-dD4-eE5-fF6-gG7", Ok(3)),
+        ("", Err(2)),
+        // Not the form of a name.
+        ("EducationalConcessionCategory", Err(2)),
+        ("1educationalConcessionCategory", Err(2)),
+        ("-educationalConcessionCategory", Err(2)),
+        ("educationalConcessionCategory-", Err(2)),
+        ("educational--concessionCategory", Err(2)),
+        ("educationalConcession--Category", Err(2)),
+        ("educational_concession_category", Err(2)),
+        ("educational concession category", Err(2)),
+        ("educational.concession.category", Err(2)),
+        ("educationalConcessionCategori\u{e9}", Err(2)),
+        ("a-name-of-48-characters-begins-as-another-does--", Err(2)),
+        ("a-name-of-48-characters-begins-as-another-does1-", Err(2)),
+        // Zeros are after the name only.
+        ("\0educationalConcessionCategory", Err(2)),
+        ("educational\0ConcessionCategory", Err(2)),
+        ("a-name-of-24-characters1\0a", Err(2)),
+        ("a-name-of-25-characters-1\0a", Err(2)),
+        ("educationalConcessionCategory\0\0\0\0\0\0\0\0\0\0\0\0\0\0\0\0\0\0a", Err(2)),
+        ("a-name-of-48-characters-begins-as-another-does\x001", Err(2)),
+    ] {
+        assert_eq!(one(long_member(name, 2, 0, 0, 0, &[])), expected, "{name:?}");
+    }
+    // The body is as long as the kind says.
+    let row = long_member(CATEGORY, 2, 0, 0, 0, &[]);
+    assert_eq!(row.len(), 1 + 62);
+    let cut = |length: usize| check_table(&[&[12, 1][..], &row[..length], &[2]].concat());
+    assert_eq!([cut(63), cut(62), cut(39), cut(1)], [Ok(3), Err(2), Err(2), Err(2)]);
+    assert_eq!(check_table(&[21]), Err(2));
+    let as_other_kind = |kind: u8, row: &[u8]| check_table(&[&[12, 1, kind][..], &row[1..], &[2]].concat());
+    assert_eq!(as_other_kind(16, &row), Err(2));
+    assert_eq!(as_other_kind(21, &member("a", 2, 0, 0, 0, &[])), Err(2));
+}
+
+/// A long member is a member in everything that stands after its name.
+#[test]
+fn fields_of_long_members() {
+    let b = || member("b", 3, 0, 0, 0, &[]);
+    let long = |ty, mode, number, presence, default: &[u8]| {
+        two(12, long_member(CATEGORY, ty, mode, number, presence, default), b())
+    };
+    for (found, expected) in [
+        (long(3, 0, 0, 0, &[]), Ok(4)),
+        // Row numbers are those of later types.
+        (long(0, 0, 0, 0, &[]), Err(2)),
+        (long(1, 0, 0, 0, &[]), Err(2)),
+        (long(2, 0, 0, 0, &[]), Err(2)),
+        (long(4, 0, 0, 0, &[]), Err(2)),
+        (long(0x0103, 0, 0, 0, &[]), Err(2)),
+        // Tags.
+        (long(3, 0, 1, 0, &[]), Err(2)),
+        (long(3, 1, 30, 0, &[]), Ok(4)),
+        (long(3, 1, 31, 0, &[]), Err(2)),
+        (long(3, 2, 0, 0, &[]), Ok(4)),
+        (long(3, 3, 0, 0, &[]), Err(2)),
+        // Presence; an untagged INTEGER stands after it.
+        (long(3, 0, 0, 1, &[]), Err(2)),
+        (long(3, 2, 0, 1, &[]), Ok(4)),
+        (long(3, 2, 0, 3, &[]), Err(2)),
+        (long(3, 2, 0, 1, &[1]), Err(2)),
+        // Defaults.
+        (long(3, 2, 0, 2, &[]), Err(2)),
+        (long(3, 2, 0, 2, &[1]), Ok(4)),
+        (long(3, 2, 0, 2, &[0, 1]), Err(2)),
+        (long(3, 2, 0, 2, &[1, 2, 3, 4, 5, 6, 7, 8]), Ok(4)),
+        (long(3, 0, 0, 2, &[1]), Err(2)),
+    ] {
+        assert_eq!(found, expected);
+    }
+    let mut filled = long_member(CATEGORY, 3, 2, 0, 2, &[1]);
+    assert_eq!(filled[54], 1);
+    filled[62] = 1;
+    assert_eq!(two(12, filled.clone(), b()), Err(2));
+    filled[62] = 0;
+    filled[54] = 9;
+    assert_eq!(two(12, filled, b()), Err(2));
+
+    // Alternatives: mandatory, of different tags, and no implicit tag on a CHOICE.
+    let choice = |mode, presence| two(13, long_member(CATEGORY, 3, mode, 0, presence, &[]), b());
+    assert_eq!([choice(2, 0), choice(1, 0), choice(0, 0), choice(2, 1)], [Ok(4), Ok(4), Err(2), Err(2)]);
+    let of_choice = |mode| {
+        let rows = [member("a", 4, 0, 0, 0, &[]), vec![2]].concat();
+        check_table(&[vec![12, 1], long_member(CATEGORY, 2, mode, 0, 0, &[]), vec![13, 1], rows].concat())
+    };
+    assert_eq!([of_choice(0), of_choice(1), of_choice(2)], [Ok(5), Ok(5), Err(2)]);
+    // A chain of 16 types is admitted, one of 17 isn't: rows 0, 2, 4, .. are SEQUENCEs.
+    let chain = |types: u16| {
+        let row = |at: u16| [vec![12, 1], long_member(LONGEST, 2 * at + 2, 0, 0, 0, &[])].concat();
+        check_table(&[(0..types - 1).flat_map(row).collect(), vec![2]].concat())
+    };
+    assert_eq!([chain(16), chain(17)], [Ok(31), Err(2)]);
+}
+
+/// Both kinds of member in one type, in any order; all of a name counts.
+#[test]
+fn mixed_members() {
+    let row = |name: &str, ty| {
+        if name.len() > 24 {
+            long_member(name, ty, 0, 0, 0, &[])
+        } else {
+            member(name, ty, 0, 0, 0, &[])
+        }
+    };
+    for (first, second, differ) in [
+        (CATEGORY, "b", true),
+        ("b", CATEGORY, true),
+        (CATEGORY, LONGEST, true),
+        (CATEGORY, CATEGORY, false),
+        (LONGEST, LONGEST, false),
+        // Alike in 24 characters, in 40, in 47, in all of the shorter one, and but for case.
+        ("educationalConcessionCat", CATEGORY, true),
+        ("educationalConcessionCategories", CATEGORY, true),
+        ("educationalConcessionCategor", CATEGORY, true),
+        ("a-name-of-48-characters1", LONGEST, true),
+        ("a-name-of-48-characters-begins-as-anothe2-does-1", LONGEST, true),
+        ("a-name-of-48-characters-begins-as-anotherDoes-1", LONGEST, true),
+        ("a-name-of-48-characters-begins-as-another-does-2", LONGEST, true),
+        ("a-name-of-48-characters-begins-as-another-does", LONGEST, true),
+        ("a-Name-of-48-characters-begins-as-another-does-1", LONGEST, true),
+    ] {
+        let expected = if differ { Ok(4) } else { Err(2) };
+        for group in [12, 13] {
+            let tagged = |mut row: Vec<u8>, number: u8| {
+                let at = row.len() - 12;
+                row[at..at + 2].copy_from_slice(&[2, number]);
+                row
+            };
+            let found = two(group, tagged(row(first, 3), 0), tagged(row(second, 3), 1));
+            assert_eq!(found, expected, "{first} {second}");
+            let found = two(group, tagged(row(second, 3), 0), tagged(row(first, 3), 1));
+            assert_eq!(found, expected, "{second} {first}");
+        }
+    }
+    // The same name may stand in two types.
+    let inner = || [vec![12, 1], row(CATEGORY, 4)].concat();
+    assert_eq!(check_table(&[vec![12, 1], row(CATEGORY, 2), inner(), vec![2]].concat()), Ok(5));
+    // 16 members of both kinds, and one more.
+    let many = |count: u8| {
+        let rows = (0..count).flat_map(|at| {
+            let letter = char::from(b'a' + at / 2);
+            let name = if at % 2 == 0 { CATEGORY } else { "m" };
+            row(&format!("{name}{letter}"), u16::from(count) + 1)
+        });
+        check_table(&[vec![12, count], rows.collect(), vec![2]].concat())
+    };
+    assert_eq!([many(15), many(16), many(17)], [Ok(17), Ok(18), Err(2)]);
+}
+
+/// Rows of kind 21 stand after a SEQUENCE or CHOICE and nowhere else; no other row has a long form.
+#[test]
+fn places_of_long_members() {
+    let long = || long_member(CATEGORY, 2, 0, 0, 0, &[]);
+    let bit = || named_bits(&[("a", 0)])[2..].to_vec();
+    for (rows, expected) in [
+        (vec![vec![12, 1], long(), vec![2]], Ok(3)),
+        (vec![vec![13, 1], long(), vec![2]], Ok(3)),
+        (vec![long(), vec![2, 2]], Err(2)),
+        (vec![vec![12, 0], long(), vec![2]], Err(2)),
+        (vec![vec![12, 1], long(), long(), vec![2]], Err(2)),
+        (vec![vec![12, 2], long(), vec![2]], Err(2)),
+        (vec![vec![2], long(), vec![2]], Err(2)),
+        (vec![vec![12, 1], member("a", 3, 0, 0, 0, &[]), long(), vec![2]], Err(2)),
+        (vec![vec![14, 0, 2], long(), vec![2]], Err(2)),
+        (vec![vec![14, 0, 1], vec![12, 1], long_member(CATEGORY, 3, 0, 0, 0, &[]), vec![2]], Ok(4)),
+        // Its row is no type.
+        (vec![vec![14, 0, 2], vec![12, 1], long_member(CATEGORY, 3, 0, 0, 0, &[]), vec![2]], Err(2)),
+        // Names of bits.
+        (vec![vec![17, 1], bit()], Ok(2)),
+        (vec![vec![17, 1], long(), vec![2]], Err(2)),
+        // Cut to 24 characters, it would be the name of bit 49.
+        (vec![vec![17, 1], long_member("a-name-of-24-characters11", 2, 0, 0, 0, &[]), vec![2]], Err(2)),
+        (vec![vec![17, 2], bit(), long(), vec![2]], Err(2)),
+        (vec![vec![12, 2], long(), bit(), vec![2]], Err(2)),
+        (vec![named_bits(&[("a-name-of-24-characters1", 0)])], Ok(2)),
+        (vec![vec![17, 1, 18], CATEGORY.bytes().chain([0; 19]).collect(), vec![0]], Err(2)),
+        (vec![vec![17, 1, 18], CATEGORY.bytes().collect(), vec![0]], Err(2)),
+        // The next kind isn't known.
+        (vec![vec![12, 1, 22], long()[1..].to_vec(), vec![2]], Err(2)),
+        (vec![vec![22]], Err(2)),
+    ] {
+        assert_eq!(check_table(&rows.concat()), expected, "{rows:02X?}");
+    }
+}
+
+/// A licence whose parts have a concession category, a member alike in its first 24 letters, and a CHOICE.
+fn concessions() -> Vec<u8> {
+    [
+        vec![12, 2],
+        member("event", 3, 0, 0, 0, &[]),
+        member("parts", 4, 0, 0, 0, &[]),
+        vec![8, 14, 0, 5, 12, 4],
+        long_member(CATEGORY, 10, 0, 0, 0, &[]),
+        member("educationalConcessionCat", 11, 2, 0, 1, &[]),
+        long_member("educationalConcessionCategoryCopies", 11, 2, 1, 2, &[1]),
+        long_member("educationalConcessionCategoryReason", 12, 1, 2, 1, &[]),
+        vec![9, 2, 13, 2],
+        member("content", 15, 0, 0, 0, &[]),
+        long_member("educationalConcessionCategory-2", 16, 2, 3, 0, &[]),
+        vec![9, 2],
+    ]
+    .concat()
+}
+
+/// References use the whole name, whatever begins as it does.
+#[test]
+fn references_of_long_names() {
+    let table = concessions();
+    // Row 5 is the part, rows 6 to 9 its members, row 10 PrintableString, row 11 INTEGER, row 12 the CHOICE.
+    assert_eq!(check_table(&table), Ok(17));
+    let value = [
+        // The event "e", the list from 5 on.
+        0x30, 0x1E, 0x0C, 0x01, 0x65, 0x30, 0x19, //
+        // From 7 on "pupil" and 3.
+        0x30, 0x0A, 0x13, 0x05, 0x70, 0x75, 0x70, 0x69, 0x6C, 0x80, 0x01, 0x03, //
+        // From 19 on "x", 2 and, chosen, 7.
+        0x30, 0x0B, 0x13, 0x01, 0x78, 0x81, 0x01, 0x02, 0xA2, 0x03, 0x83, 0x01, 0x07,
+    ];
+    assert_eq!(check_value(&table, &value), Ok(()));
+    let mut default = value;
+    default[26] = 1;
+    assert_eq!(check_value(&table, &default), Err(4));
+
+    let answers = |of_parts: &str, rule: &str, text: &str| {
+        let reference = format!("parts.*.{of_parts}");
+        let listed = |defaults| {
+            let mut room = [9999; 6];
+            list(&table, &value, Some(reference.as_bytes()), defaults, &mut room)
+                .map(|count| room[..3 * count].to_vec())
+        };
+        let filter = format!("item:{{component \"{reference}\",rule {rule},value {text}}}");
+        (listed(true), listed(false), ask(&table, &value, filter.as_bytes(), BUDGET))
+    };
+    let (whole, first_24) = (CATEGORY, "educationalConcessionCat");
+    assert_eq!(first_24, &whole[..24]);
+    for (reference, rule, text, listed, without, expected) in [
+        (whole, "caseIgnoreMatch", "\"PUPIL\"", vec![0, 9, 7, 0, 21, 3], vec![0, 9, 7, 0, 21, 3], TRUE),
+        (whole, "integerMatch", "3", vec![0, 9, 7, 0, 21, 3], vec![0, 9, 7, 0, 21, 3], UNDEFINED),
+        (first_24, "integerMatch", "3", vec![0, 16, 3], vec![0, 16, 3], TRUE),
+        (first_24, "caseIgnoreMatch", "\"pupil\"", vec![0, 16, 3], vec![0, 16, 3], UNDEFINED),
+        (
+            "educationalConcessionCategoryCopies",
+            "integerMatch",
+            "2",
+            vec![1, 7, 8, 0, 24, 3],
+            vec![0, 24, 3],
+            Ok((Truth::True, 2)),
+        ),
+        ("educationalConcessionCategoryReason", "presentMatch", "NULL", vec![0, 29, 3], vec![0, 29, 3], TRUE),
+        (
+            "educationalConcessionCategoryReason.educationalConcessionCategory-2",
+            "integerMatch",
+            "7",
+            vec![0, 29, 3],
+            vec![0, 29, 3],
+            TRUE,
+        ),
+        (
+            "educationalConcessionCategoryReason.content",
+            "caseExactMatch",
+            "\"x\"",
+            vec![],
+            vec![],
+            Ok((Truth::False, 0)),
+        ),
+    ] {
+        assert_eq!(answers(reference, rule, text), (Ok(listed), Ok(without), expected), "{reference}");
+    }
+    for reference in [
+        "educationalConcessionCa",
+        "educationalConcessionCate",
+        "educationalConcessionCategor",
+        "educationalConcessionCategorz",
+        "educationalConcessionCategory1",
+        "educationalConcessionCategoryCopie",
+        "educationalConcessionCategoryCopiesOfAPart",
+        "EducationalConcessionCategory",
+        "educationalConcessioncategory",
+        "educationalConcessionCategory.",
+        "educationalConcessionCategory.educationalConcessionCategory",
+        "educationalConcessionCategoryReason.educationalConcessionCat",
+        "educationalConcessionCategoryReason.educationalConcessionCategory",
+        "educationalConcessionCategory\0",
+    ] {
+        let expected = (Err(3), Err(3), UNDEFINED);
+        assert_eq!(answers(reference, "presentMatch", "NULL"), expected, "{reference:?}");
+    }
+}
+
+/// A name isn't cut: of one member with a long name, no shorter and no longer name is a reference.
+#[test]
+fn long_names_cut() {
+    for name in [CATEGORY, LONGEST, "a-name-of-25-characters-1"] {
+        let table = [vec![12, 1], long_member(name, 2, 0, 0, 0, &[]), vec![2]].concat();
+        let value = [0x30, 3, 2, 1, 5];
+        let longer = name.to_string() + "1";
+        for length in 1..=longer.len() {
+            let reference = &longer[..length];
+            let is_name = length == name.len();
+            let filter = format!("item:{{component \"{reference}\",rule integerMatch,value 5}}");
+            let expected = if is_name { TRUE } else { UNDEFINED };
+            assert_eq!(ask(&table, &value, filter.as_bytes(), BUDGET), expected, "{filter}");
+            let mut room = [0; 3];
+            let listed = list(&table, &value, Some(reference.as_bytes()), true, &mut room);
+            assert_eq!(listed, if is_name { Ok(1) } else { Err(3) }, "{reference}");
+            assert_eq!(room, if is_name { [0, 2, 3] } else { [0; 3] });
+        }
+    }
+}
+
+/// The licence's table reads as before. A short name in a long field isn't admitted there, a long one is.
+#[test]
+fn licence_with_long_fields() {
+    assert_eq!(check_table(&licence_table()), Ok(12));
+    let rows = |name: Vec<u8>| [&licence_table()[..2], &name, &licence_table()[2 + 39..]].concat();
+    assert_eq!(check_table(&rows(member("event", 4, 0, 0, 0, &[]))), Ok(12));
+    assert_eq!(check_table(&rows(long_member("event", 4, 0, 0, 0, &[]))), Err(2));
+    let table = rows(long_member("educationalEventOfTheLicence", 4, 0, 0, 0, &[]));
+    assert_eq!(check_table(&table), Ok(12));
+    let asked = |table: &[u8], reference: &str| {
+        let filter = format!("item:{{component \"{reference}\",rule caseIgnoreMatch,value \"E1\"}}");
+        ask(table, &LICENCE, filter.as_bytes(), BUDGET)
+    };
+    assert_eq!(asked(&licence_table(), "event"), TRUE);
+    assert_eq!(asked(&table, "event"), UNDEFINED);
+    assert_eq!(asked(&table, "educationalEventOfTheLicence"), TRUE);
+    let copies = b"item:{component \"parts.*.copies\",rule integerMatch,value 3}";
+    assert_eq!(ask(&table, &LICENCE, copies, BUDGET), Ok((Truth::True, 2)));
 }

@@ -90,6 +90,7 @@ fn kinds(table: &[u8]) -> Vec<u8> {
             14 | 15 => 3,
             16 => 39,
             18 => 26,
+            21 => 63,
             _ => 1,
         };
         rest = rest.get(size..).unwrap_or(&[]);
@@ -97,12 +98,20 @@ fn kinds(table: &[u8]) -> Vec<u8> {
     found
 }
 
-/// Drawn questions are answered. A good part of them is about named bits and about names, with each kind of answer.
+/// Whether a text has the drawn name of a member that is too long for kind 16.
+fn has_long_name(text: &[u8]) -> bool {
+    let names = text.split(|octet| !octet.is_ascii_alphanumeric() && *octet != b'-');
+    names.into_iter().any(|name| name.len() > 24 && !name.ends_with(b"Match"))
+}
+
+/// Drawn questions are answered. A good part of them is about named bits, distinguished names and long names of
+/// members, with each kind of answer.
 #[test]
 fn drawn_questions() {
     let mut draw = independent::draw::Draw::new(1);
-    let (mut questions, mut about_bits, mut about_names, mut long) = (0, 0, 0, 0);
+    let (mut questions, mut about_bits, mut about_names, mut about_members, mut long) = (0, 0, 0, 0, 0);
     let (mut bit_answers, mut name_answers) = (BTreeMap::new(), BTreeMap::new());
+    let (mut member_answers, mut listings) = (BTreeMap::new(), BTreeMap::new());
     for _ in 0..4000 {
         let drawn = draw.case();
         let mut input = Input::new(&drawn);
@@ -110,27 +119,44 @@ fn drawn_questions() {
         let kinds = kinds(table);
         let named_bits = kinds.contains(&17);
         let names = kinds.contains(&19) || kinds.contains(&20);
+        let members = kinds.contains(&21);
         for _ in 0..count {
             questions += 1;
             about_bits += usize::from(named_bits);
             about_names += usize::from(names);
-            if let Question::Filter(filter, budget) = read_question(&mut input).expect("a question") {
-                let answer = ask(table, value, filter, budget).map(|(truth, _)| format!("{truth:?}"));
-                let has = |text: &[u8]| filter.windows(text.len()).any(|word| word == text);
-                if named_bits && has(b"bitStringMatch,value {") {
-                    *bit_answers.entry(answer.clone()).or_insert(0) += 1;
+            about_members += usize::from(members);
+            let (filter, budget) = match read_question(&mut input).expect("a question") {
+                Question::Filter(filter, budget) => (filter, budget),
+                Question::List { reference, defaults, room } => {
+                    if members && reference.is_some_and(has_long_name) {
+                        let answer = list(table, value, reference, defaults, &mut vec![0; room]);
+                        *listings.entry(answer.map(|count| count.min(1))).or_insert(0) += 1;
+                    }
+                    continue;
                 }
-                if names && (has(b"distinguishedNameMatch,value \"") || has(b"rdnMatch,value \"")) {
-                    *name_answers.entry(answer).or_insert(0) += 1;
-                    long += usize::from(value.len() > 1000 || filter.len() > 500);
-                }
+            };
+            let answer = ask(table, value, filter, budget).map(|(truth, _)| format!("{truth:?}"));
+            let has = |text: &[u8]| filter.windows(text.len()).any(|word| word == text);
+            if members && has_long_name(filter) {
+                *member_answers.entry(answer.clone()).or_insert(0) += 1;
+            }
+            if named_bits && has(b"bitStringMatch,value {") {
+                *bit_answers.entry(answer.clone()).or_insert(0) += 1;
+            }
+            if names && (has(b"distinguishedNameMatch,value \"") || has(b"rdnMatch,value \"")) {
+                *name_answers.entry(answer).or_insert(0) += 1;
+                long += usize::from(value.len() > 1000 || filter.len() > 500);
             }
         }
     }
     assert!(about_bits * 6 > questions, "{about_bits} of {questions}");
     assert!(about_names * 5 > questions, "{about_names} of {questions}");
     assert!(long > 500, "{long} of {questions}");
-    for answers in [bit_answers, name_answers] {
+    assert!(about_members * 5 > questions, "{about_members} of {questions}");
+    for answer in [Ok(0), Ok(1), Err(1), Err(2), Err(3), Err(4), Err(6)] {
+        assert!(listings.get(&answer).is_some_and(|&count| count > 10), "{answer:?} in {listings:?}");
+    }
+    for answers in [bit_answers, name_answers, member_answers] {
         for answer in ["True", "False", "Undefined"]
             .map(|truth| Ok(truth.to_string()))
             .into_iter()

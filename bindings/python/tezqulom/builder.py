@@ -6,9 +6,9 @@
     >>> len(build(Licence))
     206
 
-In a name that is a keyword argument `_` stands for a hyphen; names can be given in a dict as well. Tags and presence stand on members:
-`Explicit(0, ..)`, `Implicit(0, ..)`, `Optional(..)`, `Default(.., value)`, in any order. A BIT STRING whose bits have names is written with their
-numbers, as in ASN.1:
+In a name that is a keyword argument `_` stands for a hyphen; names can be given in a dict as well. A member's name has 1 to 48 characters, a named
+bit's 1 to 24. Tags and presence stand on members: `Explicit(0, ..)`, `Implicit(0, ..)`, `Optional(..)`, `Default(.., value)`, in any order. A BIT
+STRING whose bits have names is written with their numbers, as in ASN.1:
 
     >>> Rights = BitString(print=0, perform=1, record=2)
     >>> len(build(Rights))
@@ -33,8 +33,8 @@ from typing import Any, Callable, Dict, Iterator, List, NamedTuple, Optional as 
 
 from . import clauses
 from .engine import check_table
-from .rows import CONTEXT, DEFAULT, EXPLICIT, IMPLICIT, MANDATORY, MOST_ROWS, NONE, OPTIONAL, Row
-from .values import NAMES, NAME_FIELD, Kind, integer_contents
+from .rows import CONTEXT, DEFAULT, EXPLICIT, IMPLICIT, MANDATORY, MOST_ROWS, NONE, OPTIONAL, Row, member_row
+from .values import NAMES, NAME_FIELDS, Kind, integer_contents
 
 __all__ = ["BitString", "Boolean", "Choice", "Default", "Enumerated", "Explicit", "GeneralizedTime", "IA5String", "Implicit", "Integer", "Null",
            "ObjectIdentifier", "OctetString", "Optional", "PrintableString", "RDNSequence", "RelativeDistinguishedName", "Sequence", "SequenceOf", "Set",
@@ -191,11 +191,11 @@ class _Builder:
         count = len(below) if holder else len(described.bits)
         self._add(Row(described.kind, count=count, to=below[0][2] if below and not holder else None), path)
         for name, number in described.bits:
-            self._add(Row(Kind.NAMED_BIT, name=_field(name), number=number), path)
+            self._add(Row(Kind.NAMED_BIT, name=name.encode(), number=number), path)
         for name, one, key in below if holder else ():
             default = b"" if one.default is None else integer_contents(one.default) if one.type.kind is not Kind.BOOLEAN else b"\xff" if one.default else b"\0"
-            self._add(Row(Kind.MEMBER, to=key, name=_field(name), mode=one.mode, number=one.number,
-                          presence=one.presence, size=len(default), filled=default.ljust(8, b"\0")), _path(path, name))
+            self._add(member_row(name, to=key, mode=one.mode, number=one.number, presence=one.presence, size=len(default),
+                                 filled=default.ljust(8, b"\0")), _path(path, name))
 
     def _key(self, path: str, name: str, described: Type) -> Any:
         return ("", described) if self.shared else (_path(path, name), described)
@@ -203,11 +203,6 @@ class _Builder:
     def _add(self, row: Row, path: str) -> None:
         self.rows.append(row)
         self.paths.append(path)
-
-
-def _field(name: str) -> bytes:
-    """A name, filled with zeros."""
-    return name.encode().ljust(NAME_FIELD, b"\0")
 
 
 def _path(path: str, name: str) -> str:
@@ -252,10 +247,10 @@ def _settled(given: Any, path: str, depth: int = 1) -> Type:
     return described._replace(below=tuple(below))
 
 
-def _check_name(name: str, where: str) -> None:
-    """What a row can't hold of a name."""
-    if len(name.encode("utf-8", "replace")) > NAME_FIELD:
-        raise _fail(where, "a name has at most %d characters" % NAME_FIELD)
+def _check_name(name: str, where: str, kind: Kind) -> None:
+    """What a row of a kind can't hold of a name."""
+    if len(name.encode("utf-8", "replace")) > NAME_FIELDS[kind]:
+        raise _fail(where, "a %s's name has at most %d characters" % (kind.asn1, NAME_FIELDS[kind]))
 
 
 def _check_bits(described: Type, path: str) -> None:
@@ -263,14 +258,14 @@ def _check_bits(described: Type, path: str) -> None:
     for name, number in described.bits:
         if not isinstance(name, str):
             raise _fail(path, "named bit %r: its name is no text" % (name,))
-        _check_name(name, _path(path, name))
+        _check_name(name, _path(path, name), Kind.NAMED_BIT)
         if isinstance(number, bool) or not isinstance(number, int) or not 0 <= number <= clauses.MOST_BIT:
             raise _fail(path, "named bit %s: bit number %r, not 0 to %d" % (name, number, clauses.MOST_BIT))
 
 
 def _check_member(marked: Marked, name: str, where: str) -> None:
     """What a row can't hold of a member."""
-    _check_name(name, where)
+    _check_name(name, where, Kind.LONG_MEMBER)
     if not isinstance(marked.number, int) or not 0 <= marked.number <= clauses.MOST_TAG:
         raise _fail(where, "tag number %s, not 0 to %d" % (marked.number, clauses.MOST_TAG))
 

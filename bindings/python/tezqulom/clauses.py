@@ -5,11 +5,11 @@ stands. The clauses are then looked for in that row and its members.
 """
 
 import re
-from typing import Iterator, List, NamedTuple, Optional
+from typing import Dict, Iterator, List, NamedTuple, Optional, Tuple
 
-from .engine import Octets, Refusal, Refused, check_table
-from .rows import CONSTRUCTED, CONTEXT, DEFAULT, IMPLICIT, MANDATORY, MOST_ROWS, NONE, OPTIONAL, EXPLICIT, Row, Unreadable, from_row, read
-from .values import NAME_FIELD, Kind, printable
+from .engine import Octets, Refusal, Refused, check_table, counted
+from .rows import CONSTRUCTED, CONTEXT, DEFAULT, IMPLICIT, MANDATORY, MOST_ROWS, NONE, OPTIONAL, EXPLICIT, Row, Unreadable, from_row, member_kind, read
+from .values import MEMBERS, NAME_FIELDS, Kind, printable
 
 MOST_MEMBERS = 16
 MOST_NAMES = 16
@@ -20,8 +20,8 @@ _NAME = re.compile(rb"[a-z](-?[A-Za-z0-9])*")
 _LISTS = (Kind.SEQUENCE_OF, Kind.SET_OF)
 _HOLDERS = (Kind.SEQUENCE, Kind.CHOICE)
 _DEFAULTED = (Kind.BOOLEAN, Kind.INTEGER, Kind.ENUMERATED)
-_FOLLOWERS = {Kind.SEQUENCE: Kind.MEMBER, Kind.CHOICE: Kind.MEMBER, Kind.NAMED_BIT_STRING: Kind.NAMED_BIT}
-_OWNERS = {Kind.MEMBER: "SEQUENCE or CHOICE", Kind.NAMED_BIT: "BIT STRING"}
+_FOLLOWERS: Dict[Kind, Tuple[Kind, ...]] = {Kind.SEQUENCE: MEMBERS, Kind.CHOICE: MEMBERS, Kind.NAMED_BIT_STRING: (Kind.NAMED_BIT,)}
+_OWNERS = {**dict.fromkeys(MEMBERS, "SEQUENCE or CHOICE"), Kind.NAMED_BIT: "BIT STRING"}
 _BAD_NAME = "its name is not a lowercase letter, then letters, digits and single hyphens, no hyphen last"
 
 
@@ -90,18 +90,19 @@ def _placing(rows: List[Row]) -> Iterator[tuple]:
         yield None, "the table has %d rows, not 1 to %d" % (len(rows), MOST_ROWS)
     if not rows[0].kind.is_type:
         yield 0, "row 0 is a %s, not a type" % rows[0].kind.asn1
-    follower, owed = Kind.MEMBER, 0
+    followers: Tuple[Kind, ...] = ()
+    owed = 0
     for at, row in enumerate(rows):
-        if owed and row.kind is not follower:
-            yield at, "%s stands where a %s is counted: %d more" % (row.kind.asn1, follower.asn1, owed)
+        if owed and row.kind not in followers:
+            yield at, "%s stands where a %s is counted: %d more" % (row.kind.asn1, followers[0].asn1, owed)
         if row.kind.is_type:
-            follower, owed = _FOLLOWERS.get(row.kind, follower), row.count
+            followers, owed = _FOLLOWERS.get(row.kind, ()), row.count
             continue
         if not owed:
             yield at, "%s stands after no %s that counts it" % (_called(row), _OWNERS[row.kind])
         owed = max(0, owed - 1)
     if owed:
-        yield len(rows) - 1, "the table ends where a %s is counted: %d more" % (follower.asn1, owed)
+        yield len(rows) - 1, "the table ends where a %s is counted: %d more" % (followers[0].asn1, owed)
 
 
 def _shown(row: Row) -> str:
@@ -113,9 +114,8 @@ def _called(row: Row) -> str:
 
 
 def _good_name(row: Row) -> bool:
-    """Whether the octets of a name are one, filled with zeros."""
-    name = row.name.rstrip(b"\0")
-    return b"\0" not in name and _NAME.fullmatch(name) is not None
+    """Whether the octets of a name are one."""
+    return _NAME.fullmatch(row.name) is not None
 
 
 def _clauses(rows: List[Row], row: int) -> Iterator[tuple]:
@@ -159,7 +159,7 @@ def _named_bits(rows: List[Row], row: int, bits: range) -> Iterator[tuple]:
 def _pointer(rows: List[Row], at: int) -> Optional[str]:
     """What is wrong with the row that a row names."""
     to = rows[at].to or 0
-    whose = "%s: " % _called(rows[at]) if rows[at].kind is Kind.MEMBER else ""
+    whose = "%s: " % _called(rows[at]) if rows[at].kind in MEMBERS else ""
     if to <= at:
         return whose + "names row %d, not a later one" % to
     if to >= len(rows):
@@ -173,6 +173,9 @@ def _member(rows: List[Row], at: int, owner: Kind) -> Iterator[str]:
     kind = rows[row.to or 0].kind
     if not _good_name(row):
         yield _BAD_NAME
+    if row.kind is not member_kind(row.name):
+        least, most = NAME_FIELDS[Kind.MEMBER] + 1, NAME_FIELDS[row.kind]
+        yield "a name of %s in a row of kind %d, not %d to %d" % (counted(len(row.name), "character"), row.kind, least, most)
     if row.mode > IMPLICIT:
         yield "tag mode %d, not 0 to 2" % row.mode
     if row.number > (0 if row.mode == NONE else MOST_TAG):
@@ -204,7 +207,7 @@ def _default(row: Row, kind: Kind) -> Iterator[str]:
 
 def _good_default(row: Row, kind: Kind) -> bool:
     """Whether the engine takes a default's contents in a table of this member alone."""
-    alone = row._replace(to=2, mode=NONE, number=0, name=b"a".ljust(NAME_FIELD, b"\0"))
+    alone = row._replace(kind=Kind.MEMBER, to=2, mode=NONE, number=0, name=b"a")
     return admitted(b"".join(one.octets() for one in (Row(Kind.SEQUENCE, count=1), alone, Row(kind))))
 
 

@@ -10,7 +10,7 @@ from .library import CAnswer, library
 Octets = Union[bytes, bytearray, memoryview]
 Text = Union[str, Octets]
 
-LONGEST_TABLE = 4992
+LONGEST_TABLE = 8064
 LONGEST_VALUE = 4096
 LONGEST_FILTER = 2048
 MOST_TESTS = 65535

@@ -5,8 +5,8 @@ from typing import Any, Callable, Iterator, List, NamedTuple, Optional, Tuple, U
 
 from . import distinguished
 from .engine import Answer, Component, Count, Default, Octets, Refusal, Refused, Text, asker, check_value, counted, listing, part
-from .rows import CONSTRUCTED, DEFAULT, EXPLICIT, MANDATORY, Member, Row, Table
-from .values import NAMES, NAME_FIELD, Bits, Kind, Names, Plain, bit_string_contents, contents_of, encoded, gser, integer_contents, named_bits, plain
+from .rows import CONSTRUCTED, DEFAULT, EXPLICIT, MANDATORY, Member, Row, Table, member_row
+from .values import NAMES, Bits, Kind, Names, Plain, bit_string_contents, contents_of, encoded, gser, integer_contents, named_bits, plain
 
 _MOST_SHOWN = 32
 _NO_VALUE = b"\0\0"
@@ -270,7 +270,7 @@ def _name_rows(kind: Kind) -> bytes:
 
 def _members(named: Tuple[Tuple[str, Kind], ...], first: int) -> List[Row]:
     """Mandatory members whose types are the rows from one on."""
-    return [Row(Kind.MEMBER, to=first + at, name=name.encode().ljust(NAME_FIELD, b"\0")) for at, (name, _) in enumerate(named)]
+    return [member_row(name, to=first + at) for at, (name, _) in enumerate(named)]
 
 
 class _Search:

@@ -1,18 +1,18 @@
 """The rows of a table, the table of the rows from one on, and the row that a reference reaches."""
 
-from typing import Dict, Iterator, List, NamedTuple, Optional, Tuple
+from typing import Any, Dict, Iterator, List, NamedTuple, Optional, Tuple
 
 from .engine import Octets, check_table
-from .values import NAME_FIELD, Kind, Names, Plain, encoded, names_of, plain
+from .values import MEMBERS, NAME_FIELDS, Kind, Names, Plain, encoded, names_of, plain
 
 NONE, EXPLICIT, IMPLICIT = 0, 1, 2
 MANDATORY, OPTIONAL, DEFAULT = 0, 1, 2
 CONTEXT, CONSTRUCTED = 0x80, 0x20
-MEMBER_BODY = 38
 MOST_ROWS = 128
+_AFTER_NAME = 14  # octets of a member's row: the row of its type, tag mode, tag number, presence, length of the default, default
 _COUNTED = (Kind.SEQUENCE, Kind.CHOICE, Kind.NAMED_BIT_STRING)
-_BODIES = {**dict.fromkeys(Kind, 0), **dict.fromkeys(_COUNTED, 1), Kind.SEQUENCE_OF: 2, Kind.SET_OF: 2, Kind.MEMBER: MEMBER_BODY,
-           Kind.NAMED_BIT: NAME_FIELD + 1}
+_BODIES = {**dict.fromkeys(Kind, 0), **dict.fromkeys(_COUNTED, 1), Kind.SEQUENCE_OF: 2, Kind.SET_OF: 2,
+           **{kind: field + (_AFTER_NAME if kind in MEMBERS else 1) for kind, field in NAME_FIELDS.items()}}
 
 
 class Unreadable(ValueError):
@@ -32,7 +32,7 @@ class Row(NamedTuple):
     to: Optional[int] = None
     """The row that an element or a member is of."""
     name: bytes = b""
-    """The 24 octets of a member's name, or a named bit's."""
+    """The octets of a member's name, or a named bit's, without the zeros that fill their field."""
     mode: int = NONE
     number: int = 0
     """A member's tag number, or a named bit's number."""
@@ -45,7 +45,7 @@ class Row(NamedTuple):
     @property
     def identifier(self) -> str:
         """A member's name, or a named bit's."""
-        return self.name.rstrip(b"\0").decode("ascii", "backslashreplace")
+        return self.name.decode("ascii", "backslashreplace")
 
     @property
     def default(self) -> bytes:
@@ -57,23 +57,40 @@ class Row(NamedTuple):
         head = bytes([self.kind])
         if self.kind in _COUNTED:
             return head + bytes([self.count])
+        name = self.name.ljust(NAME_FIELDS.get(self.kind, 0), b"\0")
         if self.kind is Kind.NAMED_BIT:
-            return head + self.name + bytes([self.number])
+            return head + name + bytes([self.number])
         pointer = b"" if self.to is None else (self.to - less).to_bytes(2, "big")
-        if self.kind is not Kind.MEMBER:
+        if self.kind not in MEMBERS:
             return head + pointer
-        return head + self.name + pointer + bytes([self.mode, self.number, self.presence, self.size]) + self.filled
+        return head + name + pointer + bytes([self.mode, self.number, self.presence, self.size]) + self.filled
+
+
+def member_kind(name: bytes) -> Kind:
+    """The kind of a member's row, by the length of the member's name.
+
+    >>> member_kind(b"event").value, member_kind(b"educationalConcessionCategory").value
+    (16, 21)
+    """
+    return Kind.MEMBER if len(name) <= NAME_FIELDS[Kind.MEMBER] else Kind.LONG_MEMBER
+
+
+def member_row(identifier: str, **fields: Any) -> Row:
+    """The row of a member of this name, which has at most 48 octets."""
+    name = identifier.encode()
+    return Row(member_kind(name), name=name, **fields)
 
 
 def _row(kind: Kind, body: bytes) -> Row:
     """The row of a kind and its body."""
     if kind in _COUNTED:
         return Row(kind, count=body[0])
+    field = NAME_FIELDS.get(kind, 0)
+    name, rest = body[:field].rstrip(b"\0"), body[field:]
     if kind is Kind.NAMED_BIT:
-        return Row(kind, name=body[:NAME_FIELD], number=body[NAME_FIELD])
-    if kind is Kind.MEMBER:
-        return Row(kind, to=int.from_bytes(body[24:26], "big"), name=body[:NAME_FIELD], mode=body[26], number=body[27], presence=body[28],
-                   size=body[29], filled=body[30:])
+        return Row(kind, name=name, number=rest[0])
+    if kind in MEMBERS:
+        return Row(kind, to=int.from_bytes(rest[:2], "big"), name=name, mode=rest[2], number=rest[3], presence=rest[4], size=rest[5], filled=rest[6:])
     return Row(kind, to=int.from_bytes(body, "big")) if body else Row(kind)
 
 

@@ -9,7 +9,7 @@ from . import distinguished
 from .der import contents_of, dotted, encoded
 from .engine import LONGEST_VALUE, Octets, Refused, check_value
 
-__all__ = ["Bits", "Kind", "NAMES", "NAME_FIELD", "Names", "Plain", "Time", "bit_string_contents", "contents_of", "dotted", "encoded", "gser",
+__all__ = ["Bits", "Kind", "MEMBERS", "NAMES", "NAME_FIELDS", "Names", "Plain", "Time", "bit_string_contents", "contents_of", "dotted", "encoded", "gser",
            "integer_contents", "named_bits", "names_of", "plain", "printable", "time_of", "value_of"]
 
 
@@ -36,6 +36,7 @@ class Kind(enum.IntEnum):
     NAMED_BIT = 18
     RDN_SEQUENCE = 19
     RDN = 20
+    LONG_MEMBER = 21
 
     @property
     def asn1(self) -> str:
@@ -50,7 +51,7 @@ class Kind(enum.IntEnum):
     @property
     def is_type(self) -> bool:
         """Whether a row of the kind is a type; a member and a named bit only follow one."""
-        return self not in (Kind.MEMBER, Kind.NAMED_BIT)
+        return self not in (*MEMBERS, Kind.NAMED_BIT)
 
     @property
     def tag(self) -> Optional[int]:
@@ -60,12 +61,16 @@ class Kind(enum.IntEnum):
 
 _NAMES = dict(zip(Kind, ("BOOLEAN", "INTEGER", "ENUMERATED", "NULL", "OBJECT IDENTIFIER", "OCTET STRING", "BIT STRING", "UTF8String",
                          "PrintableString", "IA5String", "GeneralizedTime", "SEQUENCE", "CHOICE", "SEQUENCE OF", "SET OF", "member", "BIT STRING",
-                         "named bit", "RDNSequence", "RelativeDistinguishedName")))
+                         "named bit", "RDNSequence", "RelativeDistinguishedName", "member")))
 _TAGS = dict(zip(Kind, (0x01, 0x02, 0x0A, 0x05, 0x06, 0x04, 0x03, 0x0C, 0x13, 0x16, 0x18, 0x30)))
 _TAGS.update({Kind.SEQUENCE_OF: 0x30, Kind.SET_OF: 0x31, Kind.NAMED_BIT_STRING: 0x03, Kind.RDN_SEQUENCE: 0x30, Kind.RDN: 0x31})
 _BIT_STRINGS = (Kind.BIT_STRING, Kind.NAMED_BIT_STRING)
 NAMES = (Kind.RDN_SEQUENCE, Kind.RDN)
 """The kinds of distinguished names."""
+MEMBERS = (Kind.MEMBER, Kind.LONG_MEMBER)
+"""The kinds of members and alternatives. They differ in their names' lengths alone."""
+NAME_FIELDS = {Kind.MEMBER: 24, Kind.NAMED_BIT: 24, Kind.LONG_MEMBER: 48}
+"""The octets of the name in a row of each kind that has one."""
 _STRINGS = (Kind.UTF8_STRING, Kind.PRINTABLE_STRING, Kind.IA5_STRING)
 
 
@@ -94,8 +99,6 @@ Names = Tuple[Union[str, int], ...]
 """The bits that are 1 of a named BIT STRING: their names, and the numbers of those that have none."""
 Bits = Union[str, Iterable[Union[str, int]]]
 """Bits given for a named BIT STRING: a text of 0 and 1, or names and numbers."""
-NAME_FIELD = 24
-"""The octets of a name in a row."""
 
 
 def integer_contents(number: int) -> bytes:
@@ -180,7 +183,7 @@ def value_of(kind: int, octets: Octets) -> Plain:
 
 def _alone(kind: Kind) -> bytes:
     """A table of a basic kind alone; a named BIT STRING needs a name, and any does for its values."""
-    named = bytes([1, Kind.NAMED_BIT]) + b"a".ljust(NAME_FIELD, b"\0") + b"\0"
+    named = bytes([1, Kind.NAMED_BIT]) + b"a".ljust(NAME_FIELDS[Kind.NAMED_BIT], b"\0") + b"\0"
     return bytes([kind]) + (named if kind is Kind.NAMED_BIT_STRING else b"")
 
 

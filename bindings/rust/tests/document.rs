@@ -1,4 +1,5 @@
-//! Document 01's examples, document 02's named bits and distinguished names, and the numbers of the C header.
+//! Document 01's examples, document 02's named bits, distinguished names and long member names, and the numbers
+//! of the C header.
 
 use tezqulom::{
     ask, check_table, check_value, list_into, listing, part, room_for, Answer, Component, Refusal, Truth,
@@ -151,6 +152,68 @@ fn distinguished_names() {
     assert_eq!(check_value(&[0x14], &falling), Err(Refusal::Value));
 }
 
+/// The row of a mandatory member without a tag of its own, of this kind.
+fn member(kind: u8, name: &str, to: u8) -> Vec<u8> {
+    let field = if kind == 0x15 { 48 } else { 24 };
+    let mut row = vec![kind];
+    row.extend(name.bytes().chain(std::iter::repeat(0)).take(field));
+    row.extend([0, to]);
+    row.extend([0; 12]);
+    row
+}
+
+/// The table of a SEQUENCE of one INTEGER, whose name is in a row of this kind.
+fn with_name(kind: u8, name: &str) -> Vec<u8> {
+    [&[0x0C, 1], &member(kind, name, 2)[..], &[0x02]].concat()
+}
+
+#[test]
+fn long_names() {
+    let name = "educationalConcessionCategory";
+    let (table, value) = (with_name(0x15, name), [0x30, 0x03, 0x02, 0x01, 0x05]);
+    assert_eq!((table.len(), check_table(&table)), (66, Ok(3)));
+    assert_eq!(check_value(&table, &value), Ok(()));
+    let stored = Component::Stored { place: 2, length: 3 };
+    assert_eq!(listing(&table, &value, Some(name.as_bytes()), true), Ok(vec![stored]));
+    let cut = &name[..24];
+    assert_eq!(listing(&table, &value, Some(cut.as_bytes()), true), Err(Refusal::Form));
+    for (component, truth) in [(name, Truth::True), (cut, Truth::Undefined), (&name[..28], Truth::Undefined)]
+    {
+        let filter = format!("item:{{component \"{component}\",rule integerMatch,value 5}}");
+        let answer = ask(&table, &value, filter.as_bytes(), MOST_TESTS);
+        assert_eq!(answer, Ok(Answer { truth, tests: u64::from(truth == Truth::True) }), "{component}");
+    }
+    for (kind, letters, rows) in [
+        (0x10, 1, Ok(3)),
+        (0x10, 24, Ok(3)),
+        (0x15, 25, Ok(3)),
+        (0x15, 48, Ok(3)),
+        (0x15, 24, Err(Refusal::Table)),
+        (0x15, 1, Err(Refusal::Table)),
+        (0x15, 0, Err(Refusal::Table)),
+    ] {
+        assert_eq!(check_table(&with_name(kind, &"a".repeat(letters))), rows, "{kind} {letters}");
+    }
+}
+
+/// Tables up to 8,064 octets are not refused by their size; the largest that is admitted has 7,515.
+#[test]
+fn table_sizes() {
+    for octets in [4_992, 4_993, 8_064] {
+        assert_eq!(check_table(&vec![0x02; octets]), Err(Refusal::Table), "{octets}");
+    }
+    assert_eq!(check_table(&[0x02; 8_065]), Err(Refusal::Size));
+    let mut largest = vec![];
+    for members in [16, 16, 16, 16, 16, 16, 16, 7] {
+        largest.extend([0x0C, members]);
+        for letter in (b'a'..).take(members.into()) {
+            largest.extend(member(0x15, &char::from(letter).to_string().repeat(48), 127));
+        }
+    }
+    largest.extend([0x0C, 0x00]);
+    assert_eq!((largest.len(), check_table(&largest)), (7_515, Ok(128)));
+}
+
 #[test]
 fn references() {
     assert_eq!(listing(TABLE, VALUE, None, true), Ok(vec![Component::Stored { place: 0, length: 23 }]));
@@ -201,7 +264,8 @@ fn version_and_limits() {
     let version = ["MAJOR", "MINOR", "PATCH"].map(|part| defined(&format!("VERSION_{part}"))).join(".");
     assert_eq!(version, env!("CARGO_PKG_VERSION"));
     assert_eq!(defined("MAX_BUDGET"), MOST_TESTS.to_string());
-    assert_eq!(defined("MAX_VALUE"), "4096");
+    assert_eq!((defined("MAX_TABLE"), defined("MAX_VALUE")), ("8064".to_string(), "4096".to_string()));
+    assert_eq!((defined("MAX_NAME"), defined("MAX_LONG_NAME")), ("24".to_string(), "48".to_string()));
     assert_eq!((room_for(4096), room_for(4097), room_for(9)), (6144, 6144, 12));
 }
 

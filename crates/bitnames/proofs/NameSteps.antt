@@ -8,8 +8,8 @@ use native.Mathlib.Omega.{arith}
 use lib.ListN.{length}
 use Rattle.octets.specs.Pick.{pick}
 use Rattle.octets.specs.Octets.{same}
-use Rattle.rows.specs.Row.{nameAt, bitNumberAt, bitNamesAt}
-use Rattle.types.specs.Types.{unfilled, bitsFrom}
+use Rattle.rows.specs.Row.{nameAt, bitNumberAt, bitNamesAt, unfilled}
+use Rattle.types.specs.Types.{bitsFrom}
 use Rattle.table.specs.inner.Rows.{tableRows, placeAt}
 use Rattle.table.specs.inner.Words.{Worded}
 use Rattle.bitnames.specs.Names.{numberOf}

@@ -1,16 +1,16 @@
 -- Chains: the longest from a row on, by the longest from the rows that it names.
 use mathlib.Core.Path.{_≡_, refl, sym, ap, ap₂, _∙_}
-use mathlib.Core.Bool.{Bool, true, false}
+use mathlib.Core.Bool.{Bool, true, false, true≢false}
 use mathlib.Core.List.{List}
 use Prim.Native.Nat.{ℕ, zero, suc, _≤_, _<_, _+_}
 use native.Mathlib.Omega.{arith}
 use native.Mathlib.Numerals.{add-one}
-use borrow.Author.Tests.{eqb-true, eqb-false, ltb-true, ltb-false, leb-true, leb-false, le-leb, lt-leb}
-use lib.Dec.{ltb, leb, eqb, leb·suc-suc}
+use borrow.Author.Tests.{ltb-true, ltb-false, leb-true, leb-false, le-leb, lt-leb}
+use lib.Dec.{ltb, leb, leb·suc-suc}
 use Rattle.octets.specs.Pick.{pick, both, either, no, all}
 use Rattle.octets.specs.Octets.{larger}
 use Rattle.octets.proofs.Laws.{all-cong}
-use Rattle.rows.specs.Row.{kindAt, rowAt, isTypeKind, isGroup, isList, namedAt, membersAt}
+use Rattle.rows.specs.Row.{kindAt, rowAt, isTypeKind, isMember, isGroup, isList, namedAt, membersAt}
 use Rattle.rows.proofs.KindLaws.{member-no-type, member-no-group, list-type, list-no-group, group-type, list-names, names-none}
 use Rattle.clauses.specs.Clauses.{ofMember, chainFits}
 use Rattle.clauses.specs.inner.Work.{memberType, tallest}
@@ -69,20 +69,19 @@ module _ (t s : List ℕ) (i : ℕ) where
   pub chain-step : (n : ℕ) → chainFits (suc n) t s i
       ≡ pick (isList (kindAt t (rowAt s i))) (chainFits n t s (namedAt t (rowAt s i))) (all (ofMember (chainFits n t s) t s i) (membersAt t (rowAt s i)))
   unfolding chainFits all
-  chain-step n = go (isList (kindAt t (rowAt s i))) refl (eqb (kindAt t (rowAt s i)) 16) refl (isGroup (kindAt t (rowAt s i))) refl
+  chain-step n = go (isList (kindAt t (rowAt s i))) refl (isMember (kindAt t (rowAt s i))) refl (isGroup (kindAt t (rowAt s i))) refl
     where
-      go : (x : Bool) → isList (kindAt t (rowAt s i)) ≡ x → (y : Bool) → eqb (kindAt t (rowAt s i)) 16 ≡ y → (z : Bool) → isGroup (kindAt t (rowAt s i)) ≡ z
+      go : (x : Bool) → isList (kindAt t (rowAt s i)) ≡ x → (y : Bool) → isMember (kindAt t (rowAt s i)) ≡ y → (z : Bool) → isGroup (kindAt t (rowAt s i)) ≡ z
           → chainFits (suc n) t s i ≡ pick x (chainFits n t s (namedAt t (rowAt s i))) (all (ofMember (chainFits n t s) t s i) (membersAt t (rowAt s i)))
       go true l y m z g =
           rw (list-type (kindAt t (rowAt s i)) l, list-names t (rowAt s i) l, no-group t (rowAt s i) (list-no-group (kindAt t (rowAt s i)) l))
           (both-end (chainFits n t s (namedAt t (rowAt s i))))
       go false l true m z g =
-          let h = eqb-true (kindAt t (rowAt s i)) 16 m in
-          rw (member-no-type (kindAt t (rowAt s i)) h, no-group t (rowAt s i) (member-no-group (kindAt t (rowAt s i)) h))
+          rw (member-no-type (kindAt t (rowAt s i)) m, no-group t (rowAt s i) (member-no-group (kindAt t (rowAt s i)) m))
       go false l false m true g =
-          rw (group-type (kindAt t (rowAt s i)) g, names-none t (rowAt s i) l (eqb-false (kindAt t (rowAt s i)) 16 m))
+          rw (group-type (kindAt t (rowAt s i)) g, names-none t (rowAt s i) l (λ h. true≢false (sym h ∙ m)))
       go false l false m false g =
-          rw (names-none t (rowAt s i) l (eqb-false (kindAt t (rowAt s i)) 16 m), no-group t (rowAt s i) g)
+          rw (names-none t (rowAt s i) l (λ h. true≢false (sym h ∙ m)), no-group t (rowAt s i) g)
           (either-true (no (isTypeKind (kindAt t (rowAt s i)))))
 
   one-more : (d k : ℕ) → leb d k ≡ leb (d + 1) (suc k)

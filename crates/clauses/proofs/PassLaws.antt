@@ -3,52 +3,61 @@ use mathlib.Core.Path.{_≡_, refl, sym, ap, ap₂, _∙_}
 use mathlib.Core.Bool.{Bool, true, false}
 use mathlib.Core.Logic.{⊎-elim}
 use mathlib.Core.Option.{Option, none, some, Option·none-ne-some}
-use mathlib.Core.List.{List, [], _∷_}
+use mathlib.Core.List.{List, [], _∷_, _++_, append-assoc}
 use Prim.Native.Nat.{ℕ, zero, suc, _≤_, _<_, _+_, _-_, _*_}
 use native.Mathlib.Omega.{arith}
 use native.Mathlib.Numerals.{add-one}
 use native.Mathlib.Nat.{eq-or-lt-of-le, add-zero}
-use borrow.Author.Tests.{eqb-true, eqb-false, ltb-true, ltb-false, leb-true, leb-false, ne-eqb, lt-ltb, le-ltb, le-leb}
-use lib.Dec.{ltb, leb, eqb}
-use lib.ListN.{length, drop}
-use lib.Seq.{getD-drop, drop-drop}
+use borrow.Author.Tests.{eqb-true, eqb-false, ltb-true, ltb-false, eq-eqb, ne-eqb, lt-ltb, le-leb}
+use lib.Dec.{ltb, eqb}
+use lib.ListN.{length, drop, length-append, List·getD-append}
+use lib.Seq.{getD-at}
 use Rattle.octets.specs.Pick.{pick, both, either, no, all, consed}
 use Rattle.octets.specs.Octets.{every}
 use Rattle.octets.proofs.Laws.{both-true, all-cong, never}
 use Rattle.rows.specs.Paper.{tableLimits}
-use Rattle.rows.proofs.KindLaws.{member-or-bit, named-followers}
-use Rattle.rows.specs.Row.{kindAt, rowAt, rowSize, isTypeKind, isGroup, isList, isFollower, followerKind, followersAt, bitNamesAt, rowsFrom, rows, orNone}
-use Rattle.rows.specs.Body.{memberFormed, bitFormed, rowFormed}
+use Rattle.rows.proofs.KindLaws.{member-kind, member-or-bit, member-follows, member-not-bit, stands-short, stands-member, stands-bit, stands-follower}
+use Rattle.rows.proofs.KindLaws.{named-followers, whole-follower}
+use Rattle.rows.specs.Row.{kindAt, rowAt, rowSize, isTypeKind, isMember, isGroup, isFollower, followerKind, followersAt, standsAs, bitNamesAt, rowsFrom, rows}
+use Rattle.rows.specs.Row.{orNone}
+use Rattle.rows.specs.Body.{rowFormed}
+use Rattle.rows.specs.inner.Sizes.{WholeFollower}
 use Rattle.clauses.specs.Clauses.{everyRow, wholeRows, bodyFormed, isType, firstIsType, standing, followersStand, memberPlace}
 use Rattle.clauses.specs.Clauses.{sameName, differsFrom, newName, namesDiffer, sameNumber, numberDiffersFrom, newNumber, numbersDiffer}
-use Rattle.clauses.specs.inner.Work.{firstPass, placeFrom, differsAt, newNameAt, numberDiffersAt, newNumberAt, memberFits, bitFits, followerSize}
-use Rattle.clauses.proofs.NameSteps.{first-place, next-place, member-size, bit-size}
+use Rattle.clauses.specs.inner.Work.{firstPass, placeIn, differsAt, newNameAt, numberDiffersAt, newNumberAt, newAt}
 use Rattle.clauses.proofs.LaterSteps.{due-follower, no-followers, after-group, after-named}
 
 -- rows p and q of kind k that follow one row: their names differ, and of bits their numbers
 unfoldable apart : List ℕ → ℕ → ℕ → ℕ → Bool
 apart t k p q = both (no (sameName t p q)) (either (eqb k 16) (no (sameNumber t p q)))
 
--- row b differs so from each before it, where `place` gives their places
-pub newBy : List ℕ → ℕ → (ℕ → ℕ) → ℕ → Bool
-newBy t k place b = all (λ a. apart t k (place a) (place b)) b
+-- the row at p differs so from each of b rows, where `place` gives their places
+pub newAmong : List ℕ → ℕ → (ℕ → ℕ) → ℕ → ℕ → Bool
+newAmong t k place p b = all (λ a. apart t k (place a) p) b
+
+-- row b from each before it, and the row at p from those at gs
+abbrev newBy : List ℕ → ℕ → (ℕ → ℕ) → ℕ → Bool
+newBy t k place b = newAmong t k place (place b) b
+
+abbrev pub newAfter : List ℕ → ℕ → List ℕ → ℕ → Bool
+newAfter t k gs p = newAmong t k (rowAt gs) p (length gs)
 
 abbrev pub formed : List ℕ → ℕ → Bool
-formed t p = rowFormed (tableLimits .members) (tableLimits .name) t p
+formed t p = rowFormed (tableLimits .members) t p
 
--- so many rows of kind k are due; b of them, of which the first stands at `first`, stand before these rows
-unfoldable pub passes : List ℕ → ℕ → ℕ → ℕ → ℕ → List ℕ → Bool
-passes t k due first b [] = eqb due 0
-passes t k due first b (p ∷ ps) =
-    let type = passes t (followerKind (kindAt t p)) (followersAt t p) (p + rowSize (kindAt t p)) 0 ps in
-    let follower = passes t k (due - 1) first (b + 1) ps in
+-- so many rows of kind k are due; those of them that stand before these rows are at gs
+unfoldable pub passes : List ℕ → ℕ → ℕ → List ℕ → List ℕ → Bool
+passes t k due gs [] = eqb due 0
+passes t k due gs (p ∷ ps) =
+    let type = passes t (followerKind (kindAt t p)) (followersAt t p) [] ps in
+    let follower = passes t k (due - 1) (gs ++ (p ∷ [])) ps in
     pick (eqb due 0)
     (both (isTypeKind (kindAt t p)) (both (formed t p) type))
-    (both (eqb (kindAt t p) k) (both (formed t p) (both (newBy t k (placeFrom (rowSize k) first) b) follower)))
+    (both (eqb (standsAs (kindAt t p)) k) (both (formed t p) (both (newAfter t k gs p) follower)))
 
-abbrev pub goes : List ℕ → ℕ → ℕ → ℕ → ℕ → Option (List ℕ) → Bool
-goes t k due first b none = false
-goes t k due first b (some ps) = passes t k due first b ps
+abbrev pub goes : List ℕ → ℕ → ℕ → List ℕ → Option (List ℕ) → Bool
+goes t k due gs none = false
+goes t k due gs (some ps) = passes t k due gs ps
 
 pub by-test : {P : Type 0} (x : Bool) → (x ≡ true → P) → (x ≡ false → P) → P
 by-test true f g = f refl
@@ -56,12 +65,12 @@ by-test false f g = g refl
 
 -- ---- the test is those of bodies, of where rows stand, and of names and numbers
 -- the names and numbers are new
-unfoldable rowsNew : List ℕ → ℕ → ℕ → ℕ → ℕ → List ℕ → Bool
-rowsNew t k due first b [] = true
-rowsNew t k due first b (p ∷ ps) =
-    let type = rowsNew t (followerKind (kindAt t p)) (followersAt t p) (p + rowSize (kindAt t p)) 0 ps in
-    let follower = rowsNew t k (due - 1) first (b + 1) ps in
-    pick (eqb due 0) type (both (newBy t k (placeFrom (rowSize k) first) b) follower)
+unfoldable rowsNew : List ℕ → ℕ → ℕ → List ℕ → List ℕ → Bool
+rowsNew t k due gs [] = true
+rowsNew t k due gs (p ∷ ps) =
+    let type = rowsNew t (followerKind (kindAt t p)) (followersAt t p) [] ps in
+    let follower = rowsNew t k (due - 1) (gs ++ (p ∷ [])) ps in
+    pick (eqb due 0) type (both (newAfter t k gs p) follower)
 
 shuffle-follower : (d m n e s x : Bool) → both d (both m (both n (both e (both s x)))) ≡ both (both m e) (both (both d s) (both n x))
 shuffle-follower true true true true s x = refl
@@ -90,23 +99,23 @@ pub both-end : (x : Bool) → both x true ≡ x
 both-end true = refl
 both-end false = refl
 
-passes-split : (t : List ℕ) (k due first b : ℕ) (s : List ℕ)
-    → passes t k due first b s ≡ both (every (formed t) s) (both (standing t k due s) (rowsNew t k due first b s))
+passes-split : (t : List ℕ) (k due : ℕ) (gs s : List ℕ)
+    → passes t k due gs s ≡ both (every (formed t) s) (both (standing t k due s) (rowsNew t k due gs s))
 unfolding passes every standing rowsNew
-passes-split t k due first b [] = sym (both-end (eqb due 0))
-passes-split t k due first b (p ∷ ps) =
+passes-split t k due gs [] = sym (both-end (eqb due 0))
+passes-split t k due gs (p ∷ ps) =
     pick-both (eqb due 0) (formed t p) (every (formed t) ps)
-    (both (isTypeKind (kindAt t p)) (standing t (followerKind (kindAt t p)) (followersAt t p) ps)) (both (eqb (kindAt t p) k) (standing t k (due - 1) ps))
-    (rowsNew t (followerKind (kindAt t p)) (followersAt t p) (p + rowSize (kindAt t p)) 0 ps)
-    (both (newBy t k (placeFrom (rowSize k) first) b) (rowsNew t k (due - 1) first (b + 1) ps))
-    (both (isTypeKind (kindAt t p)) (both (formed t p) (passes t (followerKind (kindAt t p)) (followersAt t p) (p + rowSize (kindAt t p)) 0 ps)))
-    (both (eqb (kindAt t p) k) (both (formed t p) (both (newBy t k (placeFrom (rowSize k) first) b) (passes t k (due - 1) first (b + 1) ps))))
-    (ap (λ (x : Bool). both (isTypeKind (kindAt t p)) (both (formed t p) x))
-    (passes-split t (followerKind (kindAt t p)) (followersAt t p) (p + rowSize (kindAt t p)) 0 ps)
+    (both (isTypeKind (kindAt t p)) (standing t (followerKind (kindAt t p)) (followersAt t p) ps))
+    (both (eqb (standsAs (kindAt t p)) k) (standing t k (due - 1) ps))
+    (rowsNew t (followerKind (kindAt t p)) (followersAt t p) [] ps)
+    (both (newAfter t k gs p) (rowsNew t k (due - 1) (gs ++ (p ∷ [])) ps))
+    (both (isTypeKind (kindAt t p)) (both (formed t p) (passes t (followerKind (kindAt t p)) (followersAt t p) [] ps)))
+    (both (eqb (standsAs (kindAt t p)) k) (both (formed t p) (both (newAfter t k gs p) (passes t k (due - 1) (gs ++ (p ∷ [])) ps))))
+    (ap (λ (x : Bool). both (isTypeKind (kindAt t p)) (both (formed t p) x)) (passes-split t (followerKind (kindAt t p)) (followersAt t p) [] ps)
     ∙ shuffle-type (isTypeKind (kindAt t p)) (formed t p) (every (formed t) ps) _ _)
-    (ap (λ (x : Bool). both (eqb (kindAt t p) k) (both (formed t p) (both (newBy t k (placeFrom (rowSize k) first) b) x)))
-    (passes-split t k (due - 1) first (b + 1) ps)
-    ∙ shuffle-follower (eqb (kindAt t p) k) (formed t p) (newBy t k (placeFrom (rowSize k) first) b) (every (formed t) ps) _ _)
+    (ap (λ (x : Bool). both (eqb (standsAs (kindAt t p)) k) (both (formed t p) (both (newAfter t k gs p) x)))
+    (passes-split t k (due - 1) (gs ++ (p ∷ [])) ps)
+    ∙ shuffle-follower (eqb (standsAs (kindAt t p)) k) (formed t p) (newAfter t k gs p) (every (formed t) ps) _ _)
 
 -- ---- tests of all rows, from the first on
 swap : (x y z : Bool) → both x (both y z) ≡ both y (both x z)
@@ -123,7 +132,7 @@ unfolding every all
 every-all f [] = refl
 every-all f (p ∷ ps) = ap (both (f p)) (every-all f ps) ∙ sym (all-front (λ i. f (rowAt (p ∷ ps) i)) (length ps))
 
-bodies : (t s : List ℕ) → every (formed t) s ≡ everyRow (bodyFormed (tableLimits .members) (tableLimits .name) t s) s
+bodies : (t s : List ℕ) → every (formed t) s ≡ everyRow (bodyFormed (tableLimits .members) t s) s
 unfolding bodyFormed
 bodies t s = every-all (formed t) s
 
@@ -140,20 +149,20 @@ all-both f g (suc n) = ap (both (both (f n) (g n))) (all-both f g n) ∙ crossed
 
 module _ (t : List ℕ) (k : ℕ) where
   new-cong : (f g : ℕ → ℕ) (b : ℕ) → ((a : ℕ) → a ≤ b → f a ≡ g a) → newBy t k f b ≡ newBy t k g b
-  unfolding newBy
+  unfolding newAmong
   new-cong f g b h =
       let own : f b ≡ g b = h b (omega arith) in
       all-cong (λ a. apart t k (f a) (f b)) (λ a. apart t k (g a) (g b)) b (λ a l. ap₂ (apart t k) (h a (omega arith)) own)
 
-  module _ (place : ℕ → ℕ) (b : ℕ) where
+  module _ (place : ℕ → ℕ) (p b : ℕ) where
     -- of members names alone, of bits both
-    new-member : k ≡ 16 → newBy t k place b ≡ all (λ a. no (sameName t (place a) (place b))) b
-    unfolding newBy apart
-    new-member e = rw e (all-cong _ (λ a. no (sameName t (place a) (place b))) b (λ a l. both-end (no (sameName t (place a) (place b)))))
+    new-member : k ≡ 16 → newAmong t k place p b ≡ all (λ a. no (sameName t (place a) p)) b
+    unfolding newAmong apart
+    new-member e = rw e (all-cong _ (λ a. no (sameName t (place a) p)) b (λ a l. both-end (no (sameName t (place a) p))))
 
-    new-bit : k ≡ 18 → newBy t k place b ≡ both (all (λ a. no (sameName t (place a) (place b))) b) (all (λ a. no (sameNumber t (place a) (place b))) b)
-    unfolding newBy apart
-    new-bit e = rw e (all-both (λ a. no (sameName t (place a) (place b))) (λ a. no (sameNumber t (place a) (place b))) b)
+    new-bit : k ≡ 18 → newAmong t k place p b ≡ both (all (λ a. no (sameName t (place a) p)) b) (all (λ a. no (sameNumber t (place a) p)) b)
+    unfolding newAmong apart
+    new-bit e = rw e (all-both (λ a. no (sameName t (place a) p)) (λ a. no (sameNumber t (place a) p)) b)
 
 -- the rows that follow row i
 unfoldable followersDiffer : List ℕ → List ℕ → ℕ → Bool
@@ -165,7 +174,7 @@ module _ (t s : List ℕ) (i : ℕ) where
   unfolding followersDiffer namesDiffer numbersDiffer newName differsFrom newNumber numberDiffersFrom
   differ-named k =
       all-cong (newBy t (followerKind (kindAt t (rowAt s i))) (memberPlace s i)) (λ b. both (newName t s i b) (newNumber t s i b)) (followersAt t (rowAt s i))
-      (λ b h. new-bit t (followerKind (kindAt t (rowAt s i))) (memberPlace s i) b (after-named (kindAt t (rowAt s i)) k))
+      (λ b h. new-bit t (followerKind (kindAt t (rowAt s i))) (memberPlace s i) (memberPlace s i b) b (after-named (kindAt t (rowAt s i)) k))
       ∙ all-both (newName t s i) (newNumber t s i) (followersAt t (rowAt s i))
       ∙ ap (λ (n : ℕ). both (all (newName t s i) (followersAt t (rowAt s i))) (all (newNumber t s i) n)) (named-followers t (rowAt s i) k)
 
@@ -183,7 +192,7 @@ module _ (t s : List ℕ) (i : ℕ) where
     unfolding followersDiffer namesDiffer newName differsFrom
     differ-names = by-test (isGroup (kindAt t (rowAt s i)))
         (λ g. all-cong (newBy t (followerKind (kindAt t (rowAt s i))) (memberPlace s i)) (newName t s i) (followersAt t (rowAt s i))
-        (λ b h. new-member t (followerKind (kindAt t (rowAt s i))) (memberPlace s i) b (after-group (kindAt t (rowAt s i)) g)))
+        (λ b h. new-member t (followerKind (kindAt t (rowAt s i))) (memberPlace s i) (memberPlace s i b) b (after-group (kindAt t (rowAt s i)) g)))
         (λ g. all-cong (newBy t (followerKind (kindAt t (rowAt s i))) (memberPlace s i)) (newName t s i) (followersAt t (rowAt s i))
         (λ b h. absurd (let z = none-follow g in omega arith)))
 
@@ -314,8 +323,9 @@ row-whole m t j = go (rowsFrom m t 0) refl
     go none e h = absurd (omega arith)
     go (some s) e h = whole-row m t 0 s j e h
 
-pub member-whole : (m : ℕ) (t : List ℕ) (j : ℕ) → j < length (rows m t) → kindAt t (rowAt (rows m t) j) ≡ 16 → rowAt (rows m t) j + 39 ≤ length t
-member-whole m t j h k = rw (member-size (kindAt t (rowAt (rows m t) j)) k) at (row-whole m t j h)
+pub member-whole : (m : ℕ) (t : List ℕ) (j : ℕ) → j < length (rows m t) → isMember (kindAt t (rowAt (rows m t) j)) ≡ true
+    → WholeFollower t (rowAt (rows m t) j)
+member-whole m t j h k = whole-follower t (rowAt (rows m t) j) (member-follows (kindAt t (rowAt (rows m t) j)) k) (row-whole m t j h)
 
 -- ---- a row where rows are due
 more-due : (d : ℕ) → eqb (suc d) 0 ≡ false
@@ -325,63 +335,44 @@ one-less : (d : ℕ) → suc d - 1 ≡ d
 one-less d = omega arith
 
 module _ (t : List ℕ) (p : ℕ) (ps : List ℕ) (k d : ℕ) where
-  stand-next : standing t k (suc d) (p ∷ ps) ≡ true → (kindAt t p ≡ k) × (standing t k d ps ≡ true)
+  stand-next : standing t k (suc d) (p ∷ ps) ≡ true → (standsAs (kindAt t p) ≡ k) × (standing t k d ps ≡ true)
   unfolding standing
   stand-next e =
-      let w = both-true (eqb (kindAt t p) k) (standing t k (suc d - 1) ps) (rw (more-due d) at e) in
-      (eqb-true (kindAt t p) k (w .0), ap (λ (x : ℕ). standing t k x ps) (sym (one-less d)) ∙ w .1)
+      let w = both-true (eqb (standsAs (kindAt t p)) k) (standing t k (suc d - 1) ps) (rw (more-due d) at e) in
+      (eqb-true (standsAs (kindAt t p)) k (w .0), ap (λ (x : ℕ). standing t k x ps) (sym (one-less d)) ∙ w .1)
 
-  new-next : (first b : ℕ) → rowsNew t k (suc d) first b (p ∷ ps) ≡ both (newBy t k (placeFrom (rowSize k) first) b) (rowsNew t k d first (b + 1) ps)
+  new-next : (gs : List ℕ) → rowsNew t k (suc d) gs (p ∷ ps) ≡ both (newAfter t k gs p) (rowsNew t k d (gs ++ (p ∷ [])) ps)
   unfolding rowsNew
-  new-next first b = rw (more-due d, one-less d)
+  new-next gs = rw (more-due d, one-less d)
 
--- rows of kind k found so far stand one after another
-abbrev Adjoining : ℕ → List ℕ → ℕ → ℕ → Type 0
-Adjoining k gs first b = (a : ℕ) → a < b → rowAt gs a ≡ placeFrom (rowSize k) first a
+-- the row at p behind those at gs, by its number in a list of them all
+new-is : (t : List ℕ) (k : ℕ) (gs ps : List ℕ) (p : ℕ) → newAfter t k gs p ≡ newBy t k (rowAt (gs ++ (p ∷ ps))) (length gs)
+unfolding newAmong
+new-is t k gs ps p =
+    let own : p ≡ rowAt (gs ++ (p ∷ ps)) (length gs) = sym (getD-at gs p ps 0 (length gs) refl) in
+    all-cong (λ a. apart t k (rowAt gs a) p) (λ a. apart t k (rowAt (gs ++ (p ∷ ps)) a) (rowAt (gs ++ (p ∷ ps)) (length gs))) (length gs)
+    (λ a l. ap₂ (apart t k) (sym (List·getD-append gs (p ∷ ps) 0 a l)) own)
 
-module _ (p : ℕ) (ps gs : List ℕ) (b : ℕ) (e : p ∷ ps ≡ drop b gs) where
-  head-is : p ≡ rowAt gs b
-  head-is = ap (λ (l : List ℕ). rowAt l 0) e ∙ getD-drop b gs 0 0 ∙ ap (rowAt gs) (add-zero b)
-
-  tail-is : ps ≡ drop (b + 1) gs
-  tail-is = ap (drop 1) e ∙ drop-drop 1 b gs
-
-  adjoining-more : (k first : ℕ) → p ≡ placeFrom (rowSize k) first b → Adjoining k gs first b → Adjoining k gs first (b + 1)
-  adjoining-more k first q f a h =
-      ⊎-elim (λ (z : a ≡ b). ap (rowAt gs) z ∙ sym head-is ∙ q ∙ ap (placeFrom (rowSize k) first) (sym z)) (λ l. f a l) (eq-or-lt-of-le (omega arith))
-
-  new-is : (t : List ℕ) (k first : ℕ) → p ≡ placeFrom (rowSize k) first b → Adjoining k gs first b
-      → newBy t k (placeFrom (rowSize k) first) b ≡ newBy t k (rowAt gs) b
-  new-is t k first q f = new-cong t k (placeFrom (rowSize k) first) (rowAt gs) b (λ a l. sym (adjoining-more k first q f a (omega arith)))
-
-new-are : (t : List ℕ) (ps gs : List ℕ) (m at k first b due : ℕ) → standing t k due ps ≡ true → (0 < due → isFollower k ≡ true)
-    → rowsFrom m t at ≡ some ps → at ≡ placeFrom (rowSize k) first b → ps ≡ drop b gs → Adjoining k gs first b
-    → rowsNew t k due first b ps ≡ both (allFrom (newBy t k (rowAt gs)) b due) (listsNew t ps)
+new-are : (t : List ℕ) (ps gs : List ℕ) (k due : ℕ) → standing t k due ps ≡ true → (0 < due → isFollower k ≡ true)
+    → rowsNew t k due gs ps ≡ both (allFrom (newBy t k (rowAt (gs ++ ps))) (length gs) due) (listsNew t ps)
 unfolding rowsNew listsNew allFrom standing all
-new-are t [] gs m at k first b due st fo rs pl dr f = go due (eqb-true due 0 st)
+new-are t [] gs k due st fo = go due (eqb-true due 0 st)
   where
-    go : (d : ℕ) → d ≡ 0 → true ≡ both (allFrom (newBy t k (rowAt gs)) b d) true
+    go : (d : ℕ) → d ≡ 0 → true ≡ both (allFrom (newBy t k (rowAt (gs ++ []))) (length gs) d) true
     go zero e = refl
     go (suc d) e = absurd (omega arith)
-new-are t (p ∷ ps) gs m at k first b zero st fo rs pl dr f =
-    let v = rows-view m t at p ps rs in
-    new-are t ps ps (v .left) (at + rowSize (kindAt t at)) (followerKind (kindAt t p)) (p + rowSize (kindAt t p)) 0 (followersAt t p)
-    (both-true (isTypeKind (kindAt t p)) _ st .1) (due-follower t p) (v .rest)
-    (ap (λ (x : ℕ). x + rowSize (kindAt t x)) (sym (v .place)) ∙ first-place (rowSize (followerKind (kindAt t p))) (p + rowSize (kindAt t p)))
-    refl (λ a h. absurd (omega arith))
+new-are t (p ∷ ps) gs k zero st fo =
+    new-are t ps [] (followerKind (kindAt t p)) (followersAt t p) (both-true (isTypeKind (kindAt t p)) _ st .1) (due-follower t p)
     ∙ ap (λ (x : Bool). both x (listsNew t ps)) (all-from (newBy t (followerKind (kindAt t p)) (rowAt ps)) (followersAt t p))
-new-are t (p ∷ ps) gs m at k first b (suc d) st fo rs pl dr f =
-    let v = rows-view m t at p ps rs in
+new-are t (p ∷ ps) gs k (suc d) st fo =
     let w = stand-next t p ps k d st in
-    let here : p ≡ placeFrom (rowSize k) first b = v .place ∙ pl in
-    let size : rowSize (kindAt t at) ≡ rowSize k = ap (λ (x : ℕ). rowSize (kindAt t x)) (sym (v .place)) ∙ ap rowSize (w .0) in
-    let none : followersAt t p ≡ 0 = no-followers t p (ap isFollower (w .0) ∙ fo (omega arith)) in
-    new-next t p ps k d first b
-    ∙ ap₂ both (new-is p ps gs b dr t k first here f)
-    (new-are t ps gs (v .left) (at + rowSize (kindAt t at)) k first (b + 1) d (w .1) (λ l. fo (omega arith)) (v .rest)
-    (ap (λ (x : ℕ). at + x) size ∙ next-place (rowSize k) first b at pl) (tail-is p ps gs b dr) (adjoining-more p ps gs b dr k first here f))
-    ∙ glue (newBy t k (rowAt gs) b) (allFrom (newBy t k (rowAt gs)) (b + 1) d) (listsNew t ps)
-    ∙ ap (λ (n : ℕ). both (both (newBy t k (rowAt gs) b) (allFrom (newBy t k (rowAt gs)) (b + 1) d))
+    let none : followersAt t p ≡ 0 = no-followers t p (stands-follower (kindAt t p) k (w .0) (fo (omega arith))) in
+    new-next t p ps k d gs
+    ∙ ap₂ both (new-is t k gs ps p)
+    (new-are t ps (gs ++ (p ∷ [])) k d (w .1) (λ l. fo (omega arith))
+    ∙ ap₂ (λ (l : List ℕ) (n : ℕ). both (allFrom (newBy t k (rowAt l)) n d) (listsNew t ps)) (append-assoc gs (p ∷ []) ps) (length-append gs (p ∷ [])))
+    ∙ glue (newBy t k (rowAt (gs ++ (p ∷ ps))) (length gs)) (allFrom (newBy t k (rowAt (gs ++ (p ∷ ps)))) (length gs + 1) d) (listsNew t ps)
+    ∙ ap (λ (n : ℕ). both (both (newBy t k (rowAt (gs ++ (p ∷ ps))) (length gs)) (allFrom (newBy t k (rowAt (gs ++ (p ∷ ps)))) (length gs + 1) d))
     (both (all (newBy t (followerKind (kindAt t p)) (rowAt ps)) n) (listsNew t ps))) (sym none)
   where
     glue : (x y z : Bool) → both x (both y z) ≡ both (both x y) (both true z)
@@ -406,86 +397,79 @@ module _ (t : List ℕ) (p : ℕ) (ps : List ℕ) (found : rowsFrom (tableLimits
   abbrev differ : Bool
   differ = both (everyRow (namesDiffer t (p ∷ ps)) (p ∷ ps)) (everyRow (numbersDiffer t (p ∷ ps)) (p ∷ ps))
 
-  new-rows : standing t 0 0 (p ∷ ps) ≡ true → rowsNew t 0 0 0 0 (p ∷ ps) ≡ differ
+  new-rows : standing t 0 0 (p ∷ ps) ≡ true → rowsNew t 0 0 [] (p ∷ ps) ≡ differ
   unfolding allFrom
   new-rows st =
-      new-are t (p ∷ ps) (p ∷ ps) (tableLimits .rows) 0 0 0 0 0 st (λ h. absurd (omega arith)) found
-      (first-place (rowSize 0) 0) refl (λ a h. absurd (omega arith))
+      new-are t (p ∷ ps) [] 0 0 st (λ h. absurd (omega arith))
       ∙ sym (differ-lists t (p ∷ ps))
       ∙ all-differ t (p ∷ ps)
 
-  stand-and : both (standing t 0 0 (p ∷ ps)) (rowsNew t 0 0 0 0 (p ∷ ps)) ≡ both (firstIsType t (p ∷ ps)) (both (followersStand t (p ∷ ps)) differ)
+  stand-and : both (standing t 0 0 (p ∷ ps)) (rowsNew t 0 0 [] (p ∷ ps)) ≡ both (firstIsType t (p ∷ ps)) (both (followersStand t (p ∷ ps)) differ)
   unfolding followersStand
   stand-and = by-test (standing t 0 0 (p ∷ ps))
       (λ st. ap₂ both st (new-rows st) ∙ sym (ap₂ (λ (x y : Bool). both x (both y differ)) (first-type st) st))
-      (λ st. ap (λ (x : Bool). both x (rowsNew t 0 0 0 0 (p ∷ ps))) st
+      (λ st. ap (λ (x : Bool). both x (rowsNew t 0 0 [] (p ∷ ps))) st
       ∙ sym (ap (λ (x : Bool). both (firstIsType t (p ∷ ps)) (both x differ)) st ∙ never (firstIsType t (p ∷ ps))))
 
-  all-clauses : passes t 0 0 0 0 (p ∷ ps) ≡ firstPass tableLimits t (p ∷ ps)
+  all-clauses : passes t 0 0 [] (p ∷ ps) ≡ firstPass tableLimits t (p ∷ ps)
   unfolding firstPass
   all-clauses =
-      passes-split t 0 0 0 0 (p ∷ ps)
+      passes-split t 0 0 [] (p ∷ ps)
       ∙ ap₂ both (bodies t (p ∷ ps)) stand-and
-      ∙ sym (ap (λ (x : Bool). both x (both (everyRow (bodyFormed (tableLimits .members) (tableLimits .name) t (p ∷ ps)) (p ∷ ps))
+      ∙ sym (ap (λ (x : Bool). both x (both (everyRow (bodyFormed (tableLimits .members) t (p ∷ ps)) (p ∷ ps))
       (both (firstIsType t (p ∷ ps)) (both (followersStand t (p ∷ ps)) differ)))) whole)
 
 none-pass : (t : List ℕ) → firstPass tableLimits t [] ≡ false
 unfolding firstPass wholeRows
 none-pass t = refl
 
-pub pass-counts : (t : List ℕ) → pick (goes t 0 0 0 0 (rowsFrom (tableLimits .rows) t 0)) (length (rows (tableLimits .rows) t)) 0
+pub pass-counts : (t : List ℕ) → pick (goes t 0 0 [] (rowsFrom (tableLimits .rows) t 0)) (length (rows (tableLimits .rows) t)) 0
     ≡ pick (firstPass tableLimits t (rows (tableLimits .rows) t)) (length (rows (tableLimits .rows) t)) 0
 unfolding rows passes
 pass-counts t = go (rowsFrom (tableLimits .rows) t 0) refl
   where
     go : (o : Option (List ℕ)) → rowsFrom (tableLimits .rows) t 0 ≡ o
-        → pick (goes t 0 0 0 0 o) (length (orNone o)) 0 ≡ pick (firstPass tableLimits t (orNone o)) (length (orNone o)) 0
+        → pick (goes t 0 0 [] o) (length (orNone o)) 0 ≡ pick (firstPass tableLimits t (orNone o)) (length (orNone o)) 0
     go none e = rw (none-pass t)
     go (some []) e = rw (none-pass t)
     go (some (p ∷ ps)) e = ap (λ (x : Bool). pick x (length (p ∷ ps)) 0) (all-clauses t p ps e)
 
--- ---- the size of a row: 0 where it isn't whole, or isn't good
-abbrev pub sizeIf : List ℕ → ℕ → Bool → ℕ
-sizeIf t p good = pick (ltb (length t - p) (rowSize (kindAt t p))) 0 (pick good (rowSize (kindAt t p)) 0)
+-- ---- a row that follows another, by the places of those before it in an array
+module _ (t w gs : List ℕ) (first n p : ℕ) (counted : length gs ≡ n - first) (places : (a : ℕ) → a < length gs → placeIn w (first + a) ≡ rowAt gs a) where
+  names-told : newNameAt t w first n p ≡ all (λ a. no (sameName t (rowAt gs a) p)) (length gs)
+  unfolding newNameAt differsAt
+  names-told =
+      ap (all (differsAt t w first p)) (sym counted)
+      ∙ all-cong (differsAt t w first p) (λ a. no (sameName t (rowAt gs a) p)) (length gs) (λ a l. ap (λ (x : ℕ). no (sameName t x p)) (places a l))
 
-module _ (t : List ℕ) (at : ℕ) where
-  -- of a row that follows another, in the words of its own kind
-  in-words : (place size : ℕ) (f : ℕ → Bool) (n : Bool) → at ≡ place → rowSize (kindAt t at) ≡ size
-      → pick (both (leb size (length t - place)) (both (f place) n)) size 0 ≡ sizeIf t at (both (f at) n)
-  in-words place size f n e s =
-      ap (λ (x : ℕ). pick (both (leb size (length t - x)) (both (f x) n)) size 0) (sym e)
-      ∙ by-test (leb size (length t - at))
-      (λ q. rw (q, s, le-ltb (length t - at) size (leb-true size (length t - at) q)))
-      (λ q. rw (q, s, lt-ltb (length t - at) size (leb-false size (length t - at) q)))
+  numbers-told : newNumberAt t w first n p ≡ all (λ a. no (sameNumber t (rowAt gs a) p)) (length gs)
+  unfolding newNumberAt numberDiffersAt
+  numbers-told =
+      ap (all (numberDiffersAt t w first p)) (sym counted)
+      ∙ all-cong (numberDiffersAt t w first p) (λ a. no (sameNumber t (rowAt gs a) p)) (length gs) (λ a l. ap (λ (x : ℕ). no (sameNumber t x p)) (places a l))
 
-  member-formed : kindAt t at ≡ 16 → formed t at ≡ memberFormed (tableLimits .name) t at
-  unfolding rowFormed
-  member-formed k = rw k
+  module _ (k : ℕ) (e : standsAs (kindAt t p) ≡ k) where
+    member-told : k ≡ 16 → newAt t w first n p ≡ newAfter t k gs p
+    unfolding newAt
+    member-told h =
+        let g : kindAt t p ≡ 18 → ⊥ = λ z. member-not-bit (kindAt t p) (stands-member (kindAt t p) (e ∙ h)) z in
+        ap (λ (x : Bool). both (newNameAt t w first n p) (either (no x) (newNumberAt t w first n p))) (ne-eqb (kindAt t p) 18 g)
+        ∙ both-end (newNameAt t w first n p)
+        ∙ names-told
+        ∙ sym (new-member t k (rowAt gs) p (length gs) h)
 
-  bit-formed : kindAt t at ≡ 18 → formed t at ≡ bitFormed (tableLimits .name) t at
-  unfolding rowFormed
-  bit-formed k = rw k
+    bit-told : k ≡ 18 → newAt t w first n p ≡ newAfter t k gs p
+    unfolding newAt
+    bit-told h =
+        ap (λ (x : Bool). both (newNameAt t w first n p) (either (no x) (newNumberAt t w first n p)))
+        (eq-eqb (kindAt t p) 18 (stands-bit (kindAt t p) (e ∙ h)))
+        ∙ ap₂ both names-told numbers-told
+        ∙ sym (new-bit t k (rowAt gs) p (length gs) h)
 
-  module _ (first b : ℕ) where
-    member-told : at ≡ first + 39 * b → kindAt t at ≡ 16
-        → followerSize (tableLimits .name) 16 t first b ≡ sizeIf t at (both (formed t at) (newBy t 16 (placeFrom 39 first) b))
-    unfolding followerSize memberFits newNameAt differsAt
-    member-told e k =
-        in-words (first + 39 * b) 39 (memberFormed (tableLimits .name) t) (newNameAt 39 t first b) e (member-size (kindAt t at) k)
-        ∙ ap₂ (λ (x y : Bool). sizeIf t at (both x y)) (sym (member-formed k)) (sym (new-member t 16 (placeFrom 39 first) b refl))
-
-    bit-told : at ≡ first + 26 * b → kindAt t at ≡ 18
-        → followerSize (tableLimits .name) 18 t first b ≡ sizeIf t at (both (formed t at) (newBy t 18 (placeFrom 26 first) b))
-    unfolding followerSize bitFits newNameAt differsAt newNumberAt numberDiffersAt
-    bit-told e k =
-        in-words (first + 26 * b) 26 (bitFormed (tableLimits .name) t) (both (newNameAt 26 t first b) (newNumberAt t first b)) e (bit-size (kindAt t at) k)
-        ∙ ap₂ (λ (x y : Bool). sizeIf t at (both x y)) (sym (bit-formed k)) (sym (new-bit t 18 (placeFrom 26 first) b refl))
-
-    pub follower-told : (k : ℕ) → isFollower k ≡ true → at ≡ placeFrom (rowSize k) first b → kindAt t at ≡ k
-        → followerSize (tableLimits .name) k t first b ≡ sizeIf t at (both (formed t at) (newBy t k (placeFrom (rowSize k) first) b))
-    unfolding rowSize isGroup isList
-    follower-told k f e q =
+    -- no row stands as one with a long name
+    pub new-told : isFollower k ≡ true → newAt t w first n p ≡ newAfter t k gs p
+    new-told f =
         ⊎-elim
-        (λ (h : k ≡ 16). rw h (member-told (rw h at e) (q ∙ h)))
-        (λ (h : k ≡ 18). rw h (bit-told (rw h at e) (q ∙ h)))
+        (λ m. ⊎-elim member-told (λ (h : k ≡ 21). absurd (stands-short (kindAt t p) (e ∙ h))) (member-kind k m))
+        bit-told
         (member-or-bit k f)

@@ -9,8 +9,8 @@ use Rattle.octets.specs.Octets.{same}
 use Rattle.octets.specs.Text.{within}
 use Rattle.der.specs.Kind as kind
 use Rattle.der.specs.Legal.{legal}
-use Rattle.rows.specs.Row.{nameAt, kindAt, modeAt, presenceAt, defaultLengthAt, defaultAt, bitNumberAt, isTypeKind, namesRow, namedAt, rowAt}
-use Rattle.rows.specs.Row.{membersAt, bitNamesAt, followerKind, followersAt}
+use Rattle.rows.specs.Row.{nameAt, kindAt, modeAt, presenceAt, defaultLengthAt, defaultAt, bitNumberAt, isTypeKind, isMember, namesRow, namedAt, rowAt}
+use Rattle.rows.specs.Row.{membersAt, bitNamesAt, followerKind, followersAt, standsAs}
 use Rattle.rows.specs.Body.{rowFormed}
 
 -- a test of every row, by its number
@@ -22,8 +22,8 @@ unfoldable pub wholeRows : ℕ → List ℕ → Bool
 wholeRows most s = within 1 most (length s)
 
 -- the bodies are as the type table has them
-unfoldable pub bodyFormed : ℕ → ℕ → List ℕ → List ℕ → ℕ → Bool
-bodyFormed most name t s i = rowFormed most name t (rowAt s i)
+unfoldable pub bodyFormed : ℕ → List ℕ → List ℕ → ℕ → Bool
+bodyFormed most t s i = rowFormed most t (rowAt s i)
 
 -- "row 0 is a type"
 unfoldable pub isType : List ℕ → List ℕ → ℕ → Bool
@@ -40,13 +40,14 @@ unfoldable pub pointsLater : List ℕ → List ℕ → ℕ → Bool
 pointsLater t s i = either (no (namesRow t (rowAt s i))) (laterType t s i (namedAt t (rowAt s i)))
 
 -- "member rows stand directly after their SEQUENCE or CHOICE and nowhere else"; document 02, Q-2: "Rows that only follow another, here and later, stand
--- nowhere else". So many rows of kind k are still due before these rows; where none is due, a row is a type's, and the rows that follow it are due
+-- nowhere else". So many rows of kind k, or rows that stand as such, are still due before these rows; where none is due, a row is a type's, and the rows that
+-- follow it are due
 unfoldable pub standing : List ℕ → ℕ → ℕ → List ℕ → Bool
 standing t k due [] = eqb due 0
 standing t k due (p ∷ ps) =
     let type = standing t (followerKind (kindAt t p)) (followersAt t p) ps in
     let follower = standing t k (due - 1) ps in
-    pick (eqb due 0) (both (isTypeKind (kindAt t p)) type) (both (eqb (kindAt t p) k) follower)
+    pick (eqb due 0) (both (isTypeKind (kindAt t p)) type) (both (eqb (standsAs (kindAt t p)) k) follower)
 
 unfoldable pub followersStand : List ℕ → List ℕ → Bool
 followersStand t s = standing t 0 0 s
@@ -92,7 +93,7 @@ typeKind t s i = kindAt t (rowAt s (namedAt t (rowAt s i)))
 
 unfoldable pub noImplicitChoice : List ℕ → List ℕ → ℕ → Bool
 noImplicitChoice t s i =
-    either (no (eqb (kindAt t (rowAt s i)) kind.member))
+    either (no (isMember (kindAt t (rowAt s i))))
     (either (no (eqb (modeAt t (rowAt s i)) 2)) (no (eqb (typeKind t s i) kind.choice)))
 
 -- "defaults only on BOOLEAN, INTEGER, ENUMERATED, with legal DER contents of 1 to 8 octets (length 0 without presence 2)"
@@ -101,7 +102,7 @@ defaultAllowed k c = both (within kind.boolean kind.enumerated k) (legal k c)
 
 unfoldable pub defaultLegal : List ℕ → List ℕ → ℕ → Bool
 defaultLegal t s i =
-    either (no (eqb (kindAt t (rowAt s i)) kind.member))
+    either (no (isMember (kindAt t (rowAt s i))))
     (pick (eqb (presenceAt t (rowAt s i)) 2) (defaultAllowed (typeKind t s i) (defaultAt t (rowAt s i))) (eqb (defaultLengthAt t (rowAt s i)) 0))
 
 -- "A chain of rows, each naming the next as its element or as its member's type, has at most 16 type rows (member rows not counted)."

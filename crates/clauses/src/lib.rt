@@ -3,112 +3,81 @@ use der::Kind;
 use rows::Table;
 ghost use mathlib.Core.Path.{_≡_};
 ghost use mathlib.Core.Bool.{true};
-ghost use Prim.Native.Nat.{_≤_, _<_, _+_, _*_};
+ghost use Prim.Native.Nat.{_≤_, _<_, _+_};
 ghost use lib.ListN.{length};
 ghost use Rattle.octets.specs.Pick.{pick};
 ghost use Rattle.rows.specs.Row as row;
+ghost use Rattle.rows.specs.inner.Sizes.{WholeFollower};
 ghost use Rattle.clauses.specs.Clauses as clause;
 ghost use Rattle.clauses.specs.inner.Work as work;
 ghost use Rattle.rows.specs.Paper.{tableLimits};
 
 // ---- the first pass: bodies, where rows stand, names and numbers
-fn same_name(t: &[u8], p: usize, q: usize) -> bool
-    requires one { ⌜ p + row.bitSize ≤ length (now t) ⌝ }
-    requires other { ⌜ q + row.bitSize ≤ length (now t) ⌝ }
-    ensures { λ r. ⌜ r ≡ clause.sameName (now (t .entry)) p q ⌝ }
+// Whether the row at p has another name than each from row `first` on and before row n.
+fn new_name(t: &[u8], w: &[u64; 256], first: usize, n: usize, p: usize) -> bool
+    requires space { ⌜ length (now w) ≡ 256 ⌝ }
+    requires few { ⌜ n ≤ tableLimits .rows ⌝ }
+    requires before { ⌜ work.FollowersIn (now t) (now w) first n ⌝ }
+    requires here { ⌜ WholeFollower (now t) p ⌝ }
+    ensures { λ r. ⌜ r ≡ work.newNameAt (now (t .entry)) (now (w .entry)) first n p ⌝ }
 {
-    if !rows::same_eight(t, p + 1, q + 1) {
-        return false;
-    }
-    if !rows::same_eight(t, p + 9, q + 9) {
-        return false;
-    }
-    rows::same_eight(t, p + 17, q + 17)
-}
-
-// Whether row b of those that follow a row, each of so many octets from the first on, has another name than each before it.
-fn new_name(t: &[u8], size: usize, first: usize, b: usize) -> bool
-    requires wide { ⌜ row.bitSize ≤ size ⌝ }
-    requires whole { ⌜ work.placeFrom size first b + size ≤ length (now t) ⌝ }
-    ensures { λ r. ⌜ r ≡ work.newNameAt size (now (t .entry)) first b ⌝ }
-{
-    let p = first + size * b;
-    let mut a = 0;
-    let mut q = first;
-    while a < b {
-        if same_name(t, q, p) {
+    let mut i = first;
+    while i < n {
+        if rows::same_name(t, w[2 * i] as usize, p) {
             return false;
         }
-        a += 1;
-        q += size;
+        i += 1;
     }
     true
 }
 
-// Whether bit b has another number than each before it.
-fn new_number(t: &[u8], first: usize, b: usize) -> bool
-    requires whole { ⌜ work.placeFrom row.bitSize first b + row.bitSize ≤ length (now t) ⌝ }
-    ensures { λ r. ⌜ r ≡ work.newNumberAt (now (t .entry)) first b ⌝ }
+// Whether the bit at p has another number than each from row `first` on and before row n.
+fn new_number(t: &[u8], w: &[u64; 256], first: usize, n: usize, p: usize) -> bool
+    requires space { ⌜ length (now w) ≡ 256 ⌝ }
+    requires few { ⌜ n ≤ tableLimits .rows ⌝ }
+    requires before { ⌜ work.FollowersIn (now t) (now w) first n ⌝ }
+    requires here { ⌜ WholeFollower (now t) p ⌝ }
+    ensures { λ r. ⌜ r ≡ work.newNumberAt (now (t .entry)) (now (w .entry)) first n p ⌝ }
 {
-    let number = t[first + Table::BIT_BYTES * b + 25];
-    let mut a = 0;
-    while a < b {
-        if t[first + Table::BIT_BYTES * a + 25] == number {
+    let number = t[p + 25];
+    let mut i = first;
+    while i < n {
+        if t[w[2 * i] as usize + 25] == number {
             return false;
         }
-        a += 1;
+        i += 1;
     }
     true
 }
 
-fn member_fits(t: &[u8], first: usize, b: usize) -> bool
-    requires { ⌜ work.placeFrom row.memberSize first b ≤ length (now t) ⌝ }
-    ensures { λ r. ⌜ r ≡ work.memberFits (tableLimits .name) (now (t .entry)) first b ⌝ }
+// The octets of the row at p, of a kind that follows another, behind those from row `first` on and before row n; 0 where it isn't as it has to be.
+fn follower_size(t: &[u8], w: &[u64; 256], first: usize, n: usize, p: usize) -> usize
+    requires space { ⌜ length (now w) ≡ 256 ⌝ }
+    requires few { ⌜ n ≤ tableLimits .rows ⌝ }
+    requires before { ⌜ work.FollowersIn (now t) (now w) first n ⌝ }
+    requires inside { ⌜ p < length (now t) ⌝ }
+    requires follows { ⌜ row.isFollower (row.kindAt (now t) p) ≡ true ⌝ }
+    ensures size { λ r. ⌜ r ≡ work.followerSize (now (t .entry)) (now (w .entry)) first n p ⌝ }
+    ensures inside { λ r. ⌜ p + r ≤ length (now (t .entry)) ⌝ }
 {
-    let p = first + Table::MEMBER_BYTES * b;
-    if t.len() - p < Table::MEMBER_BYTES {
-        return false;
-    }
-    if !rows::member_formed(t, p) {
-        return false;
-    }
-    new_name(t, Table::MEMBER_BYTES, first, b)
-}
-
-fn bit_fits(t: &[u8], first: usize, b: usize) -> bool
-    requires { ⌜ work.placeFrom row.bitSize first b ≤ length (now t) ⌝ }
-    ensures { λ r. ⌜ r ≡ work.bitFits (tableLimits .name) (now (t .entry)) first b ⌝ }
-{
-    let p = first + Table::BIT_BYTES * b;
-    if t.len() - p < Table::BIT_BYTES {
-        return false;
-    }
-    if !rows::bit_formed(t, p) {
-        return false;
-    }
-    if !new_name(t, Table::BIT_BYTES, first, b) {
-        return false;
-    }
-    new_number(t, first, b)
-}
-
-// The octets of row b of those of a kind that follow a row; 0 where it doesn't fit.
-fn follower_size(t: &[u8], kind: u8, first: usize, b: usize) -> usize
-    requires follows { ⌜ row.isFollower kind ≡ true ⌝ }
-    requires { ⌜ work.placeFrom (row.rowSize kind) first b ≤ length (now t) ⌝ }
-    ensures size { λ r. ⌜ r ≡ work.followerSize (tableLimits .name) kind (now (t .entry)) first b ⌝ }
-    ensures small { λ r. ⌜ r ≤ row.memberSize ⌝ }
-{
-    if kind == Kind::MEMBER {
-        if member_fits(t, first, b) {
-            return Table::MEMBER_BYTES;
-        }
+    let kind = t[p];
+    let size = rows::follower_size(kind);
+    if t.len() - p < size {
         return 0;
     }
-    if bit_fits(t, first, b) {
-        return Table::BIT_BYTES;
+    if !rows::follower_formed(t, p) {
+        return 0;
     }
-    0
+    if !new_name(t, w, first, n, p) {
+        return 0;
+    }
+    if kind == Kind::NAMED_BIT {
+        if !new_number(t, w, first, n, p) {
+            return 0;
+        }
+        return size;
+    }
+    size
 }
 
 // How many rows a table has, with their places in every second number of w; 0 where a clause on bodies, on where rows stand, on names or on numbers doesn't
@@ -126,7 +95,6 @@ pub fn scan(t: &[u8], w: &mut [u64; 256]) -> usize
     let mut follower = 0;
     let mut due = 0;
     let mut first = 0;
-    let mut before = 0;
     while at < t.len() {
         if n == Table::MAX_ROWS {
             return 0;
@@ -134,17 +102,16 @@ pub fn scan(t: &[u8], w: &mut [u64; 256]) -> usize
         w[2 * n] = at as u64;
         let kind = t[at];
         if due != 0 {
-            if kind != follower {
+            if rows::stands_as(kind) != follower {
                 return 0;
             }
-            let size = follower_size(t, kind, first, before);
+            let size = follower_size(t, w, first, n, at);
             if size == 0 {
                 return 0;
             }
             at += size;
             n += 1;
             due -= 1;
-            before += 1;
         } else {
             let size = rows::type_size(t, at);
             if size == 0 {
@@ -154,8 +121,7 @@ pub fn scan(t: &[u8], w: &mut [u64; 256]) -> usize
             due = rows::followers_at(t, at, follower);
             at += size;
             n += 1;
-            first = at;
-            before = 0;
+            first = n;
         }
     }
     if due != 0 {

@@ -6,3 +6,4 @@ pub mod Demand3
 pub mod Prepared
 pub mod NamedBits
 pub mod Names
+pub mod LongNames

@@ -9,3 +9,5 @@ pub mod Licence
 pub mod Rfc3687
 pub mod Rights
 pub mod Holders
+pub mod Before
+pub mod Concessions

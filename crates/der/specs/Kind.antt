@@ -67,6 +67,10 @@ rdnSequence = 19
 abbrev pub rdn : ℕ
 rdn = 20
 
+-- document 02, Q-4: "a member whose name field is 48 bytes"
+abbrev pub longMember : ℕ
+longMember = 21
+
 -- the string kinds
 unfoldable pub isString : ℕ → Bool
 isString k = within utf8String ia5String k

@@ -104,6 +104,8 @@ impl Kind {
     pub const RDN_SEQUENCE: u8 = 19;
 
     pub const RDN: u8 = 20;
+
+    pub const LONG_MEMBER: u8 = 21;
 }
 
 // A distinguished name: how many RDNs it has at most, and one RDN pairs; the tag octets of an RDN, of a pair and of a pair's attribute type.

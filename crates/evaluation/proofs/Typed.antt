@@ -16,11 +16,11 @@ use Rattle.der.specs.Contents.{legalBoolean}
 use Rattle.der.specs.Legal.{legal}
 use Rattle.der.proofs.Laws.{integer-octets, legal-boolean, legal-integer, legal-enumerated}
 use Rattle.rows.specs.Paper.{tableLimits}
-use Rattle.rows.specs.Row.{nameAt, kindAt, namedAt, presenceAt, defaultLengthAt, defaultAt, rowAt, membersAt}
+use Rattle.rows.specs.Row.{nameAt, kindAt, isMember, namedAt, presenceAt, defaultLengthAt, defaultAt, rowAt, membersAt, unfilled}
 use Rattle.rows.proofs.KindLaws.{list-names}
 use Rattle.clauses.specs.Clauses.{memberPlace, defaultAllowed, defaultLegal}
 use Rattle.types.proofs.TypeCases.{typed-cases, typed-small}
-use Rattle.types.specs.Types.{Presence, mandatory, optional, default, NamedBit, Ty, basic, sequence, choice, listOf, Members, noMore, more, unfilled}
+use Rattle.types.specs.Types.{Presence, mandatory, optional, default, NamedBit, Ty, basic, sequence, choice, listOf, Members, noMore, more}
 use Rattle.types.specs.Types.{presenceOf, memberOf, membersFrom, typed, typeFrom}
 use Rattle.types.specs.Admitted.{admitted}
 use Rattle.types.specs.inner.Work.{Sound}
@@ -96,13 +96,13 @@ unfoldable mutual
 
 module _ (chain : ℕ) (t s m : List ℕ) (ok : Sound chain t s m) where
   -- the default of a member row
-  pub default-fine : (i : ℕ) → i < length s → kindAt t (rowAt s i) ≡ 16 → namedAt t (rowAt s i) < length s
+  pub default-fine : (i : ℕ) → i < length s → isMember (kindAt t (rowAt s i)) ≡ true → namedAt t (rowAt s i) < length s
       → DefaultFine (typeFrom chain t s (namedAt t (rowAt s i))) (memberOf t i (rowAt s i) .presence)
   unfolding memberOf presenceOf defaultLegal defaultAllowed
   default-fine i h k there = go (eqb (presenceAt t (rowAt s i)) 0) refl (eqb (presenceAt t (rowAt s i)) 1) refl
     where
-      legal-default : (a b : Bool) → eqb (presenceAt t (rowAt s i)) 2 ≡ true → either (no (eqb (kindAt t (rowAt s i)) 16)) (pick (eqb (presenceAt t (rowAt s i)) 2) a b) ≡ true → a ≡ true
-      legal-default a b e f = rw (eq-eqb (kindAt t (rowAt s i)) 16 k, e) at f
+      legal-default : (a b : Bool) → eqb (presenceAt t (rowAt s i)) 2 ≡ true → either (no (isMember (kindAt t (rowAt s i)))) (pick (eqb (presenceAt t (rowAt s i)) 2) a b) ≡ true → a ≡ true
+      legal-default a b e f = rw (k, e) at f
 
       allowed : eqb (presenceAt t (rowAt s i)) 2 ≡ true → Defaulted (typeFrom chain t s (namedAt t (rowAt s i))) (defaultAt t (rowAt s i))
       allowed e =
@@ -141,19 +141,19 @@ module _ (chain : ℕ) (t s m : List ℕ) (ok : Sound chain t s m) (names : Name
 
   -- k members from row a on, behind row i
   fine-rows : (i : ℕ) → ((j : ℕ) → i < j → j < length s → Fine (typeFrom chain t s j)) → (k a : ℕ)
-      → ((j : ℕ) → j < k → (a + j < length s) × (kindAt t (rowAt s (a + j)) ≡ 16) × (i < namedAt t (rowAt s (a + j))) × (namedAt t (rowAt s (a + j)) < length s))
+      → ((j : ℕ) → j < k → (a + j < length s) × (isMember (kindAt t (rowAt s (a + j))) ≡ true) × (i < namedAt t (rowAt s (a + j))) × (namedAt t (rowAt s (a + j)) < length s))
       → ((i j : ℕ) → i < j → j < k → same (unfilled (nameAt t (rowAt s (a + j)))) (unfilled (nameAt t (rowAt s (a + i)))) ≡ false) → FineIn (membersFrom (typeFrom chain t s) t s a k)
   unfolding Fine membersFrom memberOf
   fine-rows n fine zero a rows apart = tt
   fine-rows n fine (suc k) a rows apart =
       let z : a + 0 ≡ a = omega arith in
-      let first = subst (λ (y : ℕ). (y < length s) × (kindAt t (rowAt s y) ≡ 16) × (n < namedAt t (rowAt s y)) × (namedAt t (rowAt s y) < length s)) z (rows 0 (omega arith)) in (
+      let first = subst (λ (y : ℕ). (y < length s) × (isMember (kindAt t (rowAt s y)) ≡ true) × (n < namedAt t (rowAt s y)) × (namedAt t (rowAt s y) < length s)) z (rows 0 (omega arith)) in (
         default-fine chain t s m ok a (first .0) (first .1) (first .3),
         (
           fresh-rows (typeFrom chain t s) _ k (a + 1) (λ j d. shift (λ (y : ℕ). same (unfilled (nameAt t (rowAt s y))) (unfilled (nameAt t (rowAt s a))) ≡ false) j (subst (λ (y : ℕ). same (unfilled (nameAt t (rowAt s (a + suc j)))) (unfilled (nameAt t (rowAt s y))) ≡ false) z (apart 0 (suc j) (omega arith) (omega arith)))),
           (
             fine (namedAt t (rowAt s a)) (first .2) (first .3),
-            fine-rows n fine k (a + 1) (λ j d. shift (λ (y : ℕ). (y < length s) × (kindAt t (rowAt s y) ≡ 16) × (n < namedAt t (rowAt s y)) × (namedAt t (rowAt s y) < length s)) j (rows (suc j) (omega arith)))
+            fine-rows n fine k (a + 1) (λ j d. shift (λ (y : ℕ). (y < length s) × (isMember (kindAt t (rowAt s y)) ≡ true) × (n < namedAt t (rowAt s y)) × (namedAt t (rowAt s y) < length s)) j (rows (suc j) (omega arith)))
                 (λ i j l d. shift (λ (y : ℕ). same (unfilled (nameAt t (rowAt s y))) (unfilled (nameAt t (rowAt s (a + 1 + i)))) ≡ false) j (shift (λ (y : ℕ). same (unfilled (nameAt t (rowAt s (a + suc j)))) (unfilled (nameAt t (rowAt s y))) ≡ false) i (apart (suc i) (suc j) (omega arith) (omega arith)))),
           ),
         ),
@@ -181,4 +181,4 @@ module _ (chain : ℕ) (t s m : List ℕ) (ok : Sound chain t s m) (names : Name
 -- the type of row 0 of an admitted table
 pub fine-first : (t w : List ℕ) → Worded t w → admitted tableLimits t ≡ true → Fine (typeAt t 0)
 fine-first t w ok admits =
-    fine-type (tableLimits .chain) t (tableRows t) (ok .m) (ok .ready .sound) (record { differ = unfilled-differ tableLimits t admits refl }) (length (tableRows t)) 0 (ok .ready .rooted) (omega arith)
+    fine-type (tableLimits .chain) t (tableRows t) (ok .m) (ok .ready .sound) (record { differ = unfilled-differ tableLimits t admits }) (length (tableRows t)) 0 (ok .ready .rooted) (omega arith)

@@ -14,11 +14,11 @@ use Rattle.octets.proofs.Laws.{both-true, all-at}
 use Rattle.octets.proofs.TextLaws.{same-nil, same-shorter, same-longer, same-cons}
 use Rattle.der.specs.Kind as kind
 use Rattle.rows.specs.Paper.{tableLimits}
-use Rattle.rows.specs.Row.{nameAt, kindAt, namedAt, membersAt, isList}
+use Rattle.rows.specs.Row.{nameAt, kindAt, namedAt, membersAt, isList, unfilled}
 use Rattle.clauses.specs.Clauses.{everyRow, memberPlace, chainFits}
 use Rattle.rows.proofs.KindLaws.{list-names}
 use Rattle.types.proofs.TypeCases.{typed-cases, typed-sequence, typed-choice, typed-list}
-use Rattle.types.specs.Types.{Ty, sequence, choice, listOf, typed, unfilled}
+use Rattle.types.specs.Types.{Ty, sequence, choice, listOf, typed}
 use Rattle.types.specs.Begins.{alternativesDiffer, tagsApart}
 use Rattle.types.specs.Admitted.{tagsDiffer, rowsFormed, rowsNamed, membersAgree, typesFit, admittedRows, admitted}
 use Rattle.types.proofs.NameLaws.{unfilled-differ}
@@ -107,7 +107,7 @@ module _ (t : List ℕ) (ad : admitted tableLimits t ≡ true) where
   fit : typesFit (tableLimits .chain) t (tableRows t) ≡ true
   unfolding admitted admittedRows
   fit =
-      let formed = both-true (rowsFormed (tableLimits .rows) (tableLimits .members) (tableLimits .name) t (tableRows t)) _ ad in
+      let formed = both-true (rowsFormed (tableLimits .rows) (tableLimits .members) t (tableRows t)) _ ad in
       let named = both-true (rowsNamed t (tableRows t)) _ (formed .1) in
       both-true (membersAgree t (tableRows t)) _ (named .1) .1
 
@@ -136,7 +136,7 @@ module _ (t : List ℕ) (ad : admitted tableLimits t ≡ true) where
 
         both-not : (a b : ℕ) → a < b → b < membersAt t (placeAt t row) → nm a ≡ nm b → ⊥
         both-not a b l h q =
-            let d : same (nm b) (nm a) ≡ false = unfilled-differ tableLimits t ad refl row here a b l h in
+            let d : same (nm b) (nm a) ≡ false = unfilled-differ tableLimits t ad row here a b l h in
             let f : same (nm b) (nm a) ≡ true = ap (λ (y : List ℕ). same y (nm a)) (sym q) ∙ same-self (nm a) in
             absurd (let z : _≡_ {A = Bool} true false = sym f ∙ d in let y : _≡_ {A = ℕ} 0 1 = cc in omega arith)
 

@@ -13,7 +13,7 @@ use Rattle.octets.specs.Octets.{octet, same}
 use Rattle.octets.proofs.Laws.{rest-cons, rest-none}
 use Rattle.octets.proofs.TextLaws.{same-nil, same-shorter, same-longer, same-cons}
 use Rattle.octets.proofs.Steps.{same-lengths}
-use Rattle.types.specs.Types.{unfilled}
+use Rattle.rows.specs.Row.{unfilled}
 
 -- ---- a name without its fill
 unfilled-fill : (b : ℕ) (s : List ℕ) → b ≡ 0 → unfilled (b ∷ s) ≡ []

@@ -6,9 +6,8 @@ use Prim.Native.Nat.{ℕ, suc, _≤_, _<_, _+_, _-_}
 use native.Mathlib.Omega.{arith}
 use Rattle.octets.specs.Pick.{pick}
 use Rattle.octets.specs.Octets.{part, same}
-use Rattle.rows.specs.Row.{nameAt, rowAt, membersAt}
+use Rattle.rows.specs.Row.{nameAt, rowAt, membersAt, unfilled}
 use Rattle.clauses.specs.Clauses.{memberPlace}
-use Rattle.types.specs.Types.{unfilled}
 use Rattle.value.specs.inner.Work.{first}
 use Rattle.value.proofs.LeafSteps.{first-none, first-start, first-step}
 use Rattle.reference.specs.inner.Work.{namedOf}

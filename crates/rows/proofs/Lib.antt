@@ -2,3 +2,4 @@ pub mod Steps
 pub mod Laws
 pub mod KindLaws
 pub mod NumberSteps
+pub mod NameSteps

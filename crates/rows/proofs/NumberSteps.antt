@@ -127,30 +127,32 @@ every-append f (x ∷ a) b = ap (both (f x)) (every-append f a b) ∙ go (f x)
     go true = refl
     go false = refl
 
--- a field of eight octets more than `rest`
-module _ (rest : ℕ) (t : List ℕ) (p n : ℕ) where
-  pub filled-later : (r : Bool) → 8 ≤ n → r ≡ every isZero (part t (p + 8 + (n - 8)) (rest - (n - 8))) → r ≡ every isZero (part t (p + n) (8 + rest - n))
+-- a field in two parts, of so many octets and of `rest`
+module _ (part₁ rest : ℕ) (t : List ℕ) (p n : ℕ) where
+  pub filled-later : (r : Bool) → part₁ ≤ n → r ≡ every isZero (part t (p + part₁ + (n - part₁)) (rest - (n - part₁)))
+      → r ≡ every isZero (part t (p + n) (part₁ + rest - n))
   filled-later r h e =
-      let place : p + 8 + (n - 8) ≡ p + n = omega arith in
-      let left : rest - (n - 8) ≡ 8 + rest - n = omega arith in
+      let place : p + part₁ + (n - part₁) ≡ p + n = omega arith in
+      let left : rest - (n - part₁) ≡ part₁ + rest - n = omega arith in
       e ∙ ap₂ (λ (a b : ℕ). every isZero (part t a b)) place left
 
-  module _ (u : Bool) (h : n < 8) (first : u ≡ every isZero (part t (p + n) (8 - n))) where
-    split : every isZero (part t (p + n) (8 + rest - n)) ≡ both u (every isZero (part t (p + 8) rest))
+  module _ (u : Bool) (h : n < part₁) (first : u ≡ every isZero (part t (p + n) (part₁ - n))) where
+    split : every isZero (part t (p + n) (part₁ + rest - n)) ≡ both u (every isZero (part t (p + part₁) rest))
     split =
-        let size : 8 + rest - n ≡ 8 - n + rest = omega arith in
-        let place : p + n + (8 - n) ≡ p + 8 = omega arith in
+        let size : part₁ + rest - n ≡ part₁ - n + rest = omega arith in
+        let place : p + n + (part₁ - n) ≡ p + part₁ = omega arith in
         ap (λ (k : ℕ). every isZero (part t (p + n) k)) size
-        ∙ ap (every isZero) (take-add (8 - n) rest (drop (p + n) t))
-        ∙ every-append isZero (part t (p + n) (8 - n)) (take rest (drop (8 - n) (drop (p + n) t)))
-        ∙ ap₂ both (sym first) (ap (λ (l : List ℕ). every isZero (take rest l)) (drop-drop (8 - n) (p + n) t ∙ ap (λ (k : ℕ). drop k t) place))
+        ∙ ap (every isZero) (take-add (part₁ - n) rest (drop (p + n) t))
+        ∙ every-append isZero (part t (p + n) (part₁ - n)) (take rest (drop (part₁ - n) (drop (p + n) t)))
+        ∙ ap₂ both (sym first) (ap (λ (l : List ℕ). every isZero (take rest l)) (drop-drop (part₁ - n) (p + n) t ∙ ap (λ (k : ℕ). drop k t) place))
 
-    pub filled-not : not u ≡ true → false ≡ every isZero (part t (p + n) (8 + rest - n))
-    filled-not e = sym (split ∙ ap (λ (x : Bool). both x (every isZero (part t (p + 8) rest))) (not-true u e))
+    pub filled-not : not u ≡ true → false ≡ every isZero (part t (p + n) (part₁ + rest - n))
+    filled-not e = sym (split ∙ ap (λ (x : Bool). both x (every isZero (part t (p + part₁) rest))) (not-true u e))
 
-    pub filled-both : (r : Bool) → not u ≡ false → r ≡ every isZero (part t (p + 8 + 0) (rest - 0)) → r ≡ every isZero (part t (p + n) (8 + rest - n))
+    pub filled-both : (r : Bool) → not u ≡ false → r ≡ every isZero (part t (p + part₁ + 0) (rest - 0))
+        → r ≡ every isZero (part t (p + n) (part₁ + rest - n))
     filled-both r e q =
-        let place : p + 8 + 0 ≡ p + 8 = omega arith in
+        let place : p + part₁ + 0 ≡ p + part₁ = omega arith in
         let left : rest - 0 ≡ rest = omega arith in
         q ∙ ap₂ (λ (a b : ℕ). every isZero (part t a b)) place left
-        ∙ sym (split ∙ ap (λ (x : Bool). both x (every isZero (part t (p + 8) rest))) (not-false u e))
+        ∙ sym (split ∙ ap (λ (x : Bool). both x (every isZero (part t (p + part₁) rest))) (not-false u e))

@@ -1,6 +1,7 @@
 -- One lemma for each return and each turn of a loop; its premises are the facts as the code has them.
 use mathlib.Core.Path.{_≡_, refl, sym, ap, ap₂, _∙_}
-use mathlib.Core.Bool.{Bool, true, false, not}
+use mathlib.Core.Bool.{Bool, true, false, not, true≢false}
+use mathlib.Core.Logic.{⊎-elim}
 use mathlib.Core.List.{List}
 use Prim.Native.Nat.{ℕ, zero, suc, _≤_, _<_, _+_, _-_, _*_}
 use native.Mathlib.Omega.{arith}
@@ -12,15 +13,15 @@ use lib.Seq.{take-nil, getD-take, getD-drop, drop-drop}
 use Rattle.octets.specs.Pick.{no, all}
 use Rattle.octets.specs.Octets.{octet, two, part, every}
 use Rattle.octets.specs.Text.{within, isLower, isLetter, isAlnum, mayFollow}
-use Rattle.octets.proofs.Laws.{octet-past, rest-none, part-rest, both-true, all-at, all-is, all-more, all-bad}
+use Rattle.octets.proofs.Laws.{octet-past, rest-none, part-rest, both-true, all-at, all-is, all-more, all-bad, all-done}
 use Rattle.octets.proofs.TextLaws.{every-is, every-at}
-use Rattle.rows.specs.Row.{kindAt, nameOctetAt, defaultAt, isTypeKind, isGroup, isList, namedAt, membersAt, bitNamesAt, followerKind}
-use Rattle.rows.specs.Row.{followersAt}
+use Rattle.rows.specs.Row.{kindAt, nameWidth, nameAt, nameOctetAt, behindName, presenceAt, defaultLengthAt, defaultAt, isTypeKind, isMember, isGroup, isList}
+use Rattle.rows.specs.Row.{namedAt, rowSize, membersAt, bitNamesAt, followerKind, followersAt, standsAs, isFollower}
 use Rattle.rows.specs.Body.{countFormed, follows, followed, nameFormed, taggingFormed, tagFormed, presenceFormed, isZero, defaultFilled, memberFormed}
-use Rattle.rows.specs.Body.{bitFormed}
-use Rattle.rows.specs.inner.Sizes.{typeRowSize, typeSize, WholeMember}
+use Rattle.rows.specs.Body.{lengthFormed, bitFormed, rowFormed}
+use Rattle.rows.specs.inner.Sizes.{typeRowSize, typeSize, fieldsFormed, WholeFollower, WholeMember}
 use Rattle.rows.specs.Paper.{tableLimits}
-use Rattle.rows.proofs.KindLaws.{list-named, member-named}
+use Rattle.rows.proofs.KindLaws.{list-named, member-named, member-kind, member-or-bit, wide-name, follower-member}
 
 -- ---- reading
 pub from-past : (t : List ℕ) (p k : ℕ) → length t ≤ p → take k (drop (length t) t) ≡ drop p t
@@ -41,18 +42,48 @@ number-is t p k a b r e f g =
     let next : p + (k + 1) ≡ p + k + 1 = omega arith in
     g ∙ ap₂ (λ (x y : ℕ). x * 256 + y) e (f ∙ ap (octet t) next)
 
-pub default-is : (t a : List ℕ) (p n w : ℕ) → n ≡ octet t (p + 30) → w ≡ n → a ≡ part t (p + 31) w → a ≡ defaultAt t p
-default-is t a p n w e f g = g ∙ ap (part t (p + 31)) (f ∙ e)
+-- ---- behind a name
+pub width-long : (k : ℕ) → k ≡ 21 → 48 ≡ nameWidth k
+unfolding nameWidth
+width-long k e = rw e
 
-pub default-whole : (t : List ℕ) (p n w : ℕ) → n ≡ octet t (p + 30) → w ≡ n → take (p + 31 + w - (p + 31)) (drop (p + 31) t) ≡ defaultAt t p
-default-whole t p n w e f = let size : p + 31 + w - (p + 31) ≡ w = omega arith in ap (part t (p + 31)) (size ∙ f ∙ e)
+pub width-short : (k : ℕ) → (k ≡ 21 → ⊥) → 24 ≡ nameWidth k
+unfolding nameWidth
+width-short k n = rw (ne-eqb k 21 n)
+
+pub behind-is : (t : List ℕ) (p w : ℕ) → w ≡ nameWidth (octet t p) → p + (1 + w) ≡ behindName t p
+unfolding behindName
+behind-is t p w e = ap (λ (x : ℕ). p + (1 + x)) e
+
+module _ (t : List ℕ) (p o w : ℕ) (read : o ≡ octet t p) (wide : w ≡ nameWidth o) where
+  behind : behindName t p ≡ p + (1 + w)
+  behind = sym (behind-is t p w (wide ∙ ap nameWidth read))
+
+  pub name-is : (a : List ℕ) → a ≡ part t (p + 1) w → a ≡ nameAt t p
+  name-is a e = e ∙ ap (part t (p + 1)) (wide ∙ ap nameWidth read)
+
+  pub field-behind : (k r : ℕ) → r ≡ octet t (p + (w + 1 + k)) → r ≡ octet t (behindName t p + k)
+  field-behind k r e = let b = behind in let place : p + (w + 1 + k) ≡ behindName t p + k = omega arith in e ∙ ap (octet t) place
+
+  pub default-is : (a : List ℕ) (n z : ℕ) → n ≡ octet t (behindName t p + 5) → z ≡ n → a ≡ part t (p + (w + 7)) z → a ≡ defaultAt t p
+  default-is a n z e f g =
+      let b = behind in
+      let place : p + (w + 7) ≡ behindName t p + 6 = omega arith in
+      g ∙ ap₂ (part t) place (f ∙ e)
+
+module _ (t : List ℕ) (p q : ℕ) (at : q ≡ behindName t p) where
+  pub field-whole : (k : ℕ) → octet t (q + k) ≡ octet t (behindName t p + k)
+  field-whole k = ap (λ (x : ℕ). octet t (x + k)) at
+
+  pub default-whole : (n w : ℕ) → n ≡ octet t (behindName t p + 5) → w ≡ n → take (q + 6 + w - (q + 6)) (drop (q + 6) t) ≡ defaultAt t p
+  default-whole n w e f = let size : q + 6 + w - (q + 6) ≡ w = omega arith in ap₂ (λ (x y : ℕ). part t (x + 6) y) at (size ∙ f ∙ e)
 
 -- ---- the row that a row names
 pub element-named : (t : List ℕ) (p r : ℕ) → isList (kindAt t p) ≡ true → r ≡ two t (p + 1) → r ≡ namedAt t p
 element-named t p r h e = e ∙ sym (list-named t p h)
 
-pub type-row-whole : (t : List ℕ) (p r : ℕ) → WholeMember t p → r ≡ octet t (p + 25) * 256 + octet t (p + 26) → r ≡ namedAt t p
-type-row-whole t p r w e = number-is t p 25 (octet t (p + 25)) (octet t (p + 26)) r refl refl e ∙ sym (member-named t p (w .member))
+pub type-row-whole : (t : List ℕ) (p q r : ℕ) → q ≡ behindName t p → WholeMember t p → r ≡ octet t q * 256 + octet t (q + 1) → r ≡ namedAt t p
+type-row-whole t p q r at w e = e ∙ ap (two t) at ∙ sym (member-named t p (w .member))
 
 -- ---- the rows
 module _ (k : ℕ) (a : Bool) (basic : a ≡ within 1 11 k) where
@@ -199,7 +230,7 @@ same-truth false false f g = refl
 
 -- ---- a name, octet by octet
 -- after the fill only fill
-fill-on : (t : List ℕ) (p n j : ℕ) → all (followed t p) n ≡ true → nameOctetAt t p j ≡ 0 → (i : ℕ) → j + i ≤ n → nameOctetAt t p (j + i) ≡ 0
+pub fill-on : (t : List ℕ) (p n j : ℕ) → all (followed t p) n ≡ true → nameOctetAt t p j ≡ 0 → (i : ℕ) → j + i ≤ n → nameOctetAt t p (j + i) ≡ 0
 unfolding followed follows
 fill-on t p n j a z zero h = rw (add-zero j) z
 fill-on t p n j a z (suc i) h =
@@ -208,7 +239,7 @@ fill-on t p n j a z (suc i) h =
     let next : j + suc i ≡ j + i + 1 = omega arith in
     rw next (eqb-true _ _ (rw before at pair))
 
-part-octet : (s : List ℕ) (k n i : ℕ) → i < n → octet (part s k n) i ≡ octet s (k + i)
+pub part-octet : (s : List ℕ) (k n i : ℕ) → i < n → octet (part s k n) i ≡ octet s (k + i)
 part-octet s k n i h = getD-take n (drop k s) i 0 h ∙ getD-drop k s i 0
 
 part-within : (s : List ℕ) (k n i : ℕ) → i < length (part s k n) → i < n
@@ -280,81 +311,172 @@ module _ (t : List ℕ) (p j a b : ℕ) (u : Bool) (last : a ≡ nameOctetAt t p
   unfolding followed
   pair = told ∙ ap₂ follows last named-next
 
-  pub named-bad : j < tableLimits .name - 1 → not u ≡ true → false ≡ all (followed t p) (tableLimits .name - 1)
-  named-bad h n = all-bad (followed t p) j u pair (tableLimits .name - 1) h n
+  pub named-bad : (w : ℕ) → w ≡ nameWidth (octet t p) → j < w - 1 → not u ≡ true → false ≡ all (followed t p) (nameWidth (octet t p) - 1)
+  named-bad w e h n = all-bad (followed t p) j u pair (nameWidth (octet t p) - 1) (rw e at h) n
 
   module _ (before : all (followed t p) j ≡ true) (n : not u ≡ false) where
     pub named-more : all (followed t p) (j + 1) ≡ true
     named-more = all-more (followed t p) j u pair before n
 
-    named-rest : b ≡ 0 → every isZero (part t (p + (j + 2)) (tableLimits .name - 1 - j)) ≡ all (followed t p) (tableLimits .name - 1)
-    named-rest z = fill-is t p (tableLimits .name - 1) j named-more (sym named-next ∙ z)
-
-    pub named-fill : (r : Bool) → b ≡ 0 → r ≡ every isZero (part t (p + 1 + (j + 1)) (tableLimits .name - (j + 1))) → r ≡ all (followed t p) (tableLimits .name - 1)
+    pub named-fill : (r : Bool) → b ≡ 0 → r ≡ every isZero (part t (p + 1 + (j + 1)) (nameWidth (octet t p) - (j + 1)))
+        → r ≡ all (followed t p) (nameWidth (octet t p) - 1)
     named-fill r z q =
         let place : p + 1 + (j + 1) ≡ p + (j + 2) = omega arith in
-        let left : tableLimits .name - (j + 1) ≡ tableLimits .name - 1 - j = omega arith in
-        q ∙ ap₂ (λ (x y : ℕ). every isZero (part t x y)) place left ∙ named-rest z
+        let left : nameWidth (octet t p) - (j + 1) ≡ nameWidth (octet t p) - 1 - j = omega arith in
+        q ∙ ap₂ (λ (x y : ℕ). every isZero (part t x y)) place left ∙ fill-is t p (nameWidth (octet t p) - 1) j named-more (sym named-next ∙ z)
+
+pub named-done : (t : List ℕ) (p j w : ℕ) → w ≡ nameWidth (octet t p) → all (followed t p) j ≡ true → j ≤ nameWidth (octet t p) - 1 → w - 1 ≤ j
+    → true ≡ all (followed t p) (nameWidth (octet t p) - 1)
+named-done t p j w e a l h = all-done (followed t p) j (nameWidth (octet t p) - 1) a l (rw e at h)
+
+-- the fill of a name by its width
+module _ (k p n m : ℕ) where
+  pub long-place : p + nameWidth k ≤ m → k ≡ 21 → p + 48 ≤ m
+  long-place l e = let w = width-long k e in omega arith
+
+  pub long-count : n ≤ nameWidth k → k ≡ 21 → n ≤ 48
+  long-count l e = let w = width-long k e in omega arith
+
+  pub short-place : p + nameWidth k ≤ m → (k ≡ 21 → ⊥) → p + 24 ≤ m
+  short-place l e = let w = width-short k e in omega arith
+
+  pub short-count : n ≤ nameWidth k → (k ≡ 21 → ⊥) → n ≤ 24
+  short-count l e = let w = width-short k e in omega arith
+
+module _ (t : List ℕ) (p n k : ℕ) (r : Bool) where
+  pub fill-long : k ≡ 21 → r ≡ every isZero (part t (p + n) (48 - n)) → r ≡ every isZero (part t (p + n) (nameWidth k - n))
+  fill-long e q = q ∙ ap (λ (x : ℕ). every isZero (part t (p + n) (x - n))) (width-long k e)
+
+  pub fill-short : (k ≡ 21 → ⊥) → r ≡ every isZero (part t (p + n) (24 - n)) → r ≡ every isZero (part t (p + n) (nameWidth k - n))
+  fill-short e q = q ∙ ap (λ (x : ℕ). every isZero (part t (p + n) (x - n))) (width-short k e)
 
 module _ (t : List ℕ) (p o : ℕ) (low : Bool) (read : o ≡ octet t (p + 1)) (told : low ≡ isLower o) where
-  pub name-high : not low ≡ true → false ≡ nameFormed (tableLimits .name) t p
+  pub name-high : not low ≡ true → false ≡ nameFormed t p
   unfolding nameFormed
   name-high h = rw (← read, sym told ∙ not-true low h)
 
-  module _ (l : ℕ) (h : not low ≡ false) (last : l ≡ octet t (p + tableLimits .name)) where
-    pub name-hyphen : l ≡ 45 → false ≡ nameFormed (tableLimits .name) t p
-    unfolding nameFormed
-    name-hyphen q = rw (← read, sym told ∙ not-false low h, ← last, eq-eqb l 45 q)
+  module _ (l w : ℕ) (h : not low ≡ false) (wide : w ≡ nameWidth (octet t p)) (last : l ≡ octet t (p + w)) where
+    last-octet : nameOctetAt t p (nameWidth (octet t p) - 1) ≡ l
+    last-octet =
+        let g = wide-name (octet t p) in
+        let place : p + (1 + (nameWidth (octet t p) - 1)) ≡ p + w = omega arith in
+        ap (octet t) place ∙ sym last
 
-    name-spelt : (r : Bool) → (l ≡ 45 → ⊥) → r ≡ all (followed t p) (tableLimits .name - 1) → r ≡ nameFormed (tableLimits .name) t p
+    pub name-hyphen : l ≡ 45 → false ≡ nameFormed t p
     unfolding nameFormed
-    name-spelt r q e = rw (← read, sym told ∙ not-false low h, ← last, ne-eqb l 45 q) e
+    name-hyphen q = rw (← read, sym told ∙ not-false low h, last-octet, eq-eqb l 45 q)
+
+    name-spelt : (r : Bool) → (l ≡ 45 → ⊥) → r ≡ all (followed t p) (nameWidth (octet t p) - 1) → r ≡ nameFormed t p
+    unfolding nameFormed
+    name-spelt r q e = rw (← read, sym told ∙ not-false low h, last-octet, ne-eqb l 45 q) e
 
 pub lower-begins : (t : List ℕ) (p : ℕ) (low : Bool) → low ≡ isLower (octet t (p + 1)) → not low ≡ false → 0 < octet t (p + 1)
 lower-begins t p low told h = lower-some (octet t (p + 1)) low told (not-false low h)
 
-pub name-whole : (t : List ℕ) (p o : ℕ) (low r : Bool) → o ≡ octet t (p + 1) → low ≡ isLower o → not low ≡ false → (octet t (p + tableLimits .name) ≡ 45 → ⊥)
-    → r ≡ all (followed t p) (tableLimits .name - 1) → r ≡ nameFormed (tableLimits .name) t p
-name-whole t p o low r read told h q e = name-spelt t p o low read told (octet t (p + tableLimits .name)) h refl r q e
+pub name-whole : (t : List ℕ) (p o w : ℕ) (low r : Bool) → o ≡ octet t (p + 1) → low ≡ isLower o → not low ≡ false → w ≡ nameWidth (octet t p)
+    → (octet t (p + w) ≡ 45 → ⊥) → r ≡ all (followed t p) (nameWidth (octet t p) - 1) → r ≡ nameFormed t p
+name-whole t p o w low r read told h wide q e = name-spelt t p o low read told (octet t (p + w)) w h wide refl r q e
 
-module _ (t : List ℕ) (p o n : ℕ) (read : o ≡ octet t (p + 30)) (wide : n ≡ o) where
+-- ---- behind the name
+module _ (t : List ℕ) (p q o n : ℕ) (at : q ≡ behindName t p) (read : o ≡ octet t (q + 5)) (wide : n ≡ o) where
+  length-is : defaultLengthAt t p ≡ n
+  length-is = ap (λ (x : ℕ). octet t (x + 5)) (sym at) ∙ sym (wide ∙ read)
+
   pub filled-long : 8 < n → false ≡ defaultFilled t p
   unfolding defaultFilled
-  filled-long h = rw (← read, ← wide, lt-leb n 8 h)
+  filled-long h = rw (length-is, lt-leb n 8 h)
 
-  pub filled-here : (r : Bool) → n ≤ 8 → r ≡ every isZero (part t (p + 31 + n) (8 - n)) → r ≡ defaultFilled t p
+  pub filled-here : (r : Bool) → n ≤ 8 → r ≡ every isZero (part t (q + 6 + n) (8 - n)) → r ≡ defaultFilled t p
   unfolding defaultFilled
-  filled-here r h q = let place : p + 31 + n ≡ p + (31 + n) = omega arith in rw (← read, ← wide, le-leb n 8 h) (q ∙ ap (λ (x : ℕ). every isZero (part t x (8 - n))) place)
+  filled-here r h e =
+      let place : q + 6 + n ≡ behindName t p + (6 + n) = omega arith in
+      rw (length-is, le-leb n 8 h) (e ∙ ap (λ (x : ℕ). every isZero (part t x (8 - n))) place)
 
-module _ (t : List ℕ) (p : ℕ) (r : Bool) (named : r ≡ nameFormed (tableLimits .name) t p) where
-  pub member-name : not r ≡ true → false ≡ memberFormed (tableLimits .name) t p
+module _ (t : List ℕ) (p q : ℕ) (at : q ≡ behindName t p) (a b : ℕ) (u : Bool)
+    (e : a ≡ octet t (q + 2)) (f : b ≡ octet t (q + 3)) (told : u ≡ taggingFormed a b) where
+  tag : u ≡ tagFormed t p
+  unfolding tagFormed
+  tag = told ∙ ap₂ taggingFormed (e ∙ field-whole t p q at 2) (f ∙ field-whole t p q at 3)
+
+  pub member-tag : not u ≡ true → false ≡ fieldsFormed t p
+  unfolding fieldsFormed
+  member-tag g = rw (sym tag ∙ not-true u g)
+
+  module _ (g : not u ≡ false) (c : ℕ) (read : c ≡ octet t (q + 4)) where
+    presence : presenceAt t p ≡ c
+    presence = sym (read ∙ field-whole t p q at 4)
+
+    pub member-presence : 2 < c → false ≡ fieldsFormed t p
+    unfolding fieldsFormed presenceFormed
+    member-presence l = rw (sym tag ∙ not-false u g, presence, lt-leb c 2 l)
+
+    pub member-filled : (w : Bool) → c ≤ 2 → w ≡ defaultFilled t p → w ≡ fieldsFormed t p
+    unfolding fieldsFormed presenceFormed
+    member-filled w l k = rw (sym tag ∙ not-false u g, presence, le-leb c 2 l) k
+
+-- ---- a member
+module _ (t : List ℕ) (p : ℕ) (r : Bool) (named : r ≡ nameFormed t p) where
+  pub named-is : not r ≡ false → nameFormed t p ≡ true
+  named-is h = sym named ∙ not-false r h
+
+  pub member-name : not r ≡ true → false ≡ memberFormed t p
   unfolding memberFormed
   member-name h = rw (sym named ∙ not-true r h)
 
-  module _ (h : not r ≡ false) (a b : ℕ) (u : Bool) (e : a ≡ octet t (p + 27)) (f : b ≡ octet t (p + 28)) (told : u ≡ taggingFormed a b) where
-    tag : u ≡ tagFormed t p
-    unfolding tagFormed
-    tag = told ∙ ap₂ taggingFormed e f
-
-    pub member-tag : not u ≡ true → false ≡ memberFormed (tableLimits .name) t p
+  module _ (h : not r ≡ false) (l : Bool) (sized : l ≡ lengthFormed t p) where
+    pub member-length : not l ≡ true → false ≡ memberFormed t p
     unfolding memberFormed
-    member-tag g = rw (sym named ∙ not-false r h, sym tag ∙ not-true u g)
+    member-length g = rw (named-is h, sym sized ∙ not-true l g)
 
-    module _ (g : not u ≡ false) (c : ℕ) (q : c ≡ octet t (p + 29)) where
-      pub member-presence : 2 < c → false ≡ memberFormed (tableLimits .name) t p
-      unfolding memberFormed presenceFormed
-      member-presence l = rw (sym named ∙ not-false r h, sym tag ∙ not-false u g, ← q, lt-leb c 2 l)
-
-      pub member-filled : (w : Bool) → c ≤ 2 → w ≡ defaultFilled t p → w ≡ memberFormed (tableLimits .name) t p
-      unfolding memberFormed presenceFormed
-      member-filled w l k = rw (sym named ∙ not-false r h, sym tag ∙ not-false u g, ← q, le-leb c 2 l) k
+    pub member-fields : (u : Bool) → not l ≡ false → u ≡ fieldsFormed t p → u ≡ memberFormed t p
+    unfolding memberFormed fieldsFormed
+    member-fields u g e = rw (named-is h, sym sized ∙ not-false l g) e
 
 -- ---- a named bit
-module _ (name : ℕ) (t : List ℕ) (p : ℕ) (r : Bool) (told : r ≡ nameFormed name t p) where
-  pub bit-name : not r ≡ true → false ≡ bitFormed name t p
+module _ (t : List ℕ) (p : ℕ) (r : Bool) (told : r ≡ nameFormed t p) where
+  pub bit-name : not r ≡ true → false ≡ bitFormed t p
   unfolding bitFormed
   bit-name e = rw (sym told ∙ not-true r e)
 
-  pub bit-number : not r ≡ false → leb (octet t (p + 25)) 63 ≡ bitFormed name t p
+  pub bit-number : not r ≡ false → leb (octet t (p + 25)) 63 ≡ bitFormed t p
   unfolding bitFormed
   bit-number e = rw (sym told ∙ not-false r e)
+
+-- ---- a row that follows another
+module _ (t : List ℕ) (p : ℕ) (m : Bool) (told : m ≡ isMember (octet t p)) where
+  pub formed-member : (r : Bool) → m ≡ true → r ≡ memberFormed t p → r ≡ rowFormed (tableLimits .members) t p
+  unfolding rowFormed
+  formed-member r e q = rw (sym told ∙ e) q
+
+  module _ (whole : WholeFollower t p) (e : m ≡ false) where
+    is-bit : kindAt t p ≡ 18
+    is-bit = ⊎-elim (λ h. absurd (true≢false (sym h ∙ sym told ∙ e))) (λ h. h) (member-or-bit (kindAt t p) (whole .follows))
+
+    pub formed-bit : (r : Bool) → r ≡ bitFormed t p → r ≡ rowFormed (tableLimits .members) t p
+    unfolding rowFormed isMember
+    formed-bit r q = rw is-bit q
+
+  pub formed-inside : WholeFollower t p → m ≡ true → behindName t p + 14 ≤ length t
+  formed-inside whole e = follower-member t p whole (sym told ∙ e)
+
+-- ---- kinds
+module _ (k : ℕ) where
+  pub stands-long : k ≡ 21 → 16 ≡ standsAs k
+  unfolding standsAs
+  stands-long e = rw e
+
+  pub stands-other : (k ≡ 21 → ⊥) → k ≡ standsAs k
+  unfolding standsAs
+  stands-other n = rw (ne-eqb k 21 n)
+
+  pub size-member : k ≡ 16 → 39 ≡ rowSize k
+  unfolding rowSize isGroup isList isMember nameWidth
+  size-member e = rw e
+
+  pub size-long : k ≡ 21 → 63 ≡ rowSize k
+  unfolding rowSize isGroup isList isMember nameWidth
+  size-long e = rw e
+
+  pub size-bit : isFollower k ≡ true → (k ≡ 16 → ⊥) → (k ≡ 21 → ⊥) → 26 ≡ rowSize k
+  unfolding rowSize isGroup isList isMember
+  size-bit f n m = ⊎-elim (λ h. absurd (⊎-elim n m (member-kind k h))) (λ (h : k ≡ 18). rw h) (member-or-bit k f)

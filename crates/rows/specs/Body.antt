@@ -2,12 +2,14 @@
 use Prim.Native.Nat.{ℕ, _+_, _-_}
 use mathlib.Core.Bool.{Bool, true}
 use mathlib.Core.List.{List}
+use lib.ListN.{length}
 use lib.Dec.{leb, eqb}
 use Rattle.octets.specs.Pick.{pick, both, either, no, all}
 use Rattle.octets.specs.Octets.{part, every}
 use Rattle.octets.specs.Text.{within, isLower, mayFollow, mayBeLast}
 use Rattle.der.specs.Kind as kind
-use Rattle.rows.specs.Row.{nameWidth, kindAt, countAt, nameOctetAt, modeAt, numberAt, presenceAt, defaultLengthAt, bitNumberAt}
+use Rattle.rows.specs.Row.{kindAt, countAt, shortWidth, longWidth, nameWidth, nameAt, nameOctetAt, unfilled, behindName, modeAt, numberAt, presenceAt}
+use Rattle.rows.specs.Row.{defaultLengthAt, bitNumberAt, isMember}
 
 -- members from 0, alternatives and names of bits from 1, up to the limit
 unfoldable pub countFormed : ℕ → List ℕ → ℕ → Bool
@@ -28,9 +30,16 @@ follows a b =
 unfoldable pub followed : List ℕ → ℕ → ℕ → Bool
 followed t p j = follows (nameOctetAt t p j) (nameOctetAt t p (j + 1))
 
--- the name of the row at p, a member's or a bit's, in a field of n octets
-unfoldable pub nameFormed : ℕ → List ℕ → ℕ → Bool
-nameFormed n t p = both (isLower (nameOctetAt t p 0)) (both (mayBeLast (nameOctetAt t p (n - 1))) (all (followed t p) (n - 1)))
+-- the name of the row at p, a member's or a bit's, in its field
+unfoldable pub nameFormed : List ℕ → ℕ → Bool
+nameFormed t p =
+    both (isLower (nameOctetAt t p 0))
+    (both (mayBeLast (nameOctetAt t p (nameWidth (kindAt t p) - 1)))
+    (all (followed t p) (nameWidth (kindAt t p) - 1)))
+
+-- document 02, Q-4, of kind 21: "admitted only for names of 25 to 48 characters, so that each member still has one form"
+unfoldable pub lengthFormed : List ℕ → ℕ → Bool
+lengthFormed t p = either (no (eqb (kindAt t p) kind.longMember)) (within (shortWidth + 1) longWidth (length (unfilled (nameAt t p))))
 
 -- tag mode 0 none, 1 explicit, 2 implicit; context tag number 0..30, and 0 in mode 0
 unfoldable pub taggingFormed : ℕ → ℕ → Bool
@@ -48,19 +57,19 @@ abbrev pub isZero : ℕ → Bool
 isZero b = eqb b 0
 
 unfoldable pub defaultFilled : List ℕ → ℕ → Bool
-defaultFilled t p = both (leb (defaultLengthAt t p) 8) (every isZero (part t (p + (nameWidth + 7 + defaultLengthAt t p)) (8 - defaultLengthAt t p)))
+defaultFilled t p = both (leb (defaultLengthAt t p) 8) (every isZero (part t (behindName t p + (6 + defaultLengthAt t p)) (8 - defaultLengthAt t p)))
 
--- a member's body, with a name's field of so many octets
-unfoldable pub memberFormed : ℕ → List ℕ → ℕ → Bool
-memberFormed name t p = both (nameFormed name t p) (both (tagFormed t p) (both (presenceFormed t p) (defaultFilled t p)))
+-- a member's body
+unfoldable pub memberFormed : List ℕ → ℕ → Bool
+memberFormed t p = both (nameFormed t p) (both (lengthFormed t p) (both (tagFormed t p) (both (presenceFormed t p) (defaultFilled t p))))
 
 -- a named bit's body (document 02, Q-2): "name as in a member, then bit number 0..63"
-unfoldable pub bitFormed : ℕ → List ℕ → ℕ → Bool
-bitFormed name t p = both (nameFormed name t p) (leb (bitNumberAt t p) 63)
+unfoldable pub bitFormed : List ℕ → ℕ → Bool
+bitFormed t p = both (nameFormed t p) (leb (bitNumberAt t p) 63)
 
--- at most so many members or names, names' fields of so many octets
-unfoldable pub rowFormed : ℕ → ℕ → List ℕ → ℕ → Bool
-rowFormed most name t p =
-    pick (eqb (kindAt t p) kind.member) (memberFormed name t p)
-    (pick (eqb (kindAt t p) kind.namedBit) (bitFormed name t p)
+-- at most so many members or names
+unfoldable pub rowFormed : ℕ → List ℕ → ℕ → Bool
+rowFormed most t p =
+    pick (isMember (kindAt t p)) (memberFormed t p)
+    (pick (eqb (kindAt t p) kind.namedBit) (bitFormed t p)
     (countFormed most t p))

@@ -1,5 +1,4 @@
--- The limits of a table: its octets, its rows, the type rows of a chain, the members of a SEQUENCE or CHOICE or named bits of a BIT STRING, the octets of a
--- name.
+-- The limits of a table: its octets, its rows, the type rows of a chain, the members of a SEQUENCE or CHOICE or named bits of a BIT STRING.
 use Prim.Native.Nat.{ℕ}
 use mathlib.Core.Bool.{Bool}
 use mathlib.Core.List.{List}
@@ -12,7 +11,6 @@ pub record Limits : Type 0 where
   pub rows : ℕ
   pub chain : ℕ
   pub members : ℕ
-  pub name : ℕ
 
 -- refusal 1: the table's size
 unfoldable pub tableFits : Limits → List ℕ → Bool

@@ -4,7 +4,7 @@
 use Prim.Native.Nat.{ℕ, zero, suc, _+_, _-_}
 use mathlib.Core.Bool.{Bool}
 use mathlib.Core.Option.{Option, none, some}
-use mathlib.Core.List.{List, []}
+use mathlib.Core.List.{List, [], _∷_}
 use lib.ListN.{getD, length}
 use lib.Dec.{ltb, eqb}
 use Rattle.octets.specs.Pick.{pick, either, consed, isSome}
@@ -24,50 +24,69 @@ countAt t p = octet t (p + 1)
 abbrev pub elementAt : List ℕ → ℕ → ℕ
 elementAt t p = two t (p + 1)
 
--- of a member: "name (24, filled with zeros)", then type row, tag mode, context tag number, presence, default length, default contents (8)
-abbrev pub nameWidth : ℕ
-nameWidth = 24
+-- the octets of a name's field, by the kind of its row: "name (24, filled with zeros)"; document 02, Q-4: "a member whose name field is 48 bytes"
+abbrev pub shortWidth : ℕ
+shortWidth = 24
 
+abbrev pub longWidth : ℕ
+longWidth = 48
+
+unfoldable pub nameWidth : ℕ → ℕ
+nameWidth k = pick (eqb k kind.longMember) longWidth shortWidth
+
+-- the name's field, its octets, and the name, which is the field without its fill
 abbrev pub nameAt : List ℕ → ℕ → List ℕ
-nameAt t p = part t (p + 1) nameWidth
+nameAt t p = part t (p + 1) (nameWidth (kindAt t p))
 
 abbrev pub nameOctetAt : List ℕ → ℕ → ℕ → ℕ
 nameOctetAt t p j = octet t (p + (1 + j))
 
+unfoldable pub unfilled : List ℕ → List ℕ
+unfilled [] = []
+unfilled (b ∷ bs) = let r = b ∷ unfilled bs in pick (eqb b 0) [] r
+
+-- of a member, behind its name: type row, tag mode, context tag number, presence, default length, default contents (8)
+unfoldable pub behindName : List ℕ → ℕ → ℕ
+behindName t p = p + (1 + nameWidth (kindAt t p))
+
 abbrev pub typeRowAt : List ℕ → ℕ → ℕ
-typeRowAt t p = two t (p + (nameWidth + 1))
+typeRowAt t p = two t (behindName t p)
 
 abbrev pub modeAt : List ℕ → ℕ → ℕ
-modeAt t p = octet t (p + (nameWidth + 3))
+modeAt t p = octet t (behindName t p + 2)
 
 abbrev pub numberAt : List ℕ → ℕ → ℕ
-numberAt t p = octet t (p + (nameWidth + 4))
+numberAt t p = octet t (behindName t p + 3)
 
 abbrev pub presenceAt : List ℕ → ℕ → ℕ
-presenceAt t p = octet t (p + (nameWidth + 5))
+presenceAt t p = octet t (behindName t p + 4)
 
 abbrev pub defaultLengthAt : List ℕ → ℕ → ℕ
-defaultLengthAt t p = octet t (p + (nameWidth + 6))
+defaultLengthAt t p = octet t (behindName t p + 5)
 
 abbrev pub defaultAt : List ℕ → ℕ → List ℕ
-defaultAt t p = part t (p + (nameWidth + 7)) (defaultLengthAt t p)
+defaultAt t p = part t (behindName t p + 6) (defaultLengthAt t p)
 
--- the octets of a member row
-abbrev pub memberSize : ℕ
-memberSize = nameWidth + 15
+-- the octets of a member row of kind k: bodies of 38, and of 62 with a long name
+abbrev pub memberSize : ℕ → ℕ
+memberSize k = nameWidth k + 15
 
 -- of a named bit (document 02, Q-2): "name as in a member, then bit number 0..63"
 abbrev pub bitNumberAt : List ℕ → ℕ → ℕ
-bitNumberAt t p = octet t (p + (nameWidth + 1))
+bitNumberAt t p = octet t (p + (shortWidth + 1))
 
 -- the octets of a row of a named bit
 abbrev pub bitSize : ℕ
-bitSize = nameWidth + 2
+bitSize = shortWidth + 2
 
 -- ---- the rows
 -- kinds of types: BOOLEAN to SET OF, BIT STRING with names, RDNSequence and RDN
 unfoldable pub isTypeKind : ℕ → Bool
 isTypeKind k = either (within kind.boolean kind.setOf k) (either (eqb k kind.namedBitString) (within kind.rdnSequence kind.rdn k))
+
+-- kinds of members: kind 21 is a member in everything but its name's field (document 02, Q-4)
+unfoldable pub isMember : ℕ → Bool
+isMember k = either (eqb k kind.member) (eqb k kind.longMember)
 
 -- kinds with members, and kinds with an element
 unfoldable pub isGroup : ℕ → Bool
@@ -80,7 +99,7 @@ isList k = either (eqb k kind.sequenceOf) (eqb k kind.setOf)
 unfoldable pub rowNamed : List ℕ → ℕ → Option ℕ
 rowNamed t p =
     pick (isList (kindAt t p)) (some (elementAt t p))
-    (pick (eqb (kindAt t p) kind.member) (some (typeRowAt t p))
+    (pick (isMember (kindAt t p)) (some (typeRowAt t p))
     none)
 
 -- whether it names one; the number of that row, 0 where there is none
@@ -100,7 +119,7 @@ rowSize k =
     pick (within kind.boolean kind.generalizedTime k) 1
     (pick (isGroup k) 2
     (pick (isList k) 3
-    (pick (eqb k kind.member) memberSize
+    (pick (isMember k) (memberSize k)
     (pick (eqb k kind.namedBitString) 2
     (pick (eqb k kind.namedBit) bitSize
     (pick (within kind.rdnSequence kind.rdn k) 1
@@ -136,7 +155,7 @@ membersAt t p = pick (isGroup (kindAt t p)) (countAt t p) 0
 unfoldable pub bitNamesAt : List ℕ → ℕ → ℕ
 bitNamesAt t p = pick (eqb (kindAt t p) kind.namedBitString) (countAt t p) 0
 
--- rows that follow a row of a kind: their kind (0 where none follow), and how many follow the row at p
+-- rows that follow a row of a kind: their kind (0 where none follow), and how many follow the row at p. A member with a long name stands where a member does
 unfoldable pub followerKind : ℕ → ℕ
 followerKind k =
     pick (isGroup k) kind.member
@@ -146,6 +165,9 @@ followerKind k =
 unfoldable pub followersAt : List ℕ → ℕ → ℕ
 followersAt t p = pick (eqb (followerKind (kindAt t p)) 0) 0 (countAt t p)
 
+unfoldable pub standsAs : ℕ → ℕ
+standsAs k = pick (eqb k kind.longMember) kind.member k
+
 -- the kinds of rows that only follow another
 unfoldable pub isFollower : ℕ → Bool
-isFollower k = either (eqb k kind.member) (eqb k kind.namedBit)
+isFollower k = either (isMember k) (eqb k kind.namedBit)

@@ -9,7 +9,7 @@ ghost use Rattle.octets.specs.Octets.{octet, two, part, every, same};
 ghost use Rattle.rows.specs.Row as row;
 ghost use Rattle.rows.specs.Body as body;
 ghost use Rattle.rows.specs.inner.Numbers.{leastFirst};
-ghost use Rattle.rows.specs.inner.Sizes.{typeRowSize, typeSize, WholeMember};
+ghost use Rattle.rows.specs.inner.Sizes.{typeRowSize, typeSize, fieldsFormed, WholeName, WholeFollower, WholeMember};
 ghost use Rattle.rows.specs.Limits.{tableFits};
 ghost use Rattle.rows.specs.Paper.{tableLimits};
 
@@ -21,7 +21,7 @@ pub struct Table {
 impl Table {
     pub const MIN_BYTES: usize = 1;
 
-    pub const MAX_BYTES: usize = 4992;
+    pub const MAX_BYTES: usize = 8064;
 
     pub const MAX_ROWS: usize = 128;
 
@@ -29,11 +29,15 @@ impl Table {
 
     pub const MAX_MEMBERS: u8 = 16;
 
-    // A name's octets, and the width of its field.
+    // The octets of a name, and of its field; of a long one.
     pub const MAX_NAME: usize = 24;
 
-    // The octets of a member row, and of the row of a named bit.
+    pub const MAX_LONG_NAME: usize = 48;
+
+    // The octets of a member row, of one with a long name, and of the row of a named bit.
     pub const MEMBER_BYTES: usize = 39;
+
+    pub const LONG_MEMBER_BYTES: usize = 63;
 
     pub const BIT_BYTES: usize = 26;
 
@@ -105,11 +109,23 @@ pub fn element_at(t: &[u8], p: usize) -> usize
     number_after(t, p, 1)
 }
 
-// A member's name, with its fill.
+// The octets of a name's field in a row of a kind.
+fn name_width(kind: u8) -> usize
+    ensures width { λ r. ⌜ r ≡ row.nameWidth kind ⌝ }
+    ensures least { λ r. ⌜ 24 ≤ r ⌝ }
+    ensures most { λ r. ⌜ r ≤ 48 ⌝ }
+{
+    if kind == Kind::LONG_MEMBER {
+        return Table::MAX_LONG_NAME;
+    }
+    Table::MAX_NAME
+}
+
+// A member's or a bit's name, with its fill.
 pub fn name_at(t: &[u8], p: usize) -> &[u8]
     ensures { λ r. ⌜ now r ≡ row.nameAt (now (t .entry)) p ⌝ }
 {
-    fields(t, p, 1, Table::MAX_NAME)
+    fields(t, p, 1, name_width(kind_at(t, p)))
 }
 
 // The number of a named bit.
@@ -119,66 +135,78 @@ pub fn bit_number_at(t: &[u8], p: usize) -> u8
     field(t, p, 25)
 }
 
+// The octet k behind the name of the row at p.
+fn field_behind(t: &[u8], p: usize, k: usize) -> u8
+    requires { ⌜ k < 16 ⌝ }
+    ensures { λ r. ⌜ r ≡ octet (now (t .entry)) (row.behindName (now (t .entry)) p + k) ⌝ }
+{
+    field(t, p, name_width(kind_at(t, p)) + 1 + k)
+}
+
 pub fn mode_at(t: &[u8], p: usize) -> u8
     ensures { λ r. ⌜ r ≡ row.modeAt (now (t .entry)) p ⌝ }
 {
-    field(t, p, 27)
-}
-
-pub fn default_length_at(t: &[u8], p: usize) -> u8
-    ensures { λ r. ⌜ r ≡ row.defaultLengthAt (now (t .entry)) p ⌝ }
-{
-    field(t, p, 30)
+    field_behind(t, p, 2)
 }
 
 // A member's default contents, without their fill.
 pub fn default_at(t: &[u8], p: usize) -> &[u8]
     ensures { λ r. ⌜ now r ≡ row.defaultAt (now (t .entry)) p ⌝ }
 {
-    fields(t, p, 31, octets::wide(default_length_at(t, p)))
+    let size = octets::wide(field_behind(t, p, 5));
+    fields(t, p, name_width(kind_at(t, p)) + 7, size)
 }
 
 // ---- the parts of the member row at p, where it is whole
+// The place behind its name.
+fn behind_name(t: &[u8], p: usize) -> usize
+    requires { ⌜ WholeName (now t) p ⌝ }
+    ensures { λ r. ⌜ r ≡ row.behindName (now (t .entry)) p ⌝ }
+{
+    p + (1 + name_width(t[p]))
+}
+
 pub fn member_mode(t: &[u8], p: usize) -> u8
     requires { ⌜ WholeMember (now t) p ⌝ }
     ensures { λ r. ⌜ r ≡ row.modeAt (now (t .entry)) p ⌝ }
 {
-    t[p + 27]
+    t[behind_name(t, p) + 2]
 }
 
 pub fn member_number(t: &[u8], p: usize) -> u8
     requires { ⌜ WholeMember (now t) p ⌝ }
     ensures { λ r. ⌜ r ≡ row.numberAt (now (t .entry)) p ⌝ }
 {
-    t[p + 28]
+    t[behind_name(t, p) + 3]
 }
 
 pub fn member_presence(t: &[u8], p: usize) -> u8
     requires { ⌜ WholeMember (now t) p ⌝ }
     ensures { λ r. ⌜ r ≡ row.presenceAt (now (t .entry)) p ⌝ }
 {
-    t[p + 29]
+    t[behind_name(t, p) + 4]
 }
 
 pub fn member_default_length(t: &[u8], p: usize) -> u8
     requires { ⌜ WholeMember (now t) p ⌝ }
     ensures { λ r. ⌜ r ≡ row.defaultLengthAt (now (t .entry)) p ⌝ }
 {
-    t[p + 30]
+    t[behind_name(t, p) + 5]
 }
 
 pub fn member_type_row(t: &[u8], p: usize) -> usize
     requires { ⌜ WholeMember (now t) p ⌝ }
     ensures { λ r. ⌜ r ≡ row.namedAt (now (t .entry)) p ⌝ }
 {
-    octets::wide_two(t[p + 25], t[p + 26])
+    let q = behind_name(t, p);
+    octets::wide_two(t[q], t[q + 1])
 }
 
 pub fn member_default(t: &[u8], p: usize) -> &[u8]
     requires { ⌜ WholeMember (now t) p ⌝ }
     ensures { λ r. ⌜ now r ≡ row.defaultAt (now (t .entry)) p ⌝ }
 {
-    let start = p + 31;
+    let start = behind_name(t, p) + 6;
     let end = start + octets::wide(member_default_length(t, p));
     &t[start..end]
 }
@@ -194,6 +222,15 @@ pub fn is_type_kind(kind: u8) -> bool
         return true;
     }
     octets::within(Kind::RDN_SEQUENCE, Kind::RDN, kind)
+}
+
+pub fn is_member(kind: u8) -> bool
+    ensures { λ r. ⌜ r ≡ row.isMember kind ⌝ }
+{
+    if kind == Kind::MEMBER {
+        return true;
+    }
+    kind == Kind::LONG_MEMBER
 }
 
 pub fn is_group(kind: u8) -> bool
@@ -250,6 +287,30 @@ pub fn follower_kind(kind: u8) -> u8
         return Kind::NAMED_BIT;
     }
     0
+}
+
+// The kind as which a row stands behind another.
+pub fn stands_as(kind: u8) -> u8
+    ensures { λ r. ⌜ r ≡ row.standsAs kind ⌝ }
+{
+    if kind == Kind::LONG_MEMBER {
+        return Kind::MEMBER;
+    }
+    kind
+}
+
+// The octets of a row of a kind that follows another.
+pub fn follower_size(kind: u8) -> usize
+    requires { ⌜ row.isFollower kind ≡ true ⌝ }
+    ensures { λ r. ⌜ r ≡ row.rowSize kind ⌝ }
+{
+    if kind == Kind::MEMBER {
+        return Table::MEMBER_BYTES;
+    }
+    if kind == Kind::LONG_MEMBER {
+        return Table::LONG_MEMBER_BYTES;
+    }
+    Table::BIT_BYTES
 }
 
 // How many rows follow a row, given their kind.
@@ -348,7 +409,7 @@ fn eight(t: &[u8], p: usize) -> u64
 }
 
 // Whether the eight octets from one place on are those from another on.
-pub fn same_eight(t: &[u8], p: usize, q: usize) -> bool
+fn same_eight(t: &[u8], p: usize, q: usize) -> bool
     requires one { ⌜ p + 8 ≤ length (now t) ⌝ }
     requires other { ⌜ q + 8 ≤ length (now t) ⌝ }
     ensures { λ r. ⌜ r ≡ same (part (now (t .entry)) p 8) (part (now (t .entry)) q 8) ⌝ }
@@ -356,7 +417,7 @@ pub fn same_eight(t: &[u8], p: usize, q: usize) -> bool
     eight(t, p) == eight(t, q)
 }
 
-// Whether a field of 8, 16, 24 octets at p is filled with zeros from its octet n on.
+// Whether a field of 8, 16, 24, 48 octets at p is filled with zeros from its octet n on.
 fn filled_8(t: &[u8], p: usize, n: usize) -> bool
     requires whole { ⌜ p + 8 ≤ length (now t) ⌝ }
     requires within { ⌜ n ≤ 8 ⌝ }
@@ -396,16 +457,44 @@ fn filled_24(t: &[u8], p: usize, n: usize) -> bool
     filled_16(t, p + 8, 0)
 }
 
+fn filled_48(t: &[u8], p: usize, n: usize) -> bool
+    requires whole { ⌜ p + 48 ≤ length (now t) ⌝ }
+    requires within { ⌜ n ≤ 48 ⌝ }
+    ensures { λ r. ⌜ r ≡ every body.isZero (part (now (t .entry)) (p + n) (48 - n)) ⌝ }
+{
+    if 24 <= n {
+        return filled_24(t, p + 24, n - 24);
+    }
+    if !filled_24(t, p, n) {
+        return false;
+    }
+    filled_24(t, p + 24, 0)
+}
+
+// Whether the name's field at p, in a row of a kind, is filled from its octet n on.
+fn name_filled(t: &[u8], p: usize, n: usize, kind: u8) -> bool
+    requires whole { ⌜ p + row.nameWidth kind ≤ length (now t) ⌝ }
+    requires within { ⌜ n ≤ row.nameWidth kind ⌝ }
+    ensures { λ r. ⌜ r ≡ every body.isZero (part (now (t .entry)) (p + n) (row.nameWidth kind - n)) ⌝ }
+{
+    if kind == Kind::LONG_MEMBER {
+        return filled_48(t, p, n);
+    }
+    filled_24(t, p, n)
+}
+
 // ---- the body of a row that follows another and is whole
 // Whether each octet of a name may follow the one before it; a lowercase letter may follow any. Where the fill starts, all that is left has to be fill.
 fn name_spelt(t: &[u8], p: usize) -> bool
-    requires whole { ⌜ p + row.bitSize ≤ length (now t) ⌝ }
+    requires whole { ⌜ WholeName (now t) p ⌝ }
     requires begins { ⌜ 0 < octet (now t) (p + 1) ⌝ }
-    ensures { λ r. ⌜ r ≡ all (body.followed (now (t .entry)) p) (tableLimits .name - 1) ⌝ }
+    ensures { λ r. ⌜ r ≡ all (body.followed (now (t .entry)) p) (row.nameWidth (row.kindAt (now (t .entry)) p) - 1) ⌝ }
 {
+    let kind = t[p];
+    let last = name_width(kind) - 1;
     let mut j = 0;
     let mut a = t[p + 1];
-    while j < Table::MAX_NAME - 1 {
+    while j < last {
         let b = t[p + (j + 2)];
         if octets::is_lower(b) {
             a = b;
@@ -415,7 +504,7 @@ fn name_spelt(t: &[u8], p: usize) -> bool
                 return false;
             }
             if b == 0 {
-                return filled_24(t, p + 1, j + 1);
+                return name_filled(t, p + 1, j + 1, kind);
             }
             a = b;
             j += 1;
@@ -425,53 +514,125 @@ fn name_spelt(t: &[u8], p: usize) -> bool
 }
 
 fn name_formed(t: &[u8], p: usize) -> bool
-    requires { ⌜ p + row.bitSize ≤ length (now t) ⌝ }
-    ensures { λ r. ⌜ r ≡ body.nameFormed (tableLimits .name) (now (t .entry)) p ⌝ }
+    requires { ⌜ WholeName (now t) p ⌝ }
+    ensures { λ r. ⌜ r ≡ body.nameFormed (now (t .entry)) p ⌝ }
 {
     if !octets::is_lower(t[p + 1]) {
         return false;
     }
-    if t[p + Table::MAX_NAME] == 45 {
+    if t[p + name_width(t[p])] == 45 {
         return false;
     }
     name_spelt(t, p)
 }
 
-fn default_filled(t: &[u8], p: usize) -> bool
-    requires { ⌜ p + row.memberSize ≤ length (now t) ⌝ }
+// Whether a name of octets and fill is of a length that its field is for: a long one has more octets than a field of 24.
+fn length_formed(t: &[u8], p: usize) -> bool
+    requires whole { ⌜ WholeName (now t) p ⌝ }
+    requires formed { ⌜ body.nameFormed (now t) p ≡ true ⌝ }
+    ensures { λ r. ⌜ r ≡ body.lengthFormed (now (t .entry)) p ⌝ }
+{
+    if t[p] != Kind::LONG_MEMBER {
+        return true;
+    }
+    t[p + 25] != 0
+}
+
+fn default_filled(t: &[u8], q: usize, p: usize) -> bool
+    requires behind { ⌜ q ≡ row.behindName (now t) p ⌝ }
+    requires whole { ⌜ row.behindName (now t) p + 14 ≤ length (now t) ⌝ }
     ensures { λ r. ⌜ r ≡ body.defaultFilled (now (t .entry)) p ⌝ }
 {
-    let n = octets::wide(t[p + 30]);
+    let n = octets::wide(t[q + 5]);
     if 8 < n {
         return false;
     }
-    filled_8(t, p + 31, n)
+    filled_8(t, q + 6, n)
 }
 
-pub fn member_formed(t: &[u8], p: usize) -> bool
-    requires { ⌜ p + row.memberSize ≤ length (now t) ⌝ }
-    ensures { λ r. ⌜ r ≡ body.memberFormed (tableLimits .name) (now (t .entry)) p ⌝ }
+// The body of the member row at p behind its name.
+fn fields_formed(t: &[u8], p: usize) -> bool
+    requires named { ⌜ WholeName (now t) p ⌝ }
+    requires whole { ⌜ row.behindName (now t) p + 14 ≤ length (now t) ⌝ }
+    ensures { λ r. ⌜ r ≡ fieldsFormed (now (t .entry)) p ⌝ }
+{
+    let q = behind_name(t, p);
+    if !tag_formed(t[q + 2], t[q + 3]) {
+        return false;
+    }
+    if 2 < t[q + 4] {
+        return false;
+    }
+    default_filled(t, q, p)
+}
+
+fn member_formed(t: &[u8], p: usize) -> bool
+    requires named { ⌜ WholeName (now t) p ⌝ }
+    requires whole { ⌜ row.behindName (now t) p + 14 ≤ length (now t) ⌝ }
+    ensures { λ r. ⌜ r ≡ body.memberFormed (now (t .entry)) p ⌝ }
 {
     if !name_formed(t, p) {
         return false;
     }
-    if !tag_formed(t[p + 27], t[p + 28]) {
+    if !length_formed(t, p) {
         return false;
     }
-    if 2 < t[p + 29] {
-        return false;
-    }
-    default_filled(t, p)
+    fields_formed(t, p)
 }
 
-pub fn bit_formed(t: &[u8], p: usize) -> bool
-    requires { ⌜ p + row.bitSize ≤ length (now t) ⌝ }
-    ensures { λ r. ⌜ r ≡ body.bitFormed (tableLimits .name) (now (t .entry)) p ⌝ }
+fn bit_formed(t: &[u8], p: usize) -> bool
+    requires named { ⌜ WholeName (now t) p ⌝ }
+    requires whole { ⌜ p + row.bitSize ≤ length (now t) ⌝ }
+    ensures { λ r. ⌜ r ≡ body.bitFormed (now (t .entry)) p ⌝ }
 {
     if !name_formed(t, p) {
         return false;
     }
     t[p + 25] <= Table::MAX_BIT
+}
+
+pub fn follower_formed(t: &[u8], p: usize) -> bool
+    requires { ⌜ WholeFollower (now t) p ⌝ }
+    ensures { λ r. ⌜ r ≡ body.rowFormed (tableLimits .members) (now (t .entry)) p ⌝ }
+{
+    if is_member(t[p]) {
+        return member_formed(t, p);
+    }
+    bit_formed(t, p)
+}
+
+// ---- names of two rows that follow another and are whole
+// Whether the 24 octets from one place on are those from another on.
+fn same_24(t: &[u8], p: usize, q: usize) -> bool
+    requires one { ⌜ p + 24 ≤ length (now t) ⌝ }
+    requires other { ⌜ q + 24 ≤ length (now t) ⌝ }
+    ensures { λ r. ⌜ r ≡ same (part (now (t .entry)) p 24) (part (now (t .entry)) q 24) ⌝ }
+{
+    if !same_eight(t, p, q) {
+        return false;
+    }
+    if !same_eight(t, p + 8, q + 8) {
+        return false;
+    }
+    same_eight(t, p + 16, q + 16)
+}
+
+// Whether the fields of two names are the same: of two widths they are not.
+pub fn same_name(t: &[u8], p: usize, q: usize) -> bool
+    requires one { ⌜ WholeName (now t) p ⌝ }
+    requires other { ⌜ WholeName (now t) q ⌝ }
+    ensures { λ r. ⌜ r ≡ same (row.nameAt (now (t .entry)) p) (row.nameAt (now (t .entry)) q) ⌝ }
+{
+    if !same_24(t, p + 1, q + 1) {
+        return false;
+    }
+    if t[p] != Kind::LONG_MEMBER {
+        return t[q] != Kind::LONG_MEMBER;
+    }
+    if t[q] != Kind::LONG_MEMBER {
+        return false;
+    }
+    same_24(t, p + 25, q + 25)
 }
 
 // ---- the size of a type row that is whole and whose body is as the type table has it; 0 where it isn't

@@ -1,6 +1,6 @@
 -- The second pass: what the first pass and the words of later rows say, and the clauses of a row by its kind.
 use mathlib.Core.Path.{_≡_, refl, sym, ap, ap₂, _∙_}
-use mathlib.Core.Bool.{Bool, true, false, false≢true}
+use mathlib.Core.Bool.{Bool, true, false, true≢false, false≢true}
 use mathlib.Core.List.{List}
 use Prim.Native.Nat.{ℕ, zero, suc, _≤_, _<_, _+_, _-_, _*_, _%_, _^_}
 use native.Mathlib.Omega.{arith}
@@ -12,7 +12,7 @@ use Rattle.octets.proofs.Laws.{both-true, all-at, all-cong}
 use Rattle.der.specs.Tag.{universal, ownOctet, implicitOctet, wrapperOctet}
 use Rattle.der.specs.Kind.{isConstructed}
 use Rattle.rows.specs.Paper.{tableLimits}
-use Rattle.rows.specs.Row.{rowAt, kindAt, namesRow, namedAt, membersAt, isGroup, isList, modeAt, numberAt, presenceAt, defaultLengthAt, defaultAt}
+use Rattle.rows.specs.Row.{rowAt, kindAt, isMember, namesRow, namedAt, membersAt, isGroup, isList, modeAt, numberAt, presenceAt, defaultLengthAt, defaultAt}
 use Rattle.rows.proofs.Laws.{MemberFacts, member-facts}
 use Rattle.rows.proofs.KindLaws.{member-names}
 use Rattle.clauses.specs.Clauses.{everyRow, wholeRows, bodyFormed, firstIsType, laterType, pointsLater, followersStand, namesDiffer, numbersDiffer}
@@ -31,11 +31,12 @@ use Rattle.table.specs.inner.Fields.{chainOf}
 use Rattle.table.specs.inner.Words.{firstOctet, MemberWord}
 use Rattle.table.specs.inner.Pass.{firstAt, secondAt, setAt, typeChain, mandatoryIn, chainAfter, mandatoryAfter, implicitChoice, memberAllowed, RowWords, Going}
 use Rattle.table.proofs.Steps.{form-small}
+use Rattle.table.proofs.KindLaws.{is-false}
 use Rattle.table.proofs.Places.{row-place}
 
 -- ---- by the first pass
 module _ (t : List ℕ) (ok : firstPass tableLimits t (tableRows t) ≡ true) where
-  after-whole : both (everyRow (bodyFormed 16 24 t (tableRows t)) (tableRows t)) (both (firstIsType t (tableRows t))
+  after-whole : both (everyRow (bodyFormed 16 t (tableRows t)) (tableRows t)) (both (firstIsType t (tableRows t))
       (both (followersStand t (tableRows t)) (both (everyRow (namesDiffer t (tableRows t)) (tableRows t))
       (everyRow (numbersDiffer t (tableRows t)) (tableRows t))))) ≡ true
   unfolding firstPass
@@ -51,12 +52,12 @@ module _ (t : List ℕ) (ok : firstPass tableLimits t (tableRows t) ≡ true) wh
 
   pub members-stand : followersStand t (tableRows t) ≡ true
   members-stand = both-true (followersStand t (tableRows t)) _ (both-true (firstIsType t (tableRows t)) _
-      (both-true (everyRow (bodyFormed 16 24 t (tableRows t)) (tableRows t)) _ after-whole .1) .1) .0
+      (both-true (everyRow (bodyFormed 16 t (tableRows t)) (tableRows t)) _ after-whole .1) .1) .0
 
   module _ (i : ℕ) (here : i < length (tableRows t)) where
-    pub member-formed : MemberRow t i → MemberFacts 24 t (placeAt t i)
+    pub member-formed : MemberRow t i → MemberFacts t (placeAt t i)
     unfolding bodyFormed
-    member-formed k = member-facts 16 24 t (placeAt t i) (all-at (bodyFormed 16 24 t (tableRows t)) (length (tableRows t)) i (both-true (everyRow (bodyFormed 16 24 t (tableRows t)) (tableRows t)) _ after-whole .0) here) k
+    member-formed k = member-facts 16 t (placeAt t i) (all-at (bodyFormed 16 t (tableRows t)) (length (tableRows t)) i (both-true (everyRow (bodyFormed 16 t (tableRows t)) (tableRows t)) _ after-whole .0) here) k
 
     pub place-small : placeAt t i < 65536
     place-small = let a = row-place 128 t i here in let b = few-rows in omega arith
@@ -146,18 +147,18 @@ module _ (c : ℕ) (t s : List ℕ) (i : ℕ) where
   unfolding alternativesMandatory
   alternatives-all h = rw (eq-eqb (kindAt t (rowAt s i)) 13 h)
 
-  pub implicit-none : (kindAt t (rowAt s i) ≡ 16 → ⊥) → noImplicitChoice t s i ≡ true
+  pub implicit-none : (isMember (kindAt t (rowAt s i)) ≡ true → ⊥) → noImplicitChoice t s i ≡ true
   unfolding noImplicitChoice
-  implicit-none n = rw (ne-eqb (kindAt t (rowAt s i)) 16 n)
+  implicit-none n = rw (is-false (isMember (kindAt t (rowAt s i))) n)
 
-  pub default-none : (kindAt t (rowAt s i) ≡ 16 → ⊥) → defaultLegal t s i ≡ true
+  pub default-none : (isMember (kindAt t (rowAt s i)) ≡ true → ⊥) → defaultLegal t s i ≡ true
   unfolding defaultLegal
-  default-none n = rw (ne-eqb (kindAt t (rowAt s i)) 16 n)
+  default-none n = rw (is-false (isMember (kindAt t (rowAt s i))) n)
 
-  pub allowed-as : kindAt t (rowAt s i) ≡ 16 → both (noImplicitChoice t s i) (defaultLegal t s i) ≡ memberAllowed t (rowAt s i) (typeKind t s i)
+  pub allowed-as : isMember (kindAt t (rowAt s i)) ≡ true → both (noImplicitChoice t s i) (defaultLegal t s i) ≡ memberAllowed t (rowAt s i) (typeKind t s i)
   unfolding noImplicitChoice defaultLegal memberAllowed implicitChoice
   allowed-as h =
-      rw (eq-eqb (kindAt t (rowAt s i)) 16 h)
+      rw h
       (ap (λ (x : Bool). both x (pick (eqb (presenceAt t (rowAt s i)) 2) (defaultAllowed (typeKind t s i) (defaultAt t (rowAt s i))) (eqb (defaultLengthAt t (rowAt s i)) 0))) (turned (eqb (modeAt t (rowAt s i)) 2) (eqb (typeKind t s i) 13)))
     where
       turned : (x y : Bool) → either (no x) (no y) ≡ no (both x y)
@@ -165,18 +166,15 @@ module _ (c : ℕ) (t s : List ℕ) (i : ℕ) where
       turned true false = refl
       turned false y = refl
 
-list-kind : (k : ℕ) → isList k ≡ true → (k ≡ 12 → ⊥) × (k ≡ 13 → ⊥) × (k ≡ 16 → ⊥)
+list-kind : (k : ℕ) → isList k ≡ true → (k ≡ 12 → ⊥) × (k ≡ 13 → ⊥)
 unfolding isList
-list-kind k e = ((λ h. false≢true (rw h at e)), (λ h. false≢true (rw h at e)), (λ h. false≢true (rw h at e)))
+list-kind k e = ((λ h. false≢true (rw h at e)), (λ h. false≢true (rw h at e)))
 
 pub list-no-sequence : (k : ℕ) → isList k ≡ true → k ≡ 12 → ⊥
 list-no-sequence k e = list-kind k e .0
 
 pub list-no-choice : (k : ℕ) → isList k ≡ true → k ≡ 13 → ⊥
 list-no-choice k e = list-kind k e .1
-
-pub list-no-member : (k : ℕ) → isList k ≡ true → k ≡ 16 → ⊥
-list-no-member k e = list-kind k e .2
 
 pub sequence-no-list : (k : ℕ) → k ≡ 12 → isList k ≡ false
 unfolding isList
@@ -185,10 +183,6 @@ sequence-no-list k h = rw h
 pub choice-no-list : (k : ℕ) → k ≡ 13 → isList k ≡ false
 unfolding isList
 choice-no-list k h = rw h
-
-pub member-no-list : (k : ℕ) → k ≡ 16 → isList k ≡ false
-unfolding isList
-member-no-list k h = rw h
 
 pub no-members : (t : List ℕ) (p : ℕ) → (kindAt t p ≡ 12 → ⊥) → (kindAt t p ≡ 13 → ⊥) → membersAt t p ≡ 0
 unfolding membersAt isGroup
@@ -239,11 +233,11 @@ module _ (t w : List ℕ) (i : ℕ) (going : Going t w (i + 1)) where
     row-words = going .words j (omega arith) there
 
     pub later-kind : kindAt t (placeAt t j) ≡ firstAt w j % 256
-    later-kind = go (eqb (kindAt t (placeAt t j)) 16) refl
+    later-kind = go (isMember (kindAt t (placeAt t j))) refl
       where
-        go : (b : Bool) → eqb (kindAt t (placeAt t j)) 16 ≡ b → kindAt t (placeAt t j) ≡ firstAt w j % 256
-        go true q = let h = eqb-true (kindAt t (placeAt t j)) 16 q in h ∙ sym (row-words .shape .of-member h .kind)
-        go false q = sym (row-words .shape .of-type (eqb-false (kindAt t (placeAt t j)) 16 q) .kind)
+        go : (b : Bool) → isMember (kindAt t (placeAt t j)) ≡ b → kindAt t (placeAt t j) ≡ firstAt w j % 256
+        go true q = sym (row-words .shape .of-member q .kind)
+        go false q = sym (row-words .shape .of-type (λ h. true≢false (sym h ∙ q)) .kind)
 
     module _ (member : MemberRow t j) where
       member-word : MemberWord t (placeAt t j) (typeKind t (tableRows t) j) (firstAt w j)

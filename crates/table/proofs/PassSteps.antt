@@ -13,9 +13,9 @@ use Rattle.octets.specs.Octets.{larger, baseFrom}
 use Rattle.octets.proofs.Laws.{octet-past, all-more, all-bad, both-true}
 use Rattle.der.specs.Tag.{universal}
 use Rattle.rows.specs.Paper.{tableLimits}
-use Rattle.rows.specs.inner.Sizes.{WholeMember}
-use Rattle.rows.proofs.KindLaws.{list-names, member-names, names-none, named-none}
-use Rattle.rows.specs.Row.{rowAt, kindAt, isTypeKind, namedAt, membersAt, isList, modeAt, numberAt, presenceAt, defaultLengthAt, defaultAt}
+use Rattle.rows.specs.inner.Sizes.{WholeFollower, WholeMember}
+use Rattle.rows.proofs.KindLaws.{list-names, member-no-list, member-names, names-none, named-none, follower-name, follower-member}
+use Rattle.rows.specs.Row.{rowAt, kindAt, isTypeKind, isMember, namedAt, membersAt, isList, modeAt, numberAt, presenceAt, defaultLengthAt, defaultAt}
 use Rattle.clauses.specs.Clauses.{isType, laterType, pointsLater, typeKind, alternativesMandatory, noImplicitChoice, defaultLegal, defaultAllowed, chainFits}
 use Rattle.clauses.specs.inner.Work.{firstPass, tallest}
 use Rattle.clauses.proofs.PassLaws.{member-whole}
@@ -32,7 +32,8 @@ use Rattle.table.specs.inner.Rows.{tableRows, placeAt, MemberRow, TypeRo
 use Rattle.table.specs.inner.Fields.{kindOf, firstOf, targetOf, chainOf, presenceOf, Packed}
 use Rattle.table.specs.inner.Words.{firstOctet, TypeWord, MemberWord}
 use Rattle.table.specs.inner.Pass.{firstAt, secondAt, setAt, typeChain, mandatoryIn, chainAfter, mandatoryAfter, implicitChoice, memberAllowed, memberSecond, Basic, RowWords, Next, Says}
-use Rattle.table.proofs.PassLaws.{Named, is-named, few-rows, member-formed, place-small, group-ends, unfit, fit, fits-points, fits-alternatives, fits-implicit, fits-default, fits-chain, fits-tags, points-row, points-none, alternatives-none, alternatives-all, implicit-none, default-none, allowed-as, list-no-sequence, list-no-choice, list-no-member, sequence-no-list, choice-no-list, member-no-list, no-members, other-kind, later-kind, group-small, group-bits, group-mandatory, group-chain, alternatives-as, element-chain}
+use Rattle.table.proofs.KindLaws.{sequence-no-member, choice-no-member, list-no-member}
+use Rattle.table.proofs.PassLaws.{Named, is-named, few-rows, member-formed, place-small, group-ends, unfit, fit, fits-points, fits-alternatives, fits-implicit, fits-default, fits-chain, fits-tags, points-row, points-none, alternatives-none, alternatives-all, implicit-none, default-none, allowed-as, list-no-sequence, list-no-choice, sequence-no-list, choice-no-list, no-members, other-kind, later-kind, group-small, group-bits, group-mandatory, group-chain, alternatives-as, element-chain}
 
 -- ---- reading the words
 pub first-past : (w : List ℕ) (j : ℕ) → length w ≡ 256 → 128 ≤ j → 0 ≡ getD w (2 * j) 0
@@ -270,17 +271,22 @@ module _ (t w : List ℕ) (n i p : ℕ) (next : Next t w n i p) where
       rw (lt-ltb i j h, lt-ltb j (length (tableRows t)) b, v) told
 
   -- ---- a member
-  pub next-whole : kindAt t p ≡ 16 → WholeMember t p
+  the-member : isMember (kindAt t p) ≡ true → MemberRow t i
+  the-member e = rw (← next .placed) e
+
+  pub next-whole : isMember (kindAt t p) ≡ true → WholeMember t p
   next-whole member =
+      let whole : WholeFollower t p = rw (next .placed) (member-whole (tableLimits .rows) t i (next .here) (the-member member)) in
       record {
         member = member;
-        inside = rw (next .placed) (member-whole (tableLimits .rows) t i (next .here) (the-kind 16 member));
-        short = rw (next .placed) (member-formed t first-ok i (next .here) (the-kind 16 member) .length);
+        named = follower-name t p whole;
+        inside = follower-member t p whole member;
+        short = rw (next .placed) (member-formed t first-ok i (next .here) (the-member member) .length);
       }
 
-  module _ (member : kindAt t p ≡ 16) (j : ℕ) (points : j ≡ namedAt t p) (r : Bool) (told : r ≡ laterType t (tableRows t) i j) where
+  module _ (member : isMember (kindAt t p) ≡ true) (j : ℕ) (points : j ≡ namedAt t p) (r : Bool) (told : r ≡ laterType t (tableRows t) i j) where
     is-member : MemberRow t i
-    is-member = the-kind 16 member
+    is-member = the-member member
 
     points-as : pointsLater t (tableRows t) i ≡ r
     points-as = points-row 16 t (tableRows t) i (member-names t (placeAt t i) is-member) ∙ ap (laterType t (tableRows t) i) (sym (points ∙ ap (namedAt t) (next .placed))) ∙ sym told
@@ -320,8 +326,8 @@ module _ (t w : List ℕ) (n i p : ℕ) (next : Next t w n i p) where
         fits-member : not u ≡ false → rowFits 16 t (tableRows t) i ≡ true
         fits-member e =
             let b = both-true (noImplicitChoice t (tableRows t) i) (defaultLegal t (tableRows t) i) (allowed-is ∙ not-false u e) in
-            let no-sequence = other-kind (kindAt t (placeAt t i)) 16 12 is-member (λ z. omega arith) in
-            let no-choice = other-kind (kindAt t (placeAt t i)) 16 13 is-member (λ z. omega arith) in
+            let no-sequence : kindAt t (placeAt t i) ≡ 12 → ⊥ = λ h. sequence-no-member (kindAt t (placeAt t i)) h is-member in
+            let no-choice : kindAt t (placeAt t i) ≡ 13 → ⊥ = λ h. choice-no-member (kindAt t (placeAt t i)) h is-member in
             fit 16 t (tableRows t) i (points-as ∙ not-false r later) (alternatives-none 16 t (tableRows t) i no-choice) (b .0) (b .1)
             (group-chain t w i (next .going) (next .here) (member-no-list (kindAt t (placeAt t i)) is-member) 16 ∙ short no-sequence no-choice)
             (tags-none t (tableRows t) i no-sequence no-choice)
@@ -394,8 +400,8 @@ module _ (t w : List ℕ) (n i p : ℕ) (next : Next t w n i p) where
       no-list : isList (kindAt t (placeAt t i)) ≡ false
       no-list = rw (← next .placed) (basic .list)
 
-      no-member : kindAt t (placeAt t i) ≡ 16 → ⊥
-      no-member h = basic .member (ap (kindAt t) (next .placed) ∙ h)
+      no-member : isMember (kindAt t (placeAt t i)) ≡ true → ⊥
+      no-member h = basic .member (ap (λ (x : ℕ). isMember (kindAt t x)) (next .placed) ∙ h)
 
       no-choice : kindAt t (placeAt t i) ≡ 13 → ⊥
       no-choice h = basic .choice (ap (kindAt t) (next .placed) ∙ h)
@@ -451,7 +457,7 @@ module _ (t w : List ℕ) (n i p : ℕ) (next : Next t w n i p) where
             → Says t w i (Made.Words a b)
         sequence-made a b e v q =
             let no-choice = other-kind (kindAt t (placeAt t i)) 12 13 (the-kind 12 sequence) (λ z. omega arith) in
-            let no-member = other-kind (kindAt t (placeAt t i)) 12 16 (the-kind 12 sequence) (λ z. omega arith) in
+            let no-member = sequence-no-member (kindAt t (placeAt t i)) (the-kind 12 sequence) in
             type-says t w i p (d + 1) a b (next .placed)
             (fit 16 t (tableRows t) i (points-none 16 t (tableRows t) i (names-none t (placeAt t i) no-list no-member)) (alternatives-none 16 t (tableRows t) i no-choice) (implicit-none 16 t (tableRows t) i no-member) (default-none 16 t (tableRows t) i no-member)
             short-chain (tags-as ∙ not-false r e))
@@ -499,7 +505,7 @@ module _ (t w : List ℕ) (n i p : ℕ) (next : Next t w n i p) where
               → Says t w i (Made.Words a b)
           choice-made a b e f v =
               let found = go (apartFrom (setAt w) never m (i + 1) 0) (sym told ∙ f) in
-              let no-member = other-kind (kindAt t (placeAt t i)) 13 16 is-choice (λ z. omega arith) in
+              let no-member = choice-no-member (kindAt t (placeAt t i)) is-choice in
               type-says t w i p (d + 1) a b (next .placed)
               (fit 16 t (tableRows t) i (points-none 16 t (tableRows t) i (names-none t (placeAt t i) choice-list no-member)) (mandatory-as ∙ not-false u e) (implicit-none 16 t (tableRows t) i no-member) (default-none 16 t (tableRows t) i no-member)
               choice-chain (choice-as ∙ found .0))
@@ -525,10 +531,10 @@ module _ (t w : List ℕ) (n i p : ℕ) (next : Next t w n i p) where
 -- ---- no row is named
 module _ (t : List ℕ) (p : ℕ) where
   pub sequence-unnamed : kindAt t p ≡ 12 → 0 ≡ namedAt t p
-  sequence-unnamed e = sym (named-none t p (sequence-no-list (kindAt t p) e) (other-kind (kindAt t p) 12 16 e (λ z. omega arith)))
+  sequence-unnamed e = sym (named-none t p (sequence-no-list (kindAt t p) e) (sequence-no-member (kindAt t p) e))
 
   pub choice-unnamed : kindAt t p ≡ 13 → 0 ≡ namedAt t p
-  choice-unnamed e = sym (named-none t p (choice-no-list (kindAt t p) e) (other-kind (kindAt t p) 13 16 e (λ z. omega arith)))
+  choice-unnamed e = sym (named-none t p (choice-no-list (kindAt t p) e) (choice-no-member (kindAt t p) e))
 
   pub basic-unnamed : Basic (kindAt t p) → 0 ≡ namedAt t p
   basic-unnamed b = sym (named-none t p (b .list) (b .member))
@@ -538,12 +544,15 @@ module _ (t : List ℕ) (p k : ℕ) (read : k ≡ kindAt t p) where
   pub of-kind : (c : ℕ) → k ≡ c → kindAt t p ≡ c
   of-kind c e = sym read ∙ e
 
+  pub of-member : (b : Bool) → b ≡ isMember k → b ≡ true → isMember (kindAt t p) ≡ true
+  of-member b told e = rw (← read) (sym told ∙ e)
+
   module _ (b : Bool) (told : b ≡ isList k) where
     pub of-list : b ≡ true → isList (kindAt t p) ≡ true
     of-list e = rw (← read) (sym told ∙ e)
 
-    pub of-basic : (k ≡ 16 → ⊥) → (k ≡ 12 → ⊥) → (k ≡ 13 → ⊥) → b ≡ false → Basic (kindAt t p)
-    of-basic m s c e = record { member = λ h. m (read ∙ h); sequence = λ h. s (read ∙ h); choice = λ h. c (read ∙ h); list = rw (← read) (sym told ∙ e) }
+    pub of-basic : (m : Bool) → m ≡ isMember k → m ≡ false → (k ≡ 12 → ⊥) → (k ≡ 13 → ⊥) → b ≡ false → Basic (kindAt t p)
+    of-basic m other n s c e = record { member = λ h. false≢true (sym n ∙ other ∙ ap isMember read ∙ h); sequence = λ h. s (read ∙ h); choice = λ h. c (read ∙ h); list = rw (← read) (sym told ∙ e) }
 
 pub own-is : (t : List ℕ) (p k u r : ℕ) → k ≡ kindAt t p → u ≡ universal k → r ≡ 2 ^ u → r ≡ 2 ^ universal (kindAt t p)
 own-is t p k u r e f q = q ∙ ap (λ (x : ℕ). 2 ^ x) (f ∙ ap universal e)

@@ -1,15 +1,14 @@
 -- What the words of an admitted table say, and that they are there.
 use mathlib.Core.Path.{_≡_, refl, sym, _∙_}
-use mathlib.Core.Bool.{Bool, true, false}
+use mathlib.Core.Bool.{Bool, true, false, true≢false}
 use mathlib.Core.List.{List}
 use Prim.Native.Nat.{ℕ, _≤_, _<_, _+_, _*_}
 use native.Mathlib.Omega.{arith}
-use borrow.Author.Tests.{eqb-true, eqb-false}
 use lib.ListN.{length, getD}
-use lib.Dec.{eqb}
 use Rattle.octets.specs.Octets.{baseFrom}
 use Rattle.rows.specs.Limits.{Limits}
-use Rattle.rows.specs.Row.{rows, rowAt, kindAt, namedAt, membersAt, isGroup, modeAt, presenceAt, defaultAt}
+use Rattle.rows.specs.Row.{rows, rowAt, kindAt, isMember, namedAt, membersAt, modeAt, presenceAt, defaultAt}
+use Rattle.rows.proofs.KindLaws.{member-no-group}
 use Rattle.clauses.specs.Clauses.{isType, laterType}
 use Rattle.clauses.proofs.LaterSteps.{type-row, later-row, points-named}
 use Rattle.types.specs.Types.{untagged}
@@ -18,16 +17,16 @@ use Rattle.types.specs.inner.Work.{Masked}
 use Rattle.types.proofs.Laws.{bit-stands, row-count, row-0-is-type, member-formed, points-later}
 use Rattle.types.proofs.SoundLaws.{sound}
 use Rattle.table.proofs.Places.{row-place}
-use Rattle.table.specs.inner.Rows.{tableRows, placeAt, taggingAt, memberKindAt}
+use Rattle.table.specs.inner.Rows.{tableRows, placeAt, MemberRow, TypeRow, taggingAt, memberKindAt}
 use Rattle.table.specs.inner.Fields.{kindOf, firstOf, countOf, targetOf, typeOf, howOf, presenceOf, lengthOf, placeOf}
 use Rattle.table.specs.inner.Words.{firstOctet, how, secondOf, Shaped, Ready, Worded}
 use Rattle.rows.specs.Paper.{tableLimits}
 
 -- ---- an admitted table is ready for its words
-is-type : (t s : List ℕ) (j : ℕ) → isType t s j ≡ true → kindAt t (rowAt s j) ≡ 16 → ⊥
+is-type : (t s : List ℕ) (j : ℕ) → isType t s j ≡ true → isMember (kindAt t (rowAt s j)) ≡ true → ⊥
 is-type t s j e h = type-row t s j e .1 h
 
-later-type : (t s : List ℕ) (i j : ℕ) → laterType t s i j ≡ true → (j < length s) × (kindAt t (rowAt s j) ≡ 16 → ⊥)
+later-type : (t s : List ℕ) (i j : ℕ) → laterType t s i j ≡ true → (j < length s) × (isMember (kindAt t (rowAt s j)) ≡ true → ⊥)
 later-type t s i j e = type-row t s j (later-row t s i j e .1)
 
 pub ready : (l : Limits) (t m : List ℕ) → admitted l t ≡ true → l .rows ≤ tableLimits .rows → Masked (l .chain) t (rows (l .rows) t) m
@@ -54,33 +53,33 @@ module _ (t w : List ℕ) (i : ℕ) (ok : Worded t w) (here : i < length (tableR
     shaped : Shaped t (tableRows t) i x
     shaped = rw read (ok .filled .shape i here)
 
-    by-kind : (P : ℕ → Type 0) → (kindAt t (placeAt t i) ≡ 16 → P r) → ((kindAt t (placeAt t i) ≡ 16 → ⊥) → P r) → P r
-    by-kind P f g = go (eqb (kindAt t (placeAt t i)) 16) refl
+    by-kind : (P : ℕ → Type 0) → (MemberRow t i → P r) → (TypeRow t i → P r) → P r
+    by-kind P f g = go (isMember (kindAt t (placeAt t i))) refl
       where
-        go : (b : Bool) → eqb (kindAt t (placeAt t i)) 16 ≡ b → P r
-        go true q = f (eqb-true _ _ q)
-        go false q = g (eqb-false _ _ q)
+        go : (b : Bool) → isMember (kindAt t (placeAt t i)) ≡ b → P r
+        go true q = f q
+        go false q = g (λ h. true≢false (sym h ∙ q))
 
     pub read-kind : r ≡ kindOf x → r ≡ kindAt t (placeAt t i)
-    read-kind e = by-kind (λ r. r ≡ kindAt t (placeAt t i)) (λ h. e ∙ shaped .of-member h .kind ∙ sym h) (λ h. e ∙ shaped .of-type h .kind)
+    read-kind e = by-kind (λ r. r ≡ kindAt t (placeAt t i)) (λ h. e ∙ shaped .of-member h .kind) (λ h. e ∙ shaped .of-type h .kind)
 
     pub read-place : r ≡ placeOf x → r ≡ placeAt t i
     read-place e = by-kind (λ r. r ≡ placeAt t i) (λ h. e ∙ shaped .of-member h .placed) (λ h. e ∙ shaped .of-type h .placed)
 
-    no-members : kindAt t (placeAt t i) ≡ 16 → 0 ≡ membersAt t (placeAt t i)
-    unfolding membersAt isGroup
-    no-members h = rw h
+    no-members : MemberRow t i → 0 ≡ membersAt t (placeAt t i)
+    unfolding membersAt
+    no-members h = rw (member-no-group (kindAt t (placeAt t i)) h)
 
     pub read-members : r ≡ countOf x → r ≡ membersAt t (placeAt t i)
     read-members e = by-kind (λ r. r ≡ membersAt t (placeAt t i)) (λ h. e ∙ shaped .of-member h .members ∙ no-members h) (λ h. e ∙ shaped .of-type h .members)
 
-    pub read-own : (kindAt t (placeAt t i) ≡ 16 → ⊥) → r ≡ firstOf x → r ≡ firstOctet untagged (kindAt t (placeAt t i))
+    pub read-own : TypeRow t i → r ≡ firstOf x → r ≡ firstOctet untagged (kindAt t (placeAt t i))
     read-own h e = e ∙ shaped .of-type h .opens
 
     pub read-named : r ≡ targetOf x → r ≡ namedAt t (placeAt t i)
     read-named e = by-kind (λ r. r ≡ namedAt t (placeAt t i)) (λ h. e ∙ shaped .of-member h .leads) (λ h. e ∙ shaped .of-type h .leads)
 
-    module _ (member : kindAt t (placeAt t i) ≡ 16) where
+    module _ (member : MemberRow t i) where
       pub read-first : r ≡ firstOf x → r ≡ firstOctet (taggingAt t i) (memberKindAt t i)
       read-first e = e ∙ shaped .of-member member .opens
 
@@ -96,7 +95,7 @@ module _ (t w : List ℕ) (i : ℕ) (ok : Worded t w) (here : i < length (tableR
       pub read-length : r ≡ lengthOf x → r ≡ length (defaultAt t (placeAt t i))
       read-length e = e ∙ shaped .of-member member .sized
 
-  pub read-number : (r : ℕ) → kindAt t (placeAt t i) ≡ 16 → presenceAt t (placeAt t i) ≡ 2 → r ≡ getD w (2 * i + 1) 0
+  pub read-number : (r : ℕ) → MemberRow t i → presenceAt t (placeAt t i) ≡ 2 → r ≡ getD w (2 * i + 1) 0
       → r ≡ baseFrom 0 (defaultAt t (placeAt t i))
   unfolding secondOf
   read-number r h g e = e ∙ ok .filled .second i here ∙ rw (h, g)

@@ -89,9 +89,9 @@ pub type-packed : (t : List ℕ) (p k f n e d x : ℕ) → k ≡ kindAt t p → 
 unfolding taggingOf
 type-packed t p k f n e d x a b c g w = rw (← a, ← b, ← c, ← g) w
 
-pub pack-is : (t d : List ℕ) (p k mode n f j h pr x : ℕ) → mode ≡ modeAt t p → n ≡ numberAt t p → f ≡ firstOctet (taggingOf mode n) k → j ≡ namedAt t p
-    → h ≡ how k mode → pr ≡ presenceAt t p → d ≡ defaultAt t p → Packed x 16 f 0 j k h pr (length d) p → MemberWord t p k x
-pack-is t d p k mode n f j h pr x a b c e g i l w = rw (← a, ← b, ← c, ← e, ← g, ← i, ← l) w
+pub pack-is : (t d : List ℕ) (p o k mode n f j h pr x : ℕ) → o ≡ kindAt t p → mode ≡ modeAt t p → n ≡ numberAt t p → f ≡ firstOctet (taggingOf mode n) k → j ≡ namedAt t p
+    → h ≡ how k mode → pr ≡ presenceAt t p → d ≡ defaultAt t p → Packed x o f 0 j k h pr (length d) p → MemberWord t p k x
+pack-is t d p o k mode n f j h pr x q a b c e g i l w = rw (← q, ← a, ← b, ← c, ← e, ← g, ← i, ← l) w
 
 pub size-fits : (t d : List ℕ) (p : ℕ) → d ≡ defaultAt t p → length (defaultAt t p) ≤ 8 → length d < 16
 size-fits t d p e l = let q : length d ≡ length (defaultAt t p) = ap length e in omega arith

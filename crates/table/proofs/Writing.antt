@@ -17,7 +17,7 @@ use Rattle.der.specs.Tag.{universal}
 use Rattle.rows.specs.Limits.{tableFits}
 use Rattle.rows.specs.Paper.{tableLimits}
 use Rattle.rows.proofs.KindLaws.{member-names}
-use Rattle.rows.specs.Row.{rows, kindAt, namedAt, presenceAt, defaultAt}
+use Rattle.rows.specs.Row.{rows, kindAt, isMember, namedAt, presenceAt, defaultAt}
 use Rattle.clauses.specs.inner.Work.{firstPass, Placed}
 use Rattle.types.specs.Types.{typeFrom}
 use Rattle.types.specs.Begins.{begins}
@@ -32,6 +32,7 @@ use Rattle.table.specs.declared.Made.{Made}
 use Rattle.table.specs.inner.Rows.{tableRows, placeAt, MemberRow, TypeRow}
 use Rattle.table.specs.inner.Words.{secondOf, Worded}
 use Rattle.table.specs.inner.Pass.{firstAt, secondAt, memberSecond, isMade, RowWords, Going, Next, Says, Leaves}
+use Rattle.table.proofs.KindLaws.{is-false, choice-no-member}
 use Rattle.table.proofs.PassLaws.{Named, some-rows, few-rows, is-named, fits-points, fits-chain, points-row}
 use Rattle.table.proofs.Reading.{ready}
 
@@ -124,28 +125,27 @@ listed-at f (suc n) (suc j) h = listed-at (λ j. f (suc j)) n j (omega arith)
 
 -- the set of tags of row j: of a type row its second word; a member row's is not asked for
 unfoldable setOf : List ℕ → List ℕ → ℕ → ℕ
-setOf t w j = pick (eqb (kindAt t (placeAt t j)) 16) (2 ^ universal (kindAt t (placeAt t j))) (secondAt w j)
+setOf t w j = pick (isMember (kindAt t (placeAt t j))) (2 ^ universal (kindAt t (placeAt t j))) (secondAt w j)
 
 set-of-member : (t w : List ℕ) (j : ℕ) → MemberRow t j → setOf t w j ≡ 2 ^ universal (kindAt t (placeAt t j))
 unfolding setOf
-set-of-member t w j h = rw (eq-eqb (kindAt t (placeAt t j)) 16 h)
+set-of-member t w j h = rw h
 
 set-of-type : (t w : List ℕ) (j : ℕ) → TypeRow t j → setOf t w j ≡ secondAt w j
 unfolding setOf
-set-of-type t w j h = rw (ne-eqb (kindAt t (placeAt t j)) 16 h)
+set-of-type t w j h = rw (is-false (isMember (kindAt t (placeAt t j))) h)
 
 -- where the sets of type rows are right, all are
 all-masked : (t w m : List ℕ) → ((j : ℕ) → j < length (tableRows t) → getD m j 0 ≡ setOf t w j)
     → ((j : ℕ) → j < length (tableRows t) → TypeRow t j → (g : ℕ) → g < 64 → bitOf (secondAt w j) g ≡ begins (typeFrom 16 t (tableRows t) j) g)
     → Masked 16 t (tableRows t) m
-all-masked t w m is typed = record { says = λ j l g b. go j l g b (eqb (kindAt t (placeAt t j)) 16) refl }
+all-masked t w m is typed = record { says = λ j l g b. go j l g b (isMember (kindAt t (placeAt t j))) refl }
   where
-    go : (j : ℕ) → j < length (tableRows t) → (g : ℕ) → g < 64 → (x : Bool) → eqb (kindAt t (placeAt t j)) 16 ≡ x → bitOf (getD m j 0) g ≡ begins (typeFrom 16 t (tableRows t) j) g
+    go : (j : ℕ) → j < length (tableRows t) → (g : ℕ) → g < 64 → (x : Bool) → isMember (kindAt t (placeAt t j)) ≡ x → bitOf (getD m j 0) g ≡ begins (typeFrom 16 t (tableRows t) j) g
     go j l g b true q =
-        let h = eqb-true (kindAt t (placeAt t j)) 16 q in
-        ap (λ (x : ℕ). bitOf x g) (is j l ∙ set-of-member t w j h) ∙ bits-one t (tableRows t) j 15 (λ y. let c : _≡_ {A = ℕ} 16 13 = sym h ∙ y in omega arith) g
+        ap (λ (x : ℕ). bitOf x g) (is j l ∙ set-of-member t w j q) ∙ bits-one t (tableRows t) j 15 (λ y. choice-no-member (kindAt t (placeAt t j)) y q) g
     go j l g b false q =
-        let h = eqb-false (kindAt t (placeAt t j)) 16 q in
+        let h : TypeRow t j = λ e. false≢true (sym q ∙ e) in
         ap (λ (x : ℕ). bitOf x g) (is j l ∙ set-of-type t w j h) ∙ typed j l h g b
 
 module _ (t w : List ℕ) (i : ℕ) (going : Going t w i) (z : i ≤ 0) where
@@ -169,18 +169,17 @@ module _ (t w : List ℕ) (i : ℕ) (going : Going t w i) (z : i ≤ 0) where
 
   second-is : (j : ℕ) → j < length (tableRows t) → secondAt w j ≡ secondOf t (tableRows t) sets j
   unfolding secondOf memberSecond
-  second-is j l = go (eqb (kindAt t (placeAt t j)) 16) refl
+  second-is j l = go (isMember (kindAt t (placeAt t j))) refl
     where
       v : i ≤ j
       v = omega arith
 
-      go : (x : Bool) → eqb (kindAt t (placeAt t j)) 16 ≡ x
+      go : (x : Bool) → isMember (kindAt t (placeAt t j)) ≡ x
           → secondAt w j ≡ pick x (pick (eqb (presenceAt t (placeAt t j)) 2) (baseFrom 0 (defaultAt t (placeAt t j))) (getD sets (namedAt t (placeAt t j)) 0)) (getD sets j 0)
       go true q =
-          let h = eqb-true (kindAt t (placeAt t j)) 16 q in
-          let k = names-later t j (going .fits j v l) h in
-          going .words j v l .stored h ∙ ap (pick (eqb (presenceAt t (placeAt t j)) 2) (baseFrom 0 (defaultAt t (placeAt t j)))) (sym (sets-at (namedAt t (placeAt t j)) (k .1) ∙ set-of-type t w (namedAt t (placeAt t j)) (k .2)))
-      go false q = sym (sets-at j l ∙ set-of-type t w j (eqb-false (kindAt t (placeAt t j)) 16 q))
+          let k = names-later t j (going .fits j v l) q in
+          going .words j v l .stored q ∙ ap (pick (eqb (presenceAt t (placeAt t j)) 2) (baseFrom 0 (defaultAt t (placeAt t j)))) (sym (sets-at (namedAt t (placeAt t j)) (k .1) ∙ set-of-type t w (namedAt t (placeAt t j)) (k .2)))
+      go false q = sym (sets-at j l ∙ set-of-type t w j (λ e. false≢true (sym q ∙ e)))
 
   pub going-worded : Worded t w
   going-worded = record {

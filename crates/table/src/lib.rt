@@ -63,8 +63,9 @@ fn pack_type(kind: u8, first: usize, count: usize, target: usize, chain: usize, 
     low + high * 4294967296
 }
 
-// The first word of a member row, whose type is of kind typ.
+// The first word of a member row of a kind, whose type is of kind typ.
 fn pack_member(
+    kind: u8,
     first: usize,
     target: usize,
     typ: u8,
@@ -79,9 +80,9 @@ fn pack_member(
     requires presence { ⌜ presence < 4 ⌝ }
     requires size { ⌜ size < 16 ⌝ }
     requires place { ⌜ place < 65536 ⌝ }
-    ensures { λ r. ⌜ field.Packed r kind.member first 0 target typ how presence size place ⌝ }
+    ensures { λ r. ⌜ field.Packed r kind first 0 target typ how presence size place ⌝ }
 {
-    let low = octets::wide64(Kind::MEMBER) + (first as u64) * 256 + (target as u64) * 16777216;
+    let low = octets::wide64(kind) + (first as u64) * 256 + (target as u64) * 16777216;
     let tag = octets::wide64(how) + octets::wide64(presence) * 4 + (size as u64) * 16;
     let high = octets::wide64(typ) + tag * 256 + (place as u64) * 65536;
     low + high * 4294967296
@@ -225,6 +226,7 @@ fn member_word(t: &[u8], p: usize, kind: u8) -> u64
     let target = rows::member_type_row(t, p);
     let size = rows::member_default(t, p).len();
     pack_member(
+        rows::kind_at(t, p),
         first,
         target,
         kind,
@@ -429,7 +431,7 @@ fn member_second(t: &[u8], p: usize, y: u64) -> u64
 
 fn member_row(t: &[u8], w: &[u64; 256], n: usize, i: usize, p: usize) -> Made
     requires next { ⌜ Next (now t) (now w) n i p ⌝ }
-    requires member { ⌜ row.kindAt (now t) p ≡ kind.member ⌝ }
+    requires member { ⌜ row.isMember (row.kindAt (now t) p) ≡ true ⌝ }
     ensures { λ r. ⌜ Says (now (t .entry)) (now (w .entry)) i r ⌝ }
 {
     let j = rows::member_type_row(t, p);
@@ -517,7 +519,7 @@ fn one_row(t: &[u8], w: &[u64; 256], n: usize, i: usize, p: usize) -> Made
     ensures { λ r. ⌜ Says (now (t .entry)) (now (w .entry)) i r ⌝ }
 {
     let kind = rows::kind_at(t, p);
-    if kind == Kind::MEMBER {
+    if rows::is_member(kind) {
         return member_row(t, w, n, i, p);
     }
     if kind == Kind::SEQUENCE {

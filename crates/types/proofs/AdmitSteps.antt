@@ -41,11 +41,11 @@ module _ (t s : List ℕ) where
   pub in-passes : (l : Limits) → admittedRows l t s ≡ both (firstPass l t s) (secondPass (l .chain) t s)
   unfolding admittedRows rowsFormed rowsNamed membersAgree typesFit firstPass
   in-passes l =
-      ap (λ (x : Bool). both (both (wholeRows (l .rows) s) (both (everyRow (bodyFormed (l .members) (l .name) t s) s) (firstIsType t s)))
+      ap (λ (x : Bool). both (both (wholeRows (l .rows) s) (both (everyRow (bodyFormed (l .members) t s) s) (firstIsType t s)))
       (both (both (everyRow (pointsLater t s) s) (followersStand t s)) (both x (both (everyRow (chainFits (l .chain) t s) s)
       (everyRow (tagsDiffer (l .chain) t s) s)))))
       (paired (everyRow (namesDiffer t s) s) (everyRow (numbersDiffer t s) s) _)
-      ∙ ordered (wholeRows (l .rows) s) (everyRow (bodyFormed (l .members) (l .name) t s) s) (firstIsType t s) (everyRow (pointsLater t s) s)
+      ∙ ordered (wholeRows (l .rows) s) (everyRow (bodyFormed (l .members) t s) s) (firstIsType t s) (everyRow (pointsLater t s) s)
       (followersStand t s)
       (both (everyRow (namesDiffer t s) s) (everyRow (numbersDiffer t s) s))
       (both (everyRow (alternativesMandatory t s) s) (both (everyRow (noImplicitChoice t s) s) (everyRow (defaultLegal t s) s))) (both (everyRow (chainFits (l .chain) t s) s) (everyRow (tagsDiffer (l .chain) t s) s))

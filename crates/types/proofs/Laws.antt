@@ -7,7 +7,7 @@ use borrow.Author.Tests.{leb-true}
 use lib.ListN.{length}
 use Rattle.octets.proofs.Laws.{both-true, all-at}
 use Rattle.rows.specs.Limits.{Limits}
-use Rattle.rows.specs.Row.{rows, rowAt, kindAt, bitNumberAt, namedAt, membersAt, bitNamesAt}
+use Rattle.rows.specs.Row.{rows, rowAt, kindAt, isMember, bitNumberAt, namedAt, membersAt, bitNamesAt}
 use Rattle.rows.proofs.Laws.{MemberFacts, member-facts, bit-facts}
 use Rattle.clauses.specs.Clauses.{everyRow, wholeRows, bodyFormed, pointsLater, followersStand, memberPlace, namesDiffer, numbersDiffer}
 use Rattle.clauses.specs.Clauses.{alternativesMandatory, noImplicitChoice, defaultLegal, chainFits, isType, firstIsType}
@@ -26,21 +26,21 @@ module _ (l : Limits) (t : List ℕ) (ok : admitted l t ≡ true) where
   unfolding admitted
   whole = ok
 
-  formed : rowsFormed (l .rows) (l .members) (l .name) t s ≡ true
+  formed : rowsFormed (l .rows) (l .members) t s ≡ true
   unfolding admittedRows
-  formed = both-true (rowsFormed (l .rows) (l .members) (l .name) t s) _ whole .0
+  formed = both-true (rowsFormed (l .rows) (l .members) t s) _ whole .0
 
   named : rowsNamed t s ≡ true
   unfolding admittedRows
-  named = both-true (rowsNamed t s) _ (both-true (rowsFormed (l .rows) (l .members) (l .name) t s) _ whole .1) .0
+  named = both-true (rowsNamed t s) _ (both-true (rowsFormed (l .rows) (l .members) t s) _ whole .1) .0
 
   agree : membersAgree t s ≡ true
   unfolding admittedRows
-  agree = both-true (membersAgree t s) _ (both-true (rowsNamed t s) _ (both-true (rowsFormed (l .rows) (l .members) (l .name) t s) _ whole .1) .1) .0
+  agree = both-true (membersAgree t s) _ (both-true (rowsNamed t s) _ (both-true (rowsFormed (l .rows) (l .members) t s) _ whole .1) .1) .0
 
   fit : typesFit (l .chain) t s ≡ true
   unfolding admittedRows
-  fit = both-true (membersAgree t s) _ (both-true (rowsNamed t s) _ (both-true (rowsFormed (l .rows) (l .members) (l .name) t s) _ whole .1) .1) .1
+  fit = both-true (membersAgree t s) _ (both-true (rowsNamed t s) _ (both-true (rowsFormed (l .rows) (l .members) t s) _ whole .1) .1) .1
 
   -- ---- the facts of a row
   -- at least one row, at most as many as the limit
@@ -50,7 +50,7 @@ module _ (l : Limits) (t : List ℕ) (ok : admitted l t ≡ true) where
 
   pub row-0-is-type : isType t s 0 ≡ true
   unfolding rowsFormed firstIsType
-  row-0-is-type = both-true (everyRow (bodyFormed (l .members) (l .name) t s) s) _ (both-true (wholeRows (l .rows) s) _ formed .1) .1
+  row-0-is-type = both-true (everyRow (bodyFormed (l .members) t s) s) _ (both-true (wholeRows (l .rows) s) _ formed .1) .1
 
   points : everyRow (pointsLater t s) s ≡ true
   points = named-points t s named
@@ -67,19 +67,19 @@ module _ (l : Limits) (t : List ℕ) (ok : admitted l t ≡ true) where
   names-later = is-later t s points stands
 
   module _ (i : ℕ) (here : i < length s) where
-    pub body-formed : bodyFormed (l .members) (l .name) t s i ≡ true
+    pub body-formed : bodyFormed (l .members) t s i ≡ true
     unfolding rowsFormed
-    body-formed = all-at (bodyFormed (l .members) (l .name) t s) (length s) i (both-true (everyRow (bodyFormed (l .members) (l .name) t s) s) _ (both-true (wholeRows (l .rows) s) _ formed .1) .0) here
+    body-formed = all-at (bodyFormed (l .members) t s) (length s) i (both-true (everyRow (bodyFormed (l .members) t s) s) _ (both-true (wholeRows (l .rows) s) _ formed .1) .0) here
 
-    pub member-formed : kindAt t (rowAt s i) ≡ 16 → MemberFacts (l .name) t (rowAt s i)
+    pub member-formed : isMember (kindAt t (rowAt s i)) ≡ true → MemberFacts t (rowAt s i)
     unfolding bodyFormed
-    member-formed k = member-facts (l .members) (l .name) t (rowAt s i) body-formed k
+    member-formed k = member-facts (l .members) t (rowAt s i) body-formed k
 
     pub points-later : pointsLater t s i ≡ true
     points-later = all-at (pointsLater t s) (length s) i points here
 
     -- the members of a row follow it directly
-    pub member-stands : (j : ℕ) → j < membersAt t (rowAt s i) → (i + 1 + j < length s) × (kindAt t (memberPlace s i j) ≡ 16)
+    pub member-stands : (j : ℕ) → j < membersAt t (rowAt s i) → (i + 1 + j < length s) × (isMember (kindAt t (memberPlace s i j)) ≡ true)
     member-stands j h = member-follows t s stands i here j h
 
     pub names-differ : namesDiffer t s i ≡ true
@@ -103,4 +103,4 @@ module _ (l : Limits) (t : List ℕ) (ok : admitted l t ≡ true) where
   unfolding bodyFormed
   bit-stands i here j h =
       let f = bit-follows t s stands i here j h in
-      (f .0, bit-facts (l .members) (l .name) t (memberPlace s i j) (body-formed (i + 1 + j) (f .0)) (f .1) .1)
+      (f .0, bit-facts (l .members) t (memberPlace s i j) (body-formed (i + 1 + j) (f .0)) (f .1) .1)

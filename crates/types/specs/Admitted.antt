@@ -16,8 +16,8 @@ tagsDiffer chain t s i = tagsApart (typeFrom chain t s i)
 
 -- ---- the clauses together
 -- rows and bodies
-unfoldable pub rowsFormed : ℕ → ℕ → ℕ → List ℕ → List ℕ → Bool
-rowsFormed most members name t s = both (wholeRows most s) (both (everyRow (bodyFormed members name t s) s) (firstIsType t s))
+unfoldable pub rowsFormed : ℕ → ℕ → List ℕ → List ℕ → Bool
+rowsFormed most members t s = both (wholeRows most s) (both (everyRow (bodyFormed members t s) s) (firstIsType t s))
 
 -- the rows that rows name, and where members stand
 unfoldable pub rowsNamed : List ℕ → List ℕ → Bool
@@ -37,7 +37,7 @@ unfoldable pub typesFit : ℕ → List ℕ → List ℕ → Bool
 typesFit chain t s = both (everyRow (chainFits chain t s) s) (everyRow (tagsDiffer chain t s) s)
 
 unfoldable pub admittedRows : Limits → List ℕ → List ℕ → Bool
-admittedRows l t s = both (rowsFormed (l .rows) (l .members) (l .name) t s) (both (rowsNamed t s) (both (membersAgree t s) (typesFit (l .chain) t s)))
+admittedRows l t s = both (rowsFormed (l .rows) (l .members) t s) (both (rowsNamed t s) (both (membersAgree t s) (typesFit (l .chain) t s)))
 
 unfoldable pub admitted : Limits → List ℕ → Bool
 admitted l t = admittedRows l t (rows (l .rows) t)

@@ -6,7 +6,7 @@ use Prim.Native.Nat.{ℕ, zero, suc}
 use Prim.Native.String.{String}
 use lib.ListN.{length, set, take, replicate}
 use Rattle.rows.specs.Paper.{tableLimits}
-use Rattle.types.specs.Paper.{memberRow, bitRow, rights, licence}
+use Rattle.types.specs.Paper.{memberRow, longRow, bitRow, rights, licence}
 use Rattle.rows.specs.Row.{rows}
 use Rattle.types.specs.Types.{typeAt}
 use Rattle.types.specs.Begins.{begins}
@@ -30,7 +30,7 @@ answer t = tableReport tableLimits t
 -- the clauses, each on its own
 clausesOf : List ℕ → List ℕ → List Bool
 clausesOf t s =
-    wholeRows 128 s ∷ everyRow (bodyFormed 16 24 t s) s ∷ firstIsType t s ∷ everyRow (pointsLater t s) s ∷ followersStand t s ∷ everyRow (namesDiffer t s) s
+    wholeRows 128 s ∷ everyRow (bodyFormed 16 t s) s ∷ firstIsType t s ∷ everyRow (pointsLater t s) s ∷ followersStand t s ∷ everyRow (namesDiffer t s) s
     ∷ everyRow (alternativesMandatory t s) s ∷ everyRow (noImplicitChoice t s) s ∷ everyRow (defaultLegal t s) s ∷ everyRow (chainFits 16 t s) s ∷ everyRow
     (tagsDiffer 16 t s) s
     ∷ everyRow (numbersDiffer t s) s ∷ []
@@ -81,8 +81,8 @@ unfolding tableComputes
 formed = refl
 
 -- ---- clauses 0 and 2: a last row that is cut off, an unknown kind, 129 rows: there is then no row 0; a member in row 0 stands after no SEQUENCE
-whole : map answer ((14 ∷ 0 ∷ []) ∷ (17 ∷ []) ∷ (0 ∷ []) ∷ replicate 128 2 ∷ replicate 129 2 ∷ [] ∷ replicate 4993 2 ∷ (plain "a" 1 ++ 2 ∷ []) ∷ [])
-    ≡ refused 2 ∷ refused 2 ∷ refused 2 ∷ admits 128 ∷ refused 2 ∷ refused 1 ∷ refused 1 ∷ refused 2 ∷ []
+whole : map answer ((14 ∷ 0 ∷ []) ∷ (17 ∷ []) ∷ (0 ∷ []) ∷ replicate 128 2 ∷ replicate 129 2 ∷ [] ∷ (plain "a" 1 ++ 2 ∷ []) ∷ [])
+    ≡ refused 2 ∷ refused 2 ∷ refused 2 ∷ admits 128 ∷ refused 2 ∷ refused 1 ∷ refused 2 ∷ []
 unfolding tableComputes
 whole = refl
 
@@ -233,3 +233,45 @@ name-chains : map clauses (listsAbove (19 ∷ []) 0 15 ∷ listsAbove (19 ∷ []
     ≡ replicate 12 true ∷ allBut 9 ∷ replicate 12 true ∷ allBut 9 ∷ []
 unfolding tableComputes clauses clausesOf listsAbove
 name-chains = refl
+
+-- ---- document 02, Q-4: members with long names
+-- a mandatory, untagged one
+abbrev long : String → ℕ → List ℕ
+long name type = longRow name type 0 0 0 []
+
+-- a row has 63 octets; 29, 25 and 48 letters; beside a short name that it begins with, in both orders; an alternative; tagged, optional, with a default
+long-admitted : map answer (one (long "educationalConcessionCategory" 2) ∷ one (long "abcdefghijklmnopqrstuvwxy" 2)
+    ∷ one (long "abcdefghijklmnopqrstuvwxyabcdefghijklmnopqrstuvw" 2)
+    ∷ pair 12 (plain "abcdefghijklmnopqrstuvwx" 3) (long "abcdefghijklmnopqrstuvwxy" 4) (1 ∷ 2 ∷ [])
+    ∷ pair 12 (long "abcdefghijklmnopqrstuvwxy" 3) (plain "abcdefghijklmnopqrstuvwx" 4) (1 ∷ 2 ∷ [])
+    ∷ (13 ∷ 1 ∷ long "educationalConcessionCategory" 2 ++ 2 ∷ []) ∷ one (longRow "educationalConcessionCategory" 2 1 30 0 [])
+    ∷ one (longRow "educationalConcessionCategory" 2 2 0 1 []) ∷ one (longRow "educationalConcessionCategory" 2 0 0 2 (1 ∷ [])) ∷ [])
+    ≡ admits 3 ∷ admits 3 ∷ admits 3 ∷ admits 5 ∷ admits 5 ∷ admits 3 ∷ admits 3 ∷ admits 3 ∷ admits 3 ∷ []
+unfolding tableComputes
+long-admitted = refl
+
+long-octets : length (long "educationalConcessionCategory" 2) ≡ 63
+long-octets = refl
+
+-- bodies: 24 letters, and one; no name; a capital first; a hyphen last, at 25 and at 48; two hyphens; another octet behind the fill; tag mode 3; a default's fill
+long-bodies : map clauses (one (long "abcdefghijklmnopqrstuvwx" 2) ∷ one (long "a" 2) ∷ one (long "" 2) ∷ one (long "EducationalConcessionCategory" 2)
+    ∷ one (long "abcdefghijklmnopqrstuvwx-" 2) ∷ one (long "abcdefghijklmnopqrstuvwxyabcdefghijklmnopqrstuv-" 2)
+    ∷ one (long "educational--ConcessionCategory" 2) ∷ one (set (long "educationalConcessionCategory" 2) 40 97)
+    ∷ one (longRow "educationalConcessionCategory" 2 3 0 0 []) ∷ one (set (longRow "educationalConcessionCategory" 2 0 0 2 (1 ∷ [])) 56 1) ∷ [])
+    ≡ replicate 10 (allBut 1)
+unfolding tableComputes clauses clausesOf
+long-bodies = refl
+
+-- names that differ in the 48th letter, and in none; a row of kind 21 behind no SEQUENCE or CHOICE, in the place of a bit's name, and as an element
+long-names : clauses (pair 12 (long "abcdefghijklmnopqrstuvwxyabcdefghijklmnopqrstuvw" 3) (long "abcdefghijklmnopqrstuvwxyabcdefghijklmnopqrstuvx" 4) (1 ∷ 2 ∷ []))
+    ∷ map clauses (pair 12 (long "educationalConcessionCategory" 3) (long "educationalConcessionCategory" 4) (1 ∷ 2 ∷ [])
+    ∷ (12 ∷ 1 ∷ plain "a" 3 ++ long "educationalConcessionCategory" 3 ++ 2 ∷ []) ∷ (17 ∷ 1 ∷ long "educationalConcessionCategory" 2 ++ 2 ∷ [])
+    ∷ (14 ∷ 0 ∷ 2 ∷ one (long "educationalConcessionCategory" 3)) ∷ [])
+    ≡ replicate 12 true ∷ allBut 5 ∷ allBut 4 ∷ allBut 4 ∷ allBut 3 ∷ []
+unfolding tableComputes clauses clausesOf
+long-names = refl
+
+-- sizes: 4,993 and 8,064 octets that are no table, 8,065
+sizes : map answer (replicate 4993 2 ∷ replicate 8064 2 ∷ replicate 8065 2 ∷ []) ≡ refused 2 ∷ refused 2 ∷ refused 1 ∷ []
+unfolding tableComputes
+sizes = refl

@@ -9,10 +9,16 @@ use Rattle.octets.specs.Octets.{bytes}
 abbrev pub fill : ℕ → List ℕ → List ℕ
 fill n l = take n (l ++ replicate n 0)
 
--- a member row: name, type row, tag mode, context tag number, presence, default contents
+-- a member's body behind its name: type row, tag mode, context tag number, presence, default contents
+abbrev pub behindName : ℕ → ℕ → ℕ → ℕ → List ℕ → List ℕ
+behindName type mode number presence c = (type / 256) ∷ (type % 256) ∷ mode ∷ number ∷ presence ∷ length c ∷ fill 8 c
+
+-- a member row; with a long name (document 02, Q-4)
 abbrev pub memberRow : String → ℕ → ℕ → ℕ → ℕ → List ℕ → List ℕ
-memberRow name type mode number presence c =
-    16 ∷ fill 24 (bytes name) ++ (type / 256) ∷ (type % 256) ∷ mode ∷ number ∷ presence ∷ length c ∷ fill 8 c
+memberRow name type mode number presence c = 16 ∷ fill 24 (bytes name) ++ behindName type mode number presence c
+
+abbrev pub longRow : String → ℕ → ℕ → ℕ → ℕ → List ℕ → List ℕ
+longRow name type mode number presence c = 21 ∷ fill 48 (bytes name) ++ behindName type mode number presence c
 
 -- the row of a named bit, with the bit's number
 abbrev pub bitRow : String → ℕ → List ℕ

@@ -5,7 +5,7 @@ use lib.Dec.{eqb}
 use Rattle.octets.specs.Pick.{pick}
 use Rattle.der.specs.Kind as kind
 use Rattle.rows.specs.Limits.{Limits}
-use Rattle.rows.specs.Row.{nameAt, kindAt, namedAt, modeAt, numberAt, presenceAt, defaultAt, bitNumberAt, isList, rows, rowAt, membersAt, bitNamesAt}
+use Rattle.rows.specs.Row.{kindAt, nameAt, unfilled, modeAt, numberAt, presenceAt, defaultAt, bitNumberAt, isList, namedAt, rows, rowAt, membersAt, bitNamesAt}
 
 -- tag mode: none, explicit, implicit, with the context tag number
 pub data Tagging : Type 0 where
@@ -42,11 +42,6 @@ mutual
   pub data Members : Type 0 where
     noMore : Members
     more : Member → Ty → Members → Members
-
--- a name without its fill
-unfoldable pub unfilled : List ℕ → List ℕ
-unfilled [] = []
-unfilled (b ∷ bs) = let r = b ∷ unfilled bs in pick (eqb b 0) [] r
 
 unfoldable pub taggingOf : ℕ → ℕ → Tagging
 taggingOf mode n = pick (eqb mode 0) untagged (pick (eqb mode 1) (explicit n) (implicit n))

@@ -15,7 +15,7 @@ use Rattle.der.specs.Tag.{wrapperOctet}
 use Rattle.der.specs.Header.{insideAt, opened}
 use Rattle.der.specs.Legal.{legal}
 use Rattle.der.specs.declared.Inside.{Inside}
-use Rattle.rows.specs.Row.{rowAt, kindAt, namedAt, membersAt, isList, modeAt, numberAt}
+use Rattle.rows.specs.Row.{rowAt, kindAt, isMember, namedAt, membersAt, isList, modeAt, numberAt}
 use Rattle.types.specs.Types.{untagged, implicit, taggingOf, Ty, basic, sequence, choice, listOf, Members, membersFrom, bitsAfter, typed, typeFrom}
 use Rattle.rows.proofs.KindLaws.{member-names}
 use Rattle.types.proofs.TypeCases.{typed-sequence, typed-choice, typed-list, typed-basic}
@@ -248,12 +248,12 @@ module _ (ty : Ty) (v : List ℕ) (at end tag : ℕ) (h : Inside) (opening : h �
     wraps-filled next a e = record { says = λ u q. wrapped-filled ty v at end u tag h q opening start n found c (asks u) next a e }
 
 -- ---- a member row, whose words the code has read
-module _ (chain : ℕ) (t s m : List ℕ) (row : ℕ) (ok : Ready chain t s m) (here : row < length s) (member : kindAt t (rowAt s row) ≡ 16) (j : ℕ)
+module _ (chain : ℕ) (t s m : List ℕ) (row : ℕ) (ok : Ready chain t s m) (here : row < length s) (member : isMember (kindAt t (rowAt s row)) ≡ true) (j : ℕ)
     (read : j ≡ namedAt t (rowAt s row)) where
   pub target-here : j < length s
   target-here = rw read (ok .target row here (member-names t (rowAt s row) member))
 
-  pub target-typed : kindAt t (rowAt s j) ≡ 16 → ⊥
+  pub target-typed : isMember (kindAt t (rowAt s j)) ≡ true → ⊥
   target-typed = rw read (ok .typed row here (member-names t (rowAt s row) member))
 
 module _ (chain : ℕ) (t s : List ℕ) (row j : ℕ) (read : j ≡ namedAt t (rowAt s row)) (f h : ℕ) (v : List ℕ) (at end : ℕ) (r : Checked)

@@ -9,7 +9,7 @@ use borrow.Author.Tests.{lt-ltb, le-ltb}
 use lib.ListN.{length}
 use lib.Dec.{ltb}
 use Rattle.octets.specs.Pick.{pick}
-use Rattle.rows.specs.Row.{rowAt, kindAt, namedAt, membersAt, modeAt, numberAt}
+use Rattle.rows.specs.Row.{rowAt, kindAt, isMember, namedAt, membersAt, modeAt, numberAt}
 use Rattle.types.specs.Types.{Tagging, taggingOf, Member, memberOf, Ty, membersFrom, typeFrom}
 use Rattle.types.specs.inner.Work.{Sound}
 use Rattle.value.specs.Decode.{Decoded, choiceOf, unwrapped, alternativeFrom, decode}
@@ -85,7 +85,7 @@ module _ (chain : ℕ) (t s m : List ℕ) (row : ℕ) (ok : Sound chain t s m) (
       pub choice-here : row + 1 + j < length s
       choice-here = ok .stands row here j in-row
 
-      pub choice-member : kindAt t (rowAt s (row + 1 + j)) ≡ 16
+      pub choice-member : isMember (kindAt t (rowAt s (row + 1 + j))) ≡ true
       choice-member = ok .members row here j in-row
 
       pub choice-is : (r : Checked) → r ≡ checked (alternative j) → r ≡ checked (alternativeFrom (membersFrom (typeFrom chain t s) t s (row + 1) (membersAt t (rowAt s row))) v at end)

@@ -15,7 +15,7 @@ use Rattle.der.specs.Tag.{ownOctet, wrapperOctet}
 use Rattle.der.specs.Header.{insideAt}
 use Rattle.der.specs.declared.Inside.{Inside}
 use Rattle.rows.proofs.NumberSteps.{part-bytes}
-use Rattle.rows.specs.Row.{kindAt, modeAt, numberAt, presenceAt, defaultLengthAt, defaultAt}
+use Rattle.rows.specs.Row.{kindAt, behindName, isMember, modeAt, numberAt, presenceAt, defaultLengthAt, defaultAt}
 use Rattle.types.specs.Types.{Tagging, taggingOf}
 use Rattle.table.specs.inner.Rows.{tableRows, placeAt, taggingAt, memberKindAt}
 use Rattle.table.specs.inner.Words.{firstOctet, isBasic, how, Worded}
@@ -76,7 +76,7 @@ module _ (t : List ℕ) (p : ℕ) (v : List ℕ) (start n pr : ℕ) (read : pr �
       rw (← read, eq-eqb pr 2 h) (q ∙ ap (λ (x : ℕ). same (part v start x) (defaultAt t p)) l)
 
 -- ---- a member row
-module _ (t w : List ℕ) (row : ℕ) (ok : Worded t w) (here : row < length (tableRows t)) (member : kindAt t (placeAt t row) ≡ 16) where
+module _ (t w : List ℕ) (row : ℕ) (ok : Worded t w) (here : row < length (tableRows t)) (member : isMember (kindAt t (placeAt t row)) ≡ true) where
   abbrev p : ℕ
   p = placeAt t row
 
@@ -97,7 +97,7 @@ module _ (t w : List ℕ) (row : ℕ) (ok : Worded t w) (here : row < length (ta
         → ((i : ℕ) → Fits w8 (octet c i))
         → eqb x y ≡ same c (defaultAt t (placeAt t row))
     default-same x y e a b ft fc = ap₂ eqb a b
-        ∙ digits 0 0 c (defaultAt t p) (e ∙ sized) (λ i. omega (arith, fc i)) (part-bytes (defaultLengthAt t p) (p + 31) t (λ i. omega (arith, ft i)))
+        ∙ digits 0 0 c (defaultAt t p) (e ∙ sized) (λ i. omega (arith, fc i)) (part-bytes (defaultLengthAt t p) (behindName t p + 6) t (λ i. omega (arith, ft i)))
 
   -- ---- in a wrapper
   first-wrapper : (f : ℕ) → modeAt t p ≡ 1 → f ≡ firstOctet g k → f ≡ wrapperOctet (numberAt t p)

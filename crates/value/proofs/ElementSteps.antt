@@ -13,7 +13,7 @@ use Rattle.octets.specs.Octets.{part}
 use Rattle.der.specs.Kind as kind
 use Rattle.der.specs.Order.{notAbove}
 use Rattle.rows.proofs.KindLaws.{list-names}
-use Rattle.rows.specs.Row.{rowAt, kindAt, namedAt, isList}
+use Rattle.rows.specs.Row.{rowAt, kindAt, isMember, namedAt, isList}
 use Rattle.types.specs.Types.{untagged, taggingOf, Ty, typeFrom}
 use Rattle.types.specs.inner.Work.{Sound}
 use Rattle.table.specs.inner.Words.{firstOctet, isBasic, Ready}
@@ -181,7 +181,7 @@ module _ (chain : ℕ) (t s m : List ℕ) (row : ℕ) (ok : Sound chain t s m) (
       either-true false = refl
 
 pub element-typed : (chain : ℕ) (t s m : List ℕ) (row e : ℕ) → Ready chain t s m → row < length s → isList (kindAt t (rowAt s row)) ≡ true
-    → e ≡ namedAt t (rowAt s row) → kindAt t (rowAt s e) ≡ 16 → ⊥
+    → e ≡ namedAt t (rowAt s row) → isMember (kindAt t (rowAt s e)) ≡ true → ⊥
 element-typed chain t s m row e ok here list read = rw read (ok .typed row here (list-names t (rowAt s row) list))
 
 pub leaves-are : (t s : List ℕ) (row e k : ℕ) (r : Bool) → e ≡ namedAt t (rowAt s row) → k ≡ kindAt t (rowAt s e) → r ≡ isBasic k

@@ -11,7 +11,7 @@ use lib.Dec.{eqb}
 use Rattle.octets.specs.Pick.{pick, bind, isSome}
 use Rattle.rows.specs.Limits.{Limits, tableFits}
 use Rattle.rows.specs.Paper.{tableLimits}
-use Rattle.rows.specs.Row.{rows, kindAt}
+use Rattle.rows.specs.Row.{rows, kindAt, isMember}
 use Rattle.types.specs.Types as types
 use Rattle.types.specs.Types.{untagged, taggingOf, Ty}
 use Rattle.types.specs.Admitted.{admitted}
@@ -83,7 +83,7 @@ module _ (t w : List ℕ) (ok : Worded t w) where
   pub root-here : 0 < length (tableRows t)
   root-here = ok .ready .rooted
 
-  pub root-typed : kindAt t (placeAt t 0) ≡ 16 → ⊥
+  pub root-typed : isMember (kindAt t (placeAt t 0)) ≡ true → ⊥
   root-typed = ok .ready .root
 
 -- ---- the answers

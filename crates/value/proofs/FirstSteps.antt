@@ -10,7 +10,7 @@ use Rattle.der.specs.Tag.{class, number}
 use Rattle.der.specs.Header.{insideAt}
 use Rattle.der.proofs.Laws.{other-octet}
 use Rattle.rows.specs.Paper.{tableLimits}
-use Rattle.rows.specs.Row.{kindAt, modeAt, numberAt}
+use Rattle.rows.specs.Row.{kindAt, isMember, modeAt, numberAt}
 use Rattle.types.specs.Types.{Tagging}
 use Rattle.table.specs.inner.Rows.{tableRows, placeAt, memberAt, taggingAt, memberTypeAt, memberKindAt}
 use Rattle.table.specs.inner.Words.{firstOctet, how, Worded}
@@ -21,7 +21,7 @@ use Rattle.value.proofs.ModeSteps.{plain-choice, plain-tag}
 use Rattle.value.proofs.TagSteps.{begins-same, first-usable, starts-past, starts-is}
 use Rattle.value.proofs.MemberSteps.{member-absent, by-plain}
 
-module _ (t w : List ℕ) (row : ℕ) (ok : Worded t w) (here : row < length (tableRows t)) (member : kindAt t (placeAt t row) ≡ 16)
+module _ (t w : List ℕ) (row : ℕ) (ok : Worded t w) (here : row < length (tableRows t)) (member : isMember (kindAt t (placeAt t row)) ≡ true)
     (plain : how (memberKindAt t row) (modeAt t (placeAt t row)) ≡ 0) (v : List ℕ) (i stop : ℕ) where
   abbrev p : ℕ
   p = placeAt t row

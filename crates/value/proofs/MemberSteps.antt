@@ -13,7 +13,7 @@ use Rattle.octets.specs.Octets.{part, same}
 use Rattle.octets.proofs.Laws.{both-true}
 use Rattle.der.specs.Header.{insideAt}
 use Rattle.der.specs.declared.Inside.{Inside}
-use Rattle.rows.specs.Row.{rowAt, kindAt, namedAt, membersAt, modeAt, numberAt, presenceAt, defaultAt}
+use Rattle.rows.specs.Row.{rowAt, kindAt, isMember, namedAt, membersAt, modeAt, numberAt, presenceAt, defaultAt}
 use Rattle.clauses.specs.Clauses.{typeKind, defaultAllowed, defaultLegal}
 use Rattle.types.specs.Types.{Tagging, untagged, explicit, implicit, mandatory, optional, default, taggingOf, presenceOf, Member, memberOf, NamedBit, Ty}
 use Rattle.types.specs.Types.{basic, Members, more, membersFrom, bitsAfter, typeFrom}
@@ -64,7 +64,7 @@ module _ (chain : ℕ) (t s m : List ℕ) (row : ℕ) (ok : Ready chain t s m) (
     pub alternative-here : row + 1 + j < length s
     alternative-here = ok .sound .stands row here j in-group
 
-    pub alternative-member : kindAt t (rowAt s (row + 1 + j)) ≡ 16
+    pub alternative-member : isMember (kindAt t (rowAt s (row + 1 + j))) ≡ true
     alternative-member = ok .sound .members row here j in-group
 
     pub alternative-fits : row + 1 + j < 18446744073709551616
@@ -76,7 +76,7 @@ module _ (chain : ℕ) (t s m : List ℕ) (row : ℕ) (ok : Ready chain t s m) (
 pub count-le : (n m : ℕ) → n ≡ m → n ≤ m
 count-le n m e = omega arith
 
-module _ (chain : ℕ) (t s m : List ℕ) (row : ℕ) (ok : Ready chain t s m) (here : row < length s) (member : kindAt t (rowAt s row) ≡ 16) where
+module _ (chain : ℕ) (t s m : List ℕ) (row : ℕ) (ok : Ready chain t s m) (here : row < length s) (member : isMember (kindAt t (rowAt s row)) ≡ true) where
   target : namedAt t (rowAt s row) < length s
   target = ok .target row here (member-names t (rowAt s row) member)
 
@@ -229,7 +229,7 @@ module _ (chain : ℕ) (t s m : List ℕ) (row : ℕ) (ok : Sound chain t s m) (
       pub field-here : row + 1 + j < length s
       field-here = ok .stands row here j in-row
 
-      pub field-member : kindAt t (rowAt s (row + 1 + j)) ≡ 16
+      pub field-member : isMember (kindAt t (rowAt s (row + 1 + j))) ≡ true
       field-member = ok .members row here j in-row
 
       pub field-falls : (k : ℕ) → 5 * (length s - row) + 2 ≡ k → 5 * (length s - namedAt t (rowAt s (row + 1 + j))) + 6 < k

@@ -16,7 +16,7 @@ use Rattle.der.specs.Tag.{class, number, context, tagOf, universal, ownOctet, i
 use Rattle.der.specs.Kind.{isConstructed}
 use Rattle.der.specs.Legal.{legal}
 use Rattle.der.proofs.Laws.{tag-small, universal-most, universal-first}
-use Rattle.rows.specs.Row.{rowAt, kindAt, namedAt, modeAt, numberAt, presenceAt, defaultAt}
+use Rattle.rows.specs.Row.{rowAt, kindAt, isMember, namedAt, modeAt, numberAt, presenceAt, defaultAt}
 use Rattle.clauses.specs.Clauses.{defaultAllowed, defaultLegal}
 use Rattle.rows.proofs.KindLaws.{member-names}
 use Rattle.types.specs.Types.{untagged, explicit, implicit, taggingOf, memberOf, Ty}
@@ -132,7 +132,7 @@ own-usable k f e = rw e (go (eqb k 13))
     go false = own-opens k 0 .0
 
 -- ---- a member's words say with which octets it can begin
-module _ (t w : List ℕ) (row : ℕ) (ok : Worded t w) (here : row < length (tableRows t)) (member : kindAt t (placeAt t row) ≡ 16) where
+module _ (t w : List ℕ) (row : ℕ) (ok : Worded t w) (here : row < length (tableRows t)) (member : isMember (kindAt t (placeAt t row)) ≡ true) where
   abbrev p : ℕ
   p = placeAt t row
 

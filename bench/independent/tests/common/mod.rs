@@ -15,6 +15,14 @@ pub fn member(name: &str, ty: u16, mode: u8, number: u8, presence: u8, default: 
     row
 }
 
+/// The same with a name field of 48 octets.
+pub fn long_member(name: &str, ty: u16, mode: u8, number: u8, presence: u8, default: &[u8]) -> Vec<u8> {
+    let mut row = [&[21], name.as_bytes()].concat();
+    row.resize(1 + 48, 0);
+    row.extend(&member("", ty, mode, number, presence, default)[1 + 24..]);
+    row
+}
+
 pub fn licence_table() -> Vec<u8> {
     [
         vec![12, 3],

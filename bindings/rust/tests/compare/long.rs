@@ -64,23 +64,25 @@ fn table(draw: &mut Draw) -> Vec<u8> {
     for _ in 0..groups {
         table.extend([12, 16]);
         for at in 0..16 {
-            table.extend(member(&format!("member-{at}"), last));
+            let letters = draw.pick(&[1, 1, 21, 22, 45]);
+            table.extend(member(&format!("{}-{at}", "m".repeat(letters)), last));
         }
     }
     table.push(2);
     if draw.once_in(20) {
-        table.resize(draw.pick(&[4991, 4992, 4993, 5100]), 2);
+        table.resize(draw.pick(&[4992, 4993, 8063, 8064, 8065, 8065, 8200]), 2);
     }
     table
 }
 
-/// The row of a mandatory member without a tag of its own.
+/// The row of a mandatory member without a tag of its own, of the kind that the length of its name asks for.
 fn member(name: &str, ty: usize) -> Vec<u8> {
-    let mut row = vec![16];
+    let (kind, field) = if name.len() > 24 { (21, 48) } else { (16, 24) };
+    let mut row = vec![kind];
     row.extend(name.bytes());
-    row.resize(25, 0);
+    row.resize(1 + field, 0);
     row.extend((ty as u16).to_be_bytes());
-    row.resize(39, 0);
+    row.resize(1 + field + 14, 0);
     row
 }
 

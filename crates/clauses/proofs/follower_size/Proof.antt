@@ -1,4 +1,4 @@
-use Rattle.clauses.proofs.NameSteps.{member-place, bit-place, size-member, size-misfit, size-bit, size-no-bit}
+use Rattle.clauses.proofs.NameSteps.{size-short, size-whole, size-unformed, size-repeated, size-other, size-number, size-bit}
 use borrow.Author.Needs.{needs}
 use Rattle.clauses.proofs.follower_size.Statement.{statement}
 use Rattle.clauses.proofs.follower_size.Tie as tie
@@ -7,9 +7,15 @@ pub follower-size-spec : {M : Type 1} → statement M
 follower-size-spec =
     tie.close
     (tie.spec
-    (λ c κs. search member-place)  -- member-fits-requires
-    (λ c. (search size-member, search needs))  -- returns
-    (λ c. (search size-misfit, search needs))  -- returns-2
-    (λ c κs. search bit-place)  -- bit-fits-requires
-    (λ c. (search size-bit, search needs))  -- returns-3
-    (λ c. (search size-no-bit, search needs)))  -- returns-4
+    (λ c. search needs)  -- shared-slice-read-kind
+    (λ c κs. search needs)  -- follower-size-requires
+    (λ c. search needs)  -- sub-if1
+    (λ c. (search size-short, search needs))  -- returns
+    (λ c κs. search size-whole)  -- follower-formed-requires
+    (λ c. (search size-unformed, search needs))  -- returns-2
+    (λ c κs. (search needs, (search needs, (search needs, search size-whole))))  -- new-name-requires
+    (λ c. (search size-repeated, search needs))  -- returns-3
+    (λ c κs. (search needs, (search needs, (search needs, search size-whole))))  -- new-number-requires
+    (λ c. (search size-number, search needs))  -- returns-4
+    (λ c. (search size-bit, search needs))  -- returns-5
+    (λ c. (search size-other, search needs)))  -- returns-6

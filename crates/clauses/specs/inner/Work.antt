@@ -1,17 +1,18 @@
 -- What the passes over the rows compute.
-use Prim.Native.Nat.{ℕ, zero, suc, _<_, _+_, _-_, _*_}
+use Prim.Native.Nat.{ℕ, zero, suc, _≤_, _<_, _+_, _-_, _*_}
 use mathlib.Core.Path.{_≡_}
 use mathlib.Core.Bool.{Bool, true}
-use lib.Dec.{leb, eqb}
+use lib.Dec.{eqb}
 use lib.ListN.{length, getD}
 use mathlib.Core.List.{List}
-use Rattle.octets.specs.Pick.{pick, both, no, all}
+use Rattle.octets.specs.Pick.{both, either, no, all}
 use Rattle.der.specs.Kind as kind
 use Rattle.octets.specs.Octets.{larger}
 use Rattle.rows.specs.Limits.{Limits}
 use Rattle.rows.specs.Paper.{tableLimits}
-use Rattle.rows.specs.Row.{memberSize, bitSize, namesRow, namedAt, rows, rowAt, membersAt}
-use Rattle.rows.specs.Body.{memberFormed, bitFormed}
+use Rattle.rows.specs.Row.{kindAt, namesRow, namedAt, rows, rowAt, membersAt}
+use Rattle.rows.specs.Body.{rowFormed}
+use Rattle.rows.specs.inner.Sizes.{sizeIf, WholeFollower}
 use Rattle.clauses.specs.Clauses.{everyRow, wholeRows, bodyFormed, firstIsType, followersStand, memberPlace}
 use Rattle.clauses.specs.Clauses.{sameName, namesDiffer, sameNumber, numbersDiffer}
 
@@ -19,7 +20,7 @@ use Rattle.clauses.specs.Clauses.{sameName, namesDiffer, sameNumber, num
 unfoldable pub firstPass : Limits → List ℕ → List ℕ → Bool
 firstPass l t s =
     both (wholeRows (l .rows) s)
-    (both (everyRow (bodyFormed (l .members) (l .name) t s) s)
+    (both (everyRow (bodyFormed (l .members) t s) s)
     (both (firstIsType t s)
     (both (followersStand t s)
     (both (everyRow (namesDiffer t s) s)
@@ -29,43 +30,37 @@ firstPass l t s =
 pub record Placed (t w : List ℕ) (n : ℕ) : Type 0 where
   pub at : (i : ℕ) → i < n → getD w (2 * i) 0 ≡ rowAt (rows (tableLimits .rows) t) i
 
--- row b of those that follow a row, each of so many octets, where the first stands at `first`: they stand directly one after another
-abbrev pub placeFrom : ℕ → ℕ → ℕ → ℕ
-placeFrom size first b = first + size * b
+-- where row i stands, by such an array
+abbrev pub placeIn : List ℕ → ℕ → ℕ
+placeIn w i = getD w (2 * i) 0
 
--- its name is not that of row a
-unfoldable pub differsAt : ℕ → List ℕ → ℕ → ℕ → ℕ → Bool
-differsAt size t first b a = no (sameName t (placeFrom size first a) (placeFrom size first b))
+-- the rows from `first` on and before row n are whole and follow another
+pub record FollowersIn (t w : List ℕ) (first n : ℕ) : Type 0 where
+  pub fewer : first ≤ n
+  pub whole : (i : ℕ) → first ≤ i → i < n → WholeFollower t (placeIn w i)
 
--- nor that of any row before it
-unfoldable pub newNameAt : ℕ → List ℕ → ℕ → ℕ → Bool
-newNameAt size t first b = all (differsAt size t first b) b
+-- ---- the row at p, which follows another as those from `first` on and before row n do
+-- its name is not that of row i, nor that of any of them
+unfoldable pub differsAt : List ℕ → List ℕ → ℕ → ℕ → ℕ → Bool
+differsAt t w first p i = no (sameName t (placeIn w (first + i)) p)
+
+unfoldable pub newNameAt : List ℕ → List ℕ → ℕ → ℕ → ℕ → Bool
+newNameAt t w first n p = all (differsAt t w first p) (n - first)
 
 -- the same of the number of a bit
-unfoldable pub numberDiffersAt : List ℕ → ℕ → ℕ → ℕ → Bool
-numberDiffersAt t first b a = no (sameNumber t (placeFrom bitSize first a) (placeFrom bitSize first b))
+unfoldable pub numberDiffersAt : List ℕ → List ℕ → ℕ → ℕ → ℕ → Bool
+numberDiffersAt t w first p i = no (sameNumber t (placeIn w (first + i)) p)
 
-unfoldable pub newNumberAt : List ℕ → ℕ → ℕ → Bool
-newNumberAt t first b = all (numberDiffersAt t first b) b
+unfoldable pub newNumberAt : List ℕ → List ℕ → ℕ → ℕ → ℕ → Bool
+newNumberAt t w first n p = all (numberDiffersAt t w first p) (n - first)
 
--- a member is a whole row, with its body formed and a new name; a named bit is, with a new number too
-unfoldable pub memberFits : ℕ → List ℕ → ℕ → ℕ → Bool
-memberFits name t first b =
-    both (leb memberSize (length t - placeFrom memberSize first b))
-    (both (memberFormed name t (placeFrom memberSize first b))
-    (newNameAt memberSize t first b))
+-- its name is new; a bit's number is too
+unfoldable pub newAt : List ℕ → List ℕ → ℕ → ℕ → ℕ → Bool
+newAt t w first n p = both (newNameAt t w first n p) (either (no (eqb (kindAt t p) kind.namedBit)) (newNumberAt t w first n p))
 
-unfoldable pub bitFits : ℕ → List ℕ → ℕ → ℕ → Bool
-bitFits name t first b =
-    both (leb bitSize (length t - placeFrom bitSize first b))
-    (both (bitFormed name t (placeFrom bitSize first b))
-    (both (newNameAt bitSize t first b) (newNumberAt t first b)))
-
--- the octets of row b of those of a kind that follow a row; 0 where it doesn't fit
-unfoldable pub followerSize : ℕ → ℕ → List ℕ → ℕ → ℕ → ℕ
-followerSize name k t first b =
-    pick (eqb k kind.member) (pick (memberFits name t first b) memberSize 0)
-    (pick (bitFits name t first b) bitSize 0)
+-- its octets; 0 where it isn't whole, its body isn't formed, or it isn't new
+unfoldable pub followerSize : List ℕ → List ℕ → ℕ → ℕ → ℕ → ℕ
+followerSize t w first n p = sizeIf t p (both (rowFormed (tableLimits .members) t p) (newAt t w first n p))
 
 -- ---- the second pass, from the last row to the first
 -- the row of member j's type

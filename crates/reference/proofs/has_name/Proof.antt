@@ -1,6 +1,6 @@
 use Rattle.reference.proofs.NameSteps.{name-short, name-longer, name-other, name-fill, name-on, name-done}
 use Rattle.octets.specs.Octets.{same}
-use Rattle.types.specs.Types.{unfilled}
+use Rattle.rows.specs.Row.{unfilled}
 use mathlib.Core.Path.{_≡_, refl}
 use Prim.Native.Nat.{_-_, _≤_}
 use lib.ListN.{length, drop}

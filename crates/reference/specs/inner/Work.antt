@@ -9,9 +9,9 @@ use lib.Dec.{ltb, leb, eqb}
 use Rattle.octets.specs.Pick.{pick, both, bind, consed}
 use Rattle.octets.specs.Octets.{octet, part, same}
 use Rattle.octets.specs.Text.{isName, decimal}
-use Rattle.rows.specs.Row.{nameAt, rowAt, membersAt}
+use Rattle.rows.specs.Row.{nameAt, unfilled, rowAt, membersAt}
 use Rattle.clauses.specs.Clauses.{memberPlace}
-use Rattle.types.specs.Types.{Ty, unfilled, typeFrom}
+use Rattle.types.specs.Types.{Ty, typeFrom}
 use Rattle.value.specs.inner.Work.{first}
 use Rattle.reference.specs.Reference.{Index, position, fromEnd, count, all, Id, name, index, isPosition, readReference, givenIds}
 use Rattle.reference.specs.Allowed as allowed

@@ -7,7 +7,10 @@ pub default-at-spec : {M : Type 1} → statement M
 default-at-spec =
     tie.close
     (tie.spec
-    (λ c κs. search needs)  -- default-length-at-requires
+    (λ c κs. search needs)  -- field-behind-requires
     (λ c κs. search needs)  -- wide-requires
+    (λ c κs. search needs)  -- kind-at-requires
+    (λ c κs. search needs)  -- name-width-requires
+    (λ c. search needs)  -- add-fields
     (λ c κs. search needs)  -- fields-requires
     (λ c. search default-is))  -- returns

@@ -9,9 +9,9 @@ filled-16-spec =
     (tie.spec
     (λ c. search needs)  -- add-filled-8
     (λ c κs. search needs)  -- filled-8-requires
-    (λ c. search (filled-later 8))  -- returns
+    (λ c. search (filled-later 8 8))  -- returns
     (λ c κs. search needs)  -- filled-8-requires-2
-    (λ c. search (filled-not 8))  -- returns-2
+    (λ c. search (filled-not 8 8))  -- returns-2
     (λ c. search needs)  -- add-filled-8-2
     (λ c κs. search needs)  -- filled-8-requires-3
-    (λ c. search (filled-both 8)))  -- returns-3
+    (λ c. search (filled-both 8 8)))  -- returns-3

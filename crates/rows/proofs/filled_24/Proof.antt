@@ -9,9 +9,9 @@ filled-24-spec =
     (tie.spec
     (λ c. search needs)  -- add-filled-16
     (λ c κs. search needs)  -- filled-16-requires
-    (λ c. search (filled-later 16))  -- returns
+    (λ c. search (filled-later 8 16))  -- returns
     (λ c κs. search needs)  -- filled-8-requires
-    (λ c. search (filled-not 16))  -- returns-2
+    (λ c. search (filled-not 8 16))  -- returns-2
     (λ c. search needs)  -- add-filled-16-2
     (λ c κs. search needs)  -- filled-16-requires-2
-    (λ c. search (filled-both 16)))  -- returns-3
+    (λ c. search (filled-both 8 16)))  -- returns-3

@@ -7,6 +7,7 @@ pub member-default-spec : {M : Type 1} → statement M
 member-default-spec =
     tie.close
     (tie.spec
+    (λ c κs. search needs)  -- behind-name-requires
     (λ c. search needs)  -- add-start
     (λ c κs. search needs)  -- member-default-length-requires
     (λ c κs. search needs)  -- wide-requires

@@ -1,4 +1,4 @@
-use Rattle.rows.proofs.Steps.{member-filled, member-name, member-presence, member-tag}
+use Rattle.rows.proofs.Steps.{named-is, member-name, member-length, member-fields}
 use borrow.Author.Needs.{needs}
 use Rattle.rows.proofs.member_formed.Statement.{statement}
 use Rattle.rows.proofs.member_formed.Tie as tie
@@ -9,14 +9,7 @@ member-formed-spec =
     (tie.spec
     (λ c κs. search needs)  -- name-formed-requires
     (λ c. search member-name)  -- returns
-    (λ c. search needs)  -- add-tag-formed
-    (λ c. search needs)  -- shared-slice-read-tag-formed
-    (λ c. search needs)  -- add-tag-formed-2
-    (λ c. search needs)  -- shared-slice-read-tag-formed-2
-    (λ c κs. search needs)  -- tag-formed-requires
-    (λ c. search member-tag)  -- returns-2
-    (λ c. search needs)  -- add-if3
-    (λ c. search needs)  -- shared-slice-read-if3
-    (λ c. search member-presence)  -- returns-3
-    (λ c κs. search needs)  -- default-filled-requires
-    (λ c. search member-filled))  -- returns-4
+    (λ c κs. (search needs, search named-is))  -- length-formed-requires
+    (λ c. search member-length)  -- returns-2
+    (λ c κs. search needs)  -- fields-formed-requires
+    (λ c. search member-fields))  -- returns-3

@@ -11,6 +11,8 @@ name-formed-spec =
     (λ c. search needs)  -- shared-slice-read-is-lower
     (λ c κs. search needs)  -- is-lower-requires
     (λ c. search name-high)  -- returns
+    (λ c. search needs)  -- shared-slice-read-name-width
+    (λ c κs. search needs)  -- name-width-requires
     (λ c. search needs)  -- add-if2
     (λ c. search needs)  -- shared-slice-read-if2
     (λ c. search name-hyphen)  -- returns-2

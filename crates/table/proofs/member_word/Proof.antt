@@ -12,6 +12,7 @@ member-word-spec =
     (λ c κs. search needs)  -- first-octet-requires
     (λ c κs. search needs)  -- member-type-row-requires
     (λ c κs. search needs)  -- member-default-requires
+    (λ c κs. search needs)  -- kind-at-requires
     (λ c κs. search needs)  -- how-requires
     (λ c κs. search needs)  -- member-presence-requires
     (λ c κs. (search number-fits, (search target-fits, (search how-fits, (search presence-fits, (search size-fits, search needs))))))  -- pack-member-requires

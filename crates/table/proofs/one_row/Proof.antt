@@ -1,4 +1,4 @@
-use Rattle.table.proofs.PassSteps.{of-kind, of-list, of-basic}
+use Rattle.table.proofs.PassSteps.{of-kind, of-member, of-list, of-basic}
 use borrow.Author.Needs.{needs}
 use Rattle.table.proofs.one_row.Statement.{statement}
 use Rattle.table.proofs.one_row.Tie as tie
@@ -8,7 +8,8 @@ one-row-spec =
     tie.close
     (tie.spec
     (λ c κs. search needs)  -- kind-at-requires
-    (λ c κs. (search needs, search of-kind))  -- member-row-requires
+    (λ c κs. search needs)  -- is-member-requires
+    (λ c κs. (search needs, search of-member))  -- member-row-requires
     (λ c. search needs)  -- returns
     (λ c κs. (search needs, search of-kind))  -- sequence-row-requires
     (λ c. search needs)  -- returns-2

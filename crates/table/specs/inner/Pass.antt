@@ -9,7 +9,7 @@ use Rattle.octets.specs.Pick.{pick, both, no}
 use Rattle.octets.specs.Octets.{baseFrom}
 use Rattle.der.specs.Kind as kind
 use Rattle.rows.specs.Paper.{tableLimits}
-use Rattle.rows.specs.Row.{isList, namedAt, modeAt, presenceAt, defaultLengthAt, defaultAt}
+use Rattle.rows.specs.Row.{isMember, isList, namedAt, modeAt, presenceAt, defaultLengthAt, defaultAt}
 use Rattle.clauses.specs.Clauses.{defaultAllowed, chainFits}
 use Rattle.clauses.specs.inner.Work.{firstPass}
 use Rattle.types.specs.Types.{typeFrom}
@@ -62,7 +62,7 @@ memberSecond t p y = pick (eqb (presenceAt t p) 2) (baseFrom 0 (defaultAt t p)) 
 
 -- the kind of a row that names none and is no member
 pub record Basic (k : ℕ) : Type 0 where
-  pub member : k ≡ kind.member → ⊥
+  pub member : isMember k ≡ true → ⊥
   pub sequence : k ≡ kind.sequence → ⊥
   pub choice : k ≡ kind.choice → ⊥
   pub list : isList k ≡ false

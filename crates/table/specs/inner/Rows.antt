@@ -1,10 +1,10 @@
 -- What row i of a table describes, at document 01's limits: names for contracts.
 use Prim.Native.Nat.{ℕ}
 use mathlib.Core.Path.{_≡_}
+use mathlib.Core.Bool.{true}
 use mathlib.Core.List.{List}
-use Rattle.der.specs.Kind as kind
 use Rattle.rows.specs.Paper.{tableLimits}
-use Rattle.rows.specs.Row.{rows, rowAt, kindAt}
+use Rattle.rows.specs.Row.{rows, rowAt, kindAt, isMember}
 use Rattle.clauses.specs.Clauses.{typeKind}
 use Rattle.types.specs.Types.{Tagging, Member, Ty, Members}
 use Rattle.types.specs.inner.Rows.{rowType, rowMembers, rowMember, rowTagging, rowMemberType}
@@ -18,10 +18,10 @@ placeAt t i = rowAt (tableRows t) i
 
 -- row i is a member row, is none
 abbrev pub MemberRow : List ℕ → ℕ → Type 0
-MemberRow t i = kindAt t (placeAt t i) ≡ kind.member
+MemberRow t i = isMember (kindAt t (placeAt t i)) ≡ true
 
 abbrev pub TypeRow : List ℕ → ℕ → Type 0
-TypeRow t i = kindAt t (placeAt t i) ≡ kind.member → ⊥
+TypeRow t i = isMember (kindAt t (placeAt t i)) ≡ true → ⊥
 
 abbrev pub typeAt : List ℕ → ℕ → Ty
 typeAt t i = rowType t (tableRows t) i

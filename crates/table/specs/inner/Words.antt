@@ -11,7 +11,7 @@ use Rattle.octets.specs.Text.{within}
 use Rattle.der.specs.Kind as kind
 use Rattle.der.specs.Tag.{ownOctet, implicitOctet, wrapperOctet}
 use Rattle.rows.specs.Paper.{tableLimits}
-use Rattle.rows.specs.Row.{rowAt, kindAt, namesRow, namedAt, membersAt, modeAt, numberAt, presenceAt, defaultLengthAt, defaultAt, bitNumberAt, bitNamesAt}
+use Rattle.rows.specs.Row.{rowAt, kindAt, isMember, namesRow, namedAt, membersAt, modeAt, numberAt, presenceAt, defaultLengthAt, defaultAt, bitNumberAt, bitNamesAt}
 use Rattle.clauses.specs.Clauses.{memberPlace, typeKind}
 use Rattle.types.specs.Types.{Tagging, untagged, explicit, implicit, taggingOf}
 use Rattle.types.specs.inner.Work.{Sound}
@@ -38,18 +38,18 @@ TypeWord t p x = Packed x (kindAt t p) (firstOctet untagged (kindAt t p)) (membe
 
 abbrev pub MemberWord : List ℕ → ℕ → ℕ → ℕ → Type 0
 MemberWord t p k x =
-    Packed x kind.member (firstOctet (taggingOf (modeAt t p) (numberAt t p)) k) 0 (namedAt t p) k (how k (modeAt t p)) (presenceAt t p)
+    Packed x (kindAt t p) (firstOctet (taggingOf (modeAt t p) (numberAt t p)) k) 0 (namedAt t p) k (how k (modeAt t p)) (presenceAt t p)
     (length (defaultAt t p)) p
 
 -- x is the first word of row i
 pub record Shaped (t s : List ℕ) (i x : ℕ) : Type 0 where
-  pub of-type : (kindAt t (rowAt s i) ≡ kind.member → ⊥) → TypeWord t (rowAt s i) x
-  pub of-member : kindAt t (rowAt s i) ≡ kind.member → MemberWord t (rowAt s i) (typeKind t s i) x
+  pub of-type : (isMember (kindAt t (rowAt s i)) ≡ true → ⊥) → TypeWord t (rowAt s i) x
+  pub of-member : isMember (kindAt t (rowAt s i)) ≡ true → MemberWord t (rowAt s i) (typeKind t s i) x
 
 -- the second word of row i; m has the sets of tags of type rows
 unfoldable pub secondOf : List ℕ → List ℕ → List ℕ → ℕ → ℕ
 secondOf t s m i =
-    pick (eqb (kindAt t (rowAt s i)) kind.member)
+    pick (isMember (kindAt t (rowAt s i)))
     (pick (eqb (presenceAt t (rowAt s i)) 2) (baseFrom 0 (defaultAt t (rowAt s i))) (rowAt m (namedAt t (rowAt s i))))
     (rowAt m i)
 
@@ -62,13 +62,13 @@ pub record Filled (t s m w : List ℕ) (n : ℕ) : Type 0 where
 pub record Ready (chain : ℕ) (t s m : List ℕ) : Type 0 where
   pub sound : Sound chain t s m
   pub rooted : 0 < length s
-  pub root : kindAt t (rowAt s 0) ≡ kind.member → ⊥
+  pub root : isMember (kindAt t (rowAt s 0)) ≡ true → ⊥
   pub few : length s ≤ tableLimits .rows
   pub place : (i : ℕ) → i < length s → rowAt s i < 65536
-  pub number : (i : ℕ) → i < length s → kindAt t (rowAt s i) ≡ kind.member → numberAt t (rowAt s i) ≤ 30
-  pub size : (i : ℕ) → i < length s → kindAt t (rowAt s i) ≡ kind.member → defaultLengthAt t (rowAt s i) ≤ 8
+  pub number : (i : ℕ) → i < length s → isMember (kindAt t (rowAt s i)) ≡ true → numberAt t (rowAt s i) ≤ 30
+  pub size : (i : ℕ) → i < length s → isMember (kindAt t (rowAt s i)) ≡ true → defaultLengthAt t (rowAt s i) ≤ 8
   pub target : (i : ℕ) → i < length s → namesRow t (rowAt s i) ≡ true → namedAt t (rowAt s i) < length s
-  pub typed : (i : ℕ) → i < length s → namesRow t (rowAt s i) ≡ true → typeKind t s i ≡ kind.member → ⊥
+  pub typed : (i : ℕ) → i < length s → namesRow t (rowAt s i) ≡ true → isMember (typeKind t s i) ≡ true → ⊥
   pub bits : (i : ℕ) → i < length s → (j : ℕ) → j < bitNamesAt t (rowAt s i) → (i + 1 + j < length s) × (bitNumberAt t (memberPlace s i j) ≤ 63)
 
 -- w has the words of an admitted table's rows

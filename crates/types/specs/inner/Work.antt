@@ -7,8 +7,7 @@ use mathlib.Core.List.{List}
 use lib.Dec.{ltb, eqb}
 use lib.Bits.{bitAnd, bitOr}
 use Rattle.octets.specs.Pick.{pick, both}
-use Rattle.der.specs.Kind as kind
-use Rattle.rows.specs.Row.{kindAt, namedAt, presenceAt, modeAt, numberAt, rows, rowAt, membersAt}
+use Rattle.rows.specs.Row.{kindAt, namedAt, presenceAt, modeAt, numberAt, isMember, rows, rowAt, membersAt}
 use Rattle.clauses.specs.Clauses.{everyRow, pointsLater, memberPlace, alternativesMandatory, noImplicitChoice, defaultLegal, chainFits}
 use Rattle.clauses.specs.inner.Work.{Later}
 use Rattle.types.specs.Types.{membersFrom, typed, typeFrom}
@@ -68,8 +67,8 @@ pub record Sound (chain : ℕ) (t s m : List ℕ) : Type 0 where
   pub later : Later t s
   pub step : (i : ℕ) → i < length s → typeFrom chain t s i ≡ typed t s i (typeFrom chain t s (namedAt t (rowAt s i))) (membersFrom (typeFrom chain t s) t s (i + 1) (membersAt t (rowAt s i)))
   pub stands : (i : ℕ) → i < length s → (j : ℕ) → j < membersAt t (rowAt s i) → i + 1 + j < length s
-  pub members : (i : ℕ) → i < length s → (j : ℕ) → j < membersAt t (rowAt s i) → kindAt t (memberPlace s i j) ≡ kind.member
-  pub presence : (i : ℕ) → i < length s → kindAt t (rowAt s i) ≡ kind.member → presenceAt t (rowAt s i) ≤ 2
+  pub members : (i : ℕ) → i < length s → (j : ℕ) → j < membersAt t (rowAt s i) → isMember (kindAt t (memberPlace s i j)) ≡ true
+  pub presence : (i : ℕ) → i < length s → isMember (kindAt t (rowAt s i)) ≡ true → presenceAt t (rowAt s i) ≤ 2
   pub defaults : (i : ℕ) → i < length s → defaultLegal t s i ≡ true
   pub masked : Masked chain t s m
 

@@ -12,6 +12,6 @@ is-default-spec =
     (λ c. search needs)  -- sub-equals-default
     (λ c. search needs)  -- part-equals-default-start
     (λ c. search needs)  -- part-equals-default-end
-    (λ c κs. search needs)  -- equals-default-requires
+    (λ c κs. (search needs, (search needs, (search needs, search needs))))  -- equals-default-requires
     (λ c. search default-is)  -- returns
     (λ c. search default-none))  -- returns-2
