@@ -1,13 +1,13 @@
 -- The first pass: one lemma for each return and each turn of its loop; its premises are the facts as the code has them.
 use mathlib.Core.Path.{_≡_, refl, sym, ap, _∙_, subst}
-use mathlib.Core.Bool.{Bool, true, false, false≢true}
+use mathlib.Core.Bool.{Bool, true, false, not, false≢true}
 use mathlib.Core.Logic.{⊎-elim}
 use mathlib.Core.Option.{Option, none, some}
 use mathlib.Core.List.{List, [], _∷_, _++_, append-assoc, append-nil}
 use Prim.Native.Nat.{ℕ, zero, suc, _≤_, _<_, _+_, _-_, _*_}
 use native.Mathlib.Omega.{arith}
 use native.Mathlib.Nat.{eq-or-lt-of-le}
-use borrow.Author.Tests.{eq-eqb, ne-eqb, eqb-true, eqb-false, lt-ltb, le-ltb, ltb-true, ltb-false}
+use borrow.Author.Tests.{not-true, not-false, eq-eqb, ne-eqb, eqb-true, eqb-false, lt-ltb, le-ltb, ltb-true, ltb-false}
 use lib.Dec.{ltb, eqb}
 use lib.ListN.{length, getD, set, drop, length-set, length-append, length-drop, List·getD-append}
 use lib.Seq.{getD-set-same, getD-set-other, getD-at, getD-drop}
@@ -138,8 +138,8 @@ module _ (t w : List ℕ) (at n k due first : ℕ) (inv : Passing t w at n k due
   some-due : (due ≡ 0 → ⊥) → 0 < due
   some-due e = omega arith
 
-  pub due-kind : (kind : ℕ) → kind ≡ standsAs (octet t at) → kind ≡ k → (due ≡ 0 → ⊥) → isFollower (octet t at) ≡ true
-  due-kind kind told same e = stands-follower (octet t at) k (sym told ∙ same) (inv .follows (some-due e))
+  pub due-kind : (stood : Bool) → stood ≡ eqb (standsAs (octet t at)) k → not stood ≡ false → (due ≡ 0 → ⊥) → isFollower (octet t at) ≡ true
+  due-kind stood told same e = stands-follower (octet t at) k (eqb-true _ _ (sym told ∙ not-false stood same)) (inv .follows (some-due e))
 
   pub set-space : length (set w (2 * n) at) ≡ 256
   set-space = length-set w (2 * n) at ∙ inv .space
@@ -272,9 +272,9 @@ module _ (t w : List ℕ) (at n k due first : ℕ) (inv : Passing t w at n k due
           (λ e. fail (ap (goes t k due before) (uncut z e) ∙ goes-not t k due before at (f z e) (rest size-at))))
 
       -- a row of another kind than the one that is due, and one that follows another where none is due
-      pub pass-missing : (kind : ℕ) → kind ≡ standsAs (octet t at) → (due ≡ 0 → ⊥) → (kind ≡ k → ⊥) → Fails t
+      pub pass-missing : (stood : Bool) → stood ≡ eqb (standsAs (octet t at)) k → (due ≡ 0 → ⊥) → not stood ≡ true → Fails t
       unfolding passes
-      pass-missing kind told d e = row-fails (λ z l ps. rw (ne-eqb due 0 d, ← told, ne-eqb kind k e))
+      pass-missing stood told d e = row-fails (λ z l ps. rw (ne-eqb due 0 d, sym told ∙ not-true stood e))
 
       extra : due ≡ 0 → isFollower (kindAt t at) ≡ true → Fails t
       unfolding passes
@@ -314,13 +314,13 @@ module _ (t w : List ℕ) (at n k due first : ℕ) (inv : Passing t w at n k due
               (λ ps. on some ps ∙ ap (λ (x : Bool). both x (passes t k' due' gs' ps)) (is-good e)))
 
       -- ---- a row that follows another
-      module _ (kind size : ℕ) (stood : kind ≡ standsAs (octet t at)) (same : kind ≡ k) (d : due ≡ 0 → ⊥)
+      module _ (stood : Bool) (size : ℕ) (told-kind : stood ≡ eqb (standsAs (octet t at)) k) (same : not stood ≡ false) (d : due ≡ 0 → ⊥)
           (told : size ≡ followerSize t (set w (2 * n) at) first n at) where
         abbrev new : Bool
         new = newAfter t k before at
 
         stands : standsAs (kindAt t at) ≡ k
-        stands = sym stood ∙ same
+        stands = eqb-true _ _ (sym told-kind ∙ not-false stood same)
 
         follower-sized : size ≡ sizeIf t at (both (formed t at) new)
         unfolding followerSize
@@ -339,7 +339,7 @@ module _ (t w : List ℕ) (at n k due first : ℕ) (inv : Passing t w at n k due
         pass-misfit e = unsized size (both (formed t at) new) follower-sized k (due - 1) first (before ++ (at ∷ [])) (λ s ps. follower-on ps) e
 
         here-whole : (size ≡ 0 → ⊥) → WholeFollower t at
-        here-whole e = whole-follower t at (due-kind kind stood same d) (is-inside size (both (formed t at) new) follower-sized e)
+        here-whole e = whole-follower t at (due-kind stood told-kind same d) (is-inside size (both (formed t at) new) follower-sized e)
 
         all-whole : (size ≡ 0 → ⊥) → (i : ℕ) → first ≤ i → i < n + 1 → WholeFollower t (rowAt (inv .found ++ (at ∷ [])) i)
         all-whole e i l h = ⊎-elim (λ (q : i ≡ n). last q) (λ g. earlier g) (eq-or-lt-of-le (omega arith))

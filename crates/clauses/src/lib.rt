@@ -21,12 +21,12 @@ fn new_name(t: &[u8], w: &[u64; 256], first: usize, n: usize, p: usize) -> bool
     requires here { ⌜ WholeFollower (now t) p ⌝ }
     ensures { λ r. ⌜ r ≡ work.newNameAt (now (t .entry)) (now (w .entry)) first n p ⌝ }
 {
-    let mut i = first;
-    while i < n {
-        if rows::same_name(t, w[2 * i] as usize, p) {
+    let mut k = 2 * first;
+    while k < 2 * n {
+        if rows::same_name(t, w[k] as usize, p) {
             return false;
         }
-        i += 1;
+        k += 2;
     }
     true
 }
@@ -40,12 +40,12 @@ fn new_number(t: &[u8], w: &[u64; 256], first: usize, n: usize, p: usize) -> boo
     ensures { λ r. ⌜ r ≡ work.newNumberAt (now (t .entry)) (now (w .entry)) first n p ⌝ }
 {
     let number = t[p + 25];
-    let mut i = first;
-    while i < n {
-        if t[w[2 * i] as usize + 25] == number {
+    let mut k = 2 * first;
+    while k < 2 * n {
+        if t[w[k] as usize + 25] == number {
             return false;
         }
-        i += 1;
+        k += 2;
     }
     true
 }
@@ -60,18 +60,14 @@ fn follower_size(t: &[u8], w: &[u64; 256], first: usize, n: usize, p: usize) -> 
     ensures size { λ r. ⌜ r ≡ work.followerSize (now (t .entry)) (now (w .entry)) first n p ⌝ }
     ensures inside { λ r. ⌜ p + r ≤ length (now (t .entry)) ⌝ }
 {
-    let kind = t[p];
-    let size = rows::follower_size(kind);
-    if t.len() - p < size {
-        return 0;
-    }
-    if !rows::follower_formed(t, p) {
+    let size = rows::follower_size(t, p);
+    if size == 0 {
         return 0;
     }
     if !new_name(t, w, first, n, p) {
         return 0;
     }
-    if kind == Kind::NAMED_BIT {
+    if t[p] == Kind::NAMED_BIT {
         if !new_number(t, w, first, n, p) {
             return 0;
         }
@@ -102,7 +98,7 @@ pub fn scan(t: &[u8], w: &mut [u64; 256]) -> usize
         w[2 * n] = at as u64;
         let kind = t[at];
         if due != 0 {
-            if rows::stands_as(kind) != follower {
+            if !rows::stands_as(kind, follower) {
                 return 0;
             }
             let size = follower_size(t, w, first, n, at);

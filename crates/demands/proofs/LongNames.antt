@@ -1,12 +1,11 @@
 -- Document 02, Q-4: a table admitted before kind 21 reads as it did, so every answer is what it was; each member has one form.
 use mathlib.Core.Path.{_≡_, refl, sym, ap, ap₂, _∙_, subst}
 use mathlib.Core.Bool.{Bool, true, false, false≢true}
-use mathlib.Core.Logic.{⊎-elim}
 use mathlib.Core.Option.{Option, none, some, Option·none-ne-some}
 use mathlib.Core.List.{List, [], _∷_}
 use Prim.Native.Nat.{ℕ, zero, suc, _≤_, _<_, _+_, _-_}
 use native.Mathlib.Omega.{arith}
-use borrow.Author.Tests.{eq-eqb, ne-eqb, eqb-true, eqb-false, leb-true, le-leb, ltb-true, ltb-false}
+use borrow.Author.Tests.{ne-eqb, eqb-false, leb-true, le-leb, ltb-true, ltb-false}
 use lib.Dec.{ltb, leb, eqb}
 use lib.ListN.{length}
 use Rattle.octets.specs.Pick.{pick, both, either, consed}
@@ -15,9 +14,8 @@ use Rattle.octets.specs.Text.{within}
 use Rattle.octets.proofs.Laws.{both-true, octet-past}
 use Rattle.rows.specs.Limits.{tableFits}
 use Rattle.rows.specs.Paper.{tableLimits}
-use Rattle.rows.specs.Row.{kindAt, nameWidth, nameAt, unfilled, behindName, isMember, isList, elementAt, typeRowAt, rowNamed, namedAt, rowSize, rowsFrom}
+use Rattle.rows.specs.Row.{kindAt, nameWidth, nameAt, unfilled, behindName, isMember, isList, elementAt, rowNamed, namedAt, rowSize, rowsFrom}
 use Rattle.rows.specs.Row.{orZero, orNone, rows, rowAt, membersAt, bitNamesAt, bitNumberAt}
-use Rattle.rows.proofs.KindLaws.{member-kind}
 use Rattle.clauses.specs.Clauses.{wholeRows}
 use Rattle.types.specs.Types.{Member, memberOf, NamedBit, Ty, Members, more, membersFrom, bitsFrom, typed, typeFrom, typeAt}
 use Rattle.types.specs.Admitted.{admitted}
@@ -63,7 +61,8 @@ module _ (t : List ℕ) (p : ℕ) (old : kindAt t p ≡ 21 → ⊥) where
   unfolding namedAt rowNamed namedBefore isMember
   named-same = rw (ne-eqb (kindAt t p) 21 old, behind) (go (isList (kindAt t p)) (eqb (kindAt t p) 16))
     where
-      go : (x y : Bool) → orZero (pick x (some (elementAt t p)) (pick (either y false) (some (two t (p + 25))) none)) ≡ pick x (elementAt t p) (pick y (two t (p + 25)) 0)
+      go : (x y : Bool) → orZero (pick x (some (elementAt t p)) (pick (either y false) (some (two t (p + 25))) none))
+          ≡ pick x (elementAt t p) (pick y (two t (p + 25)) 0)
       go true y = refl
       go false true = refl
       go false false = refl
@@ -176,8 +175,12 @@ module _ (t : List ℕ) where
     types-same zero i = refl
     types-same (suc n) i =
         let p = rowAt (rowsBefore t) i in
-        rw (members-same (typeFrom n t (rowsBefore t)) (typeFromBefore n t (rowsBefore t)) (types-same n) (i + 1) (membersAt t p),
-          types-same n (namedAt t p), named-same t p (old-at i), bits-same (i + 1) (bitNamesAt t p))
+        rw (
+          members-same (typeFrom n t (rowsBefore t)) (typeFromBefore n t (rowsBefore t)) (types-same n) (i + 1) (membersAt t p),
+          types-same n (namedAt t p),
+          named-same t p (old-at i),
+          bits-same (i + 1) (bitNamesAt t p),
+        )
 
     pub type-same : (i : ℕ) → typeAt tableLimits t i ≡ typeBefore t i
     unfolding typeAt typeBefore

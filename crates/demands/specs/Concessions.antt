@@ -1,6 +1,5 @@
 -- Document 02, Q-4: "educationalConcessionCategory", put to the entries.
 use mathlib.Core.Path.{_≡_, refl}
-use mathlib.Core.Bool.{true}
 use mathlib.Core.List.{List, [], _∷_, _++_, map}
 use Prim.Native.Nat.{ℕ}
 use Prim.Native.String.{String}
@@ -9,7 +8,7 @@ use Rattle.types.specs.Paper.{memberRow, longRow}
 use Rattle.rules.specs.Rule.{knownRules}
 use Rattle.engine.specs.Paper.{limits}
 use Rattle.evaluation.specs.Truth.{TRUE, FALSE, UNDEFINED}
-use Rattle.engine.specs.Answer.{Report, answers, refused, askReport}
+use Rattle.engine.specs.Answer.{Report, answers, askReport}
 use Rattle.engine.specs.Computing.{engineComputes}
 use Rattle.demands.specs.Licence.{put}
 use Rattle.demands.specs.Shown.{shownTable, shownValue}

@@ -1,5 +1,5 @@
 -- Names: one lemma for each return and each turn of a loop; its premises are the facts as the code has them.
-use mathlib.Core.Path.{_≡_, refl, sym, ap₂, _∙_}
+use mathlib.Core.Path.{_≡_, refl, sym, ap, ap₂, _∙_}
 use mathlib.Core.Bool.{Bool, true, false}
 use mathlib.Core.List.{List, [], _∷_}
 use Prim.Native.Nat.{ℕ, _≤_, _<_, _+_, _-_}
@@ -13,33 +13,23 @@ use Rattle.octets.specs.Octets.{octet, same}
 use Rattle.octets.proofs.Laws.{rest-cons, rest-none}
 use Rattle.octets.proofs.TextLaws.{same-nil, same-shorter, same-longer, same-cons}
 use Rattle.octets.proofs.Steps.{same-lengths}
-use Rattle.rows.specs.Row.{unfilled}
+use Rattle.rows.specs.Row.{kindAt, nameAt, unfilled}
+use Rattle.rows.proofs.KindLaws.{wide-name}
+use Rattle.rows.proofs.NameSteps.{unfilled-first, unfilled-next, unfilled-within, name-octet}
 
 -- ---- a name without its fill
-unfilled-fill : (b : ℕ) (s : List ℕ) → b ≡ 0 → unfilled (b ∷ s) ≡ []
-unfolding unfilled
-unfilled-fill b s e = rw (eq-eqb b 0 e)
-
-unfilled-letter : (b : ℕ) (s : List ℕ) → (b ≡ 0 → ⊥) → unfilled (b ∷ s) ≡ b ∷ unfilled s
-unfolding unfilled
-unfilled-letter b s e = rw (ne-eqb b 0 e)
-
 unfilled-none : unfilled [] ≡ []
 unfolding unfilled
 unfilled-none = refl
 
--- it is no longer than the field, and at its end the field has its fill or its end
-record Ends (s : List ℕ) : Type 0 where
-  within : length (unfilled s) ≤ length s
-  fill : octet s (length (unfilled s)) ≡ 0
-
-ends : (s : List ℕ) → Ends s
-ends [] = record { within = rw unfilled-none (omega arith); fill = refl }
-ends (b ∷ s) = go (eqb b 0) refl (ends s)
+-- at its end the field has its fill or its end
+filled-end : (s : List ℕ) → octet s (length (unfilled s)) ≡ 0
+filled-end [] = refl
+filled-end (b ∷ s) = go (eqb b 0) refl (filled-end s)
   where
-    go : (u : Bool) → eqb b 0 ≡ u → Ends s → Ends (b ∷ s)
-    go true q r = let e = eqb-true b 0 q in let n = unfilled-fill b s e in record { within = rw n (omega arith); fill = rw n e }
-    go false q r = let n = unfilled-letter b s (eqb-false b 0 q) in record { within = rw n (omega arith); fill = rw n (r .fill) }
+    go : (u : Bool) → eqb b 0 ≡ u → octet s (length (unfilled s)) ≡ 0 → octet (b ∷ s) (length (unfilled (b ∷ s))) ≡ 0
+    go true q r = let e = eqb-true b 0 q in rw (unfilled-first b s e) e
+    go false q r = rw (unfilled-next b s (eqb-false b 0 q)) r
 
 -- ---- a name's field, and octets
 -- the field and the octets differ at their first places
@@ -47,31 +37,31 @@ first-other : (f b : ℕ) (l x : List ℕ) → (f ≡ b → ⊥) → same (unfil
 first-other f b l x n = go (eqb f 0) refl
   where
     go : (u : Bool) → eqb f 0 ≡ u → same (unfilled (f ∷ l)) (b ∷ x) ≡ false
-    go true q = rw (unfilled-fill f l (eqb-true f 0 q)) (same-shorter b x)
-    go false q = rw (unfilled-letter f l (eqb-false f 0 q), same-cons f b (unfilled l) x, ne-eqb f b n)
+    go true q = rw (unfilled-first f l (eqb-true f 0 q)) (same-shorter b x)
+    go false q = rw (unfilled-next f l (eqb-false f 0 q), same-cons f b (unfilled l) x, ne-eqb f b n)
 
 first-fill : (f b : ℕ) (l x : List ℕ) → f ≡ b → b ≡ 0 → same (unfilled (f ∷ l)) (b ∷ x) ≡ false
-first-fill f b l x e z = rw (unfilled-fill f l (e ∙ z)) (same-shorter b x)
+first-fill f b l x e z = rw (unfilled-first f l (e ∙ z)) (same-shorter b x)
 
 first-same : (f b : ℕ) (l x : List ℕ) → f ≡ b → (b ≡ 0 → ⊥) → same (unfilled (f ∷ l)) (b ∷ x) ≡ same (unfilled l) x
-first-same f b l x e n = rw (unfilled-letter f l (λ z. n (sym e ∙ z)), same-cons f b (unfilled l) x, eq-eqb f b e)
+first-same f b l x e n = rw (unfilled-next f l (λ z. n (sym e ∙ z)), same-cons f b (unfilled l) x, eq-eqb f b e)
 
 named-empty : (l : List ℕ) → octet l 0 ≡ 0 → same (unfilled l) [] ≡ true
 named-empty [] z = rw unfilled-none same-nil
-named-empty (f ∷ l) z = rw (unfilled-fill f l z) same-nil
+named-empty (f ∷ l) z = rw (unfilled-first f l z) same-nil
 
 named-first : (l x : List ℕ) → (octet l 0 ≡ octet x 0 → ⊥) → false ≡ same (unfilled l) x
 named-first [] [] n = absurd (n refl)
 named-first [] (b ∷ x) n = sym (rw unfilled-none (same-shorter b x))
-named-first (f ∷ l) [] n = sym (rw (unfilled-letter f l n) (same-longer f (unfilled l)))
+named-first (f ∷ l) [] n = sym (rw (unfilled-next f l n) (same-longer f (unfilled l)))
 named-first (f ∷ l) (b ∷ x) n = sym (first-other f b l x n)
 
 pub name-short : (l x : List ℕ) → length l < length x → false ≡ same (unfilled l) x
-name-short l x h = same-lengths (unfilled l) x (λ e. omega (arith, ends l .within))
+name-short l x h = same-lengths (unfilled l) x (λ e. omega (arith, unfilled-within l))
 
 -- o is the octet after as many as x has
 pub name-longer : (l x : List ℕ) (o : ℕ) → o ≡ octet l (length x) → (o ≡ 0 → ⊥) → false ≡ same (unfilled l) x
-name-longer l x o read n = same-lengths (unfilled l) x (λ e. n (read ∙ (rw e at (ends l .fill))))
+name-longer l x o read n = same-lengths (unfilled l) x (λ e. n (read ∙ (rw e at (filled-end l))))
 
 module _ (l x : List ℕ) (i : ℕ) (inv : same (unfilled (drop i l)) (drop i x) ≡ same (unfilled l) x) where
   pub name-done : (o : ℕ) → o ≡ octet l (length x) → o ≡ 0 → i ≤ length x → length x ≤ i → true ≡ same (unfilled l) x
@@ -93,10 +83,12 @@ module _ (l x : List ℕ) (i : ℕ) (inv : same (unfilled (drop i l)) (drop i x)
     pub name-on : octet l i ≡ octet x i → (octet x i ≡ 0 → ⊥) → same (unfilled (drop (i + 1) l)) (drop (i + 1) x) ≡ same (unfilled l) x
     name-on e n = sym (first-same _ _ _ _ e n) ∙ heads
 
--- ---- the name of a member row: l is its field, x the octets that the code found
-module _ (l x y z : List ℕ) (field : l ≡ y) (octets : x ≡ z) where
-  pub named-other : (a b : ℕ) → a ≡ octet l 0 → b ≡ octet x 0 → (a ≡ b → ⊥) → false ≡ same (unfilled y) z
-  named-other a b e f n = named-first l x (λ q. n (e ∙ q ∙ sym f)) ∙ ap₂ (λ (v w : List ℕ). same (unfilled v) w) field octets
+-- ---- the name of a member row: x and l are the octets and the field that the code found
+pub named-other : (t x z : List ℕ) (p a b : ℕ) → x ≡ z → a ≡ octet t (p + 1) → b ≡ octet x 0 → (a ≡ b → ⊥) → false ≡ same (unfilled (nameAt t p)) z
+named-other t x z p a b octets e f n =
+    let w = wide-name (kindAt t p) in
+    let first : octet (nameAt t p) 0 ≡ octet t (p + 1) = name-octet t p 0 (omega arith) in
+    named-first (nameAt t p) x (λ q. n (e ∙ sym first ∙ q ∙ sym f)) ∙ ap (same (unfilled (nameAt t p))) octets
 
-  pub named-is : (u : Bool) → u ≡ same (unfilled l) x → u ≡ same (unfilled y) z
-  named-is u e = e ∙ ap₂ (λ (v w : List ℕ). same (unfilled v) w) field octets
+pub named-is : (l x y z : List ℕ) (u : Bool) → l ≡ y → x ≡ z → u ≡ same (unfilled l) x → u ≡ same (unfilled y) z
+named-is l x y z u field octets e = e ∙ ap₂ (λ (v w : List ℕ). same (unfilled v) w) field octets

@@ -203,10 +203,9 @@ fn has_name(field: &[u8], x: &[u8]) -> bool
 pub fn is_named(t: &[u8], p: usize, r: &[u8], a: usize, b: usize) -> bool
     ensures { λ u. ⌜ u ≡ same (unfilled (nameAt (now (t .entry)) p)) (between (now (r .entry)) a b) ⌝ }
 {
-    let field = rows::name_at(t, p);
     let x = octets::between(r, a, b);
-    if octets::octet(field, 0) != octets::octet(x, 0) {
+    if rows::name_start(t, p) != octets::octet(x, 0) {
         return false;
     }
-    has_name(field, x)
+    has_name(rows::name_at(t, p), x)
 }

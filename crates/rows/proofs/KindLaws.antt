@@ -11,8 +11,8 @@ use lib.ListN.{length}
 use Rattle.octets.specs.Pick.{pick, either}
 use Rattle.octets.specs.Text.{within}
 use Rattle.octets.proofs.Laws.{both-true}
-use Rattle.rows.specs.Row.{kindAt, countAt, nameWidth, behindName, elementAt, typeRowAt, isTypeKind, isMember, isGroup, isList, rowNamed, namesRow, namedAt}
-use Rattle.rows.specs.Row.{rowSize, membersAt, bitNamesAt, followerKind, followersAt, standsAs, isFollower}
+use Rattle.rows.specs.Row.{kindAt, countAt, nameWidth, behindName, elementAt, typeRowAt, isTypeKind, isMember, isGroup, isList, rowNamed, namesRow}
+use Rattle.rows.specs.Row.{namedAt, rowSize, membersAt, bitNamesAt, followerKind, followersAt, standsAs, isFollower}
 use Rattle.rows.specs.inner.Sizes.{typeRowSize, WholeName, WholeFollower}
 
 pub list-kinds : (k : ℕ) → isList k ≡ either (eqb k 14) (eqb k 15)
@@ -129,7 +129,8 @@ type-row-size k e = go (isMember k) (eqb k 18) e
   where
     go : (x y : Bool) → either x y ≡ false
         → _≡_ {A = ℕ} (pick (within 1 11 k) 1 (pick (isGroup k) 2 (pick (isList k) 3 (pick (eqb k 17) 2 (pick (within 19 20 k) 1 0)))))
-        (pick (within 1 11 k) 1 (pick (isGroup k) 2 (pick (isList k) 3 (pick x (nameWidth k + 15) (pick (eqb k 17) 2 (pick y 26 (pick (within 19 20 k) 1 0)))))))
+        (pick (within 1 11 k) 1 (pick (isGroup k) 2 (pick (isList k) 3 (pick x (nameWidth k + 15)
+        (pick (eqb k 17) 2 (pick y 26 (pick (within 19 20 k) 1 0)))))))
     go true y h = absurd (false≢true (sym h))
     go false true h = absurd (false≢true (sym h))
     go false false h = refl

@@ -3,3 +3,4 @@ pub mod Laws
 pub mod KindLaws
 pub mod NumberSteps
 pub mod NameSteps
+pub mod FollowerSteps

@@ -4,12 +4,11 @@ use mathlib.Core.Bool.{Bool, true, false, not}
 use mathlib.Core.List.{List, [], _∷_, _++_}
 use Prim.Native.Nat.{ℕ, zero, suc, _≤_, _<_, _+_, _-_}
 use native.Mathlib.Omega.{arith}
-use native.Mathlib.Nat.{sub-self}
 use borrow.Author.Tests.{not-true, not-false, eq-eqb, ne-eqb, eqb-true, eqb-false, le-leb, lt-leb}
-use lib.Dec.{leb, eqb}
+use lib.Dec.{eqb}
 use lib.ListN.{length, take, drop, length-take}
 use lib.Seq.{take-add, drop-drop}
-use Rattle.octets.specs.Pick.{pick, both, all}
+use Rattle.octets.specs.Pick.{both, all}
 use Rattle.octets.specs.Octets.{octet, part, same}
 use Rattle.octets.specs.Text.{within, isLower, mayBeLast}
 use Rattle.octets.proofs.Laws.{both-true}
@@ -73,8 +72,9 @@ name-octet t p j h = let place : p + 1 + j ≡ p + (1 + j) = omega arith in part
 pub name-chain : (t : List ℕ) (p : ℕ) → nameFormed t p ≡ true → all (followed t p) (nameWidth (kindAt t p) - 1) ≡ true
 unfolding nameFormed
 name-chain t p e =
-    let w = both-true (isLower (nameOctetAt t p 0)) (both (mayBeLast (nameOctetAt t p (nameWidth (kindAt t p) - 1))) (all (followed t p) (nameWidth (kindAt t p) - 1))) e in
-    both-true (mayBeLast (nameOctetAt t p (nameWidth (kindAt t p) - 1))) (all (followed t p) (nameWidth (kindAt t p) - 1)) (w .1) .1
+    let n = nameWidth (kindAt t p) - 1 in
+    let w = both-true (isLower (nameOctetAt t p 0)) (both (mayBeLast (nameOctetAt t p n)) (all (followed t p) n)) e in
+    both-true (mayBeLast (nameOctetAt t p n)) (all (followed t p) n) (w .1) .1
 
 module _ (t : List ℕ) (p : ℕ) where
   pub length-short : (octet t p ≡ 21 → ⊥) → true ≡ lengthFormed t p
@@ -166,9 +166,6 @@ same-some (b ∷ x) h = same-longer b x
 
 pub long-inside : (t : List ℕ) (p : ℕ) → WholeName t p → octet t p ≡ 21 → p + 25 + 24 ≤ length t
 long-inside t p w e = let l = w .inside in let n = width-long (octet t p) e in omega arith
-
-pub long-octet : (t : List ℕ) (p : ℕ) → WholeName t p → octet t p ≡ 21 → p + 25 < length t
-long-octet t p w e = let l = long-inside t p w e in omega arith
 
 module _ (t : List ℕ) (p q : ℕ) (one : WholeName t p) (other : WholeName t q) (a : Bool) (first : a ≡ same (part t (p + 1) 24) (part t (q + 1) 24)) where
   -- what is left of the field of the row at p behind 24 octets

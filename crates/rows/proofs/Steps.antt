@@ -1,27 +1,24 @@
 -- One lemma for each return and each turn of a loop; its premises are the facts as the code has them.
 use mathlib.Core.Path.{_≡_, refl, sym, ap, ap₂, _∙_}
-use mathlib.Core.Bool.{Bool, true, false, not, true≢false}
-use mathlib.Core.Logic.{⊎-elim}
+use mathlib.Core.Bool.{Bool, true, false, not}
 use mathlib.Core.List.{List}
 use Prim.Native.Nat.{ℕ, zero, suc, _≤_, _<_, _+_, _-_, _*_}
 use native.Mathlib.Omega.{arith}
 use native.Mathlib.Nat.{add-zero}
-use borrow.Author.Tests.{not-true, not-false, eq-eqb, ne-eqb, eqb-true, leb-true, lt-ltb, le-ltb, lt-leb, le-leb, ltb-true, ltb-false}
+use borrow.Author.Tests.{not-true, not-false, eq-eqb, ne-eqb, eqb-true, eqb-false, leb-true, lt-ltb, le-ltb, lt-leb, le-leb, ltb-true, ltb-false}
 use lib.Dec.{ltb, leb, eqb}
 use lib.ListN.{length, take, drop, length-take}
 use lib.Seq.{take-nil, getD-take, getD-drop, drop-drop}
-use Rattle.octets.specs.Pick.{no, all}
+use Rattle.octets.specs.Pick.{pick, no, all}
 use Rattle.octets.specs.Octets.{octet, two, part, every}
 use Rattle.octets.specs.Text.{within, isLower, isLetter, isAlnum, mayFollow}
 use Rattle.octets.proofs.Laws.{octet-past, rest-none, part-rest, both-true, all-at, all-is, all-more, all-bad, all-done}
 use Rattle.octets.proofs.TextLaws.{every-is, every-at}
-use Rattle.rows.specs.Row.{kindAt, nameWidth, nameAt, nameOctetAt, behindName, presenceAt, defaultLengthAt, defaultAt, isTypeKind, isMember, isGroup, isList}
-use Rattle.rows.specs.Row.{namedAt, rowSize, membersAt, bitNamesAt, followerKind, followersAt, standsAs, isFollower}
-use Rattle.rows.specs.Body.{countFormed, follows, followed, nameFormed, taggingFormed, tagFormed, presenceFormed, isZero, defaultFilled, memberFormed}
-use Rattle.rows.specs.Body.{lengthFormed, bitFormed, rowFormed}
-use Rattle.rows.specs.inner.Sizes.{typeRowSize, typeSize, fieldsFormed, WholeFollower, WholeMember}
-use Rattle.rows.specs.Paper.{tableLimits}
-use Rattle.rows.proofs.KindLaws.{list-named, member-named, member-kind, member-or-bit, wide-name, follower-member}
+use Rattle.rows.specs.Row.{kindAt, nameWidth, nameAt, nameOctetAt, behindName, presenceAt, defaultLengthAt, defaultAt, isTypeKind, isGroup}
+use Rattle.rows.specs.Row.{isMember, isList, namedAt, rowSize, membersAt, bitNamesAt, followerKind, followersAt, standsAs}
+use Rattle.rows.specs.Body.{countFormed, follows, followed, taggingFormed, tagFormed, presenceFormed, isZero, defaultFilled}
+use Rattle.rows.specs.inner.Sizes.{typeRowSize, typeSize, nameBegun, fieldsFormed, WholeMember}
+use Rattle.rows.proofs.KindLaws.{list-named, member-named}
 
 -- ---- reading
 pub from-past : (t : List ℕ) (p k : ℕ) → length t ≤ p → take k (drop (length t) t) ≡ drop p t
@@ -223,7 +220,7 @@ pub follows-fill : (a b : ℕ) → a ≡ 0 → eqb b 0 ≡ follows a b
 unfolding follows
 follows-fill a b e = rw (eq-eqb a 0 e)
 
-same-truth : (a b : Bool) → (a ≡ true → b ≡ true) → (b ≡ true → a ≡ true) → a ≡ b
+pub same-truth : (a b : Bool) → (a ≡ true → b ≡ true) → (b ≡ true → a ≡ true) → a ≡ b
 same-truth true b f g = sym (f refl)
 same-truth false true f g = g refl
 same-truth false false f g = refl
@@ -282,8 +279,11 @@ module _ (t : List ℕ) (p n j : ℕ) (before : all (followed t p) (j + 1) ≡ t
 pub next-octet : (t : List ℕ) (p j : ℕ) → octet t (p + (j + 2)) ≡ nameOctetAt t p (j + 1)
 next-octet t p j = let place : p + (j + 2) ≡ p + (1 + (j + 1)) = omega arith in ap (octet t) place
 
-pub some-octet : (b : ℕ) → (b ≡ 0 → ⊥) → 0 < b
-some-octet b h = omega arith
+this-octet : (t : List ℕ) (p j : ℕ) → octet t (p + (j + 1)) ≡ nameOctetAt t p j
+this-octet t p j = let place : p + (j + 1) ≡ p + (1 + j) = omega arith in ap (octet t) place
+
+pub some-octet : (t : List ℕ) (p j : ℕ) → (octet t (p + (j + 2)) ≡ 0 → ⊥) → 0 < nameOctetAt t p (j + 1)
+some-octet t p j h = let e = next-octet t p j in omega arith
 
 -- a lowercase letter may follow any octet of a name
 module _ (b : ℕ) (r : Bool) (told : r ≡ isLower b) (low : r ≡ true) where
@@ -298,84 +298,51 @@ module _ (b : ℕ) (r : Bool) (told : r ≡ isLower b) (low : r ≡ true) where
       let y : b ≡ 0 → ⊥ = λ z. (let l = lower-some in omega arith) in
       rw (ne-eqb a 0 x, ne-eqb b 0 y, sym told ∙ low)
 
-  pub named-lower : (t : List ℕ) (p j a : ℕ) → b ≡ octet t (p + (j + 2)) → 0 < a → a ≡ nameOctetAt t p j → all (followed t p) j ≡ true → all (followed t p) (j + 1) ≡ true
-  unfolding followed
-  named-lower t p j a read h last before =
-      all-more (followed t p) j true (sym (lower-follows a h) ∙ ap₂ follows last (read ∙ next-octet t p j)) before refl
+  module _ (t : List ℕ) (p j : ℕ) (read : b ≡ octet t (p + (j + 2))) where
+    pub lower-next : 0 < nameOctetAt t p (j + 1)
+    lower-next = let l = lower-some in let e : b ≡ nameOctetAt t p (j + 1) = read ∙ next-octet t p j in omega arith
 
-module _ (t : List ℕ) (p j a b : ℕ) (u : Bool) (last : a ≡ nameOctetAt t p j) (read : b ≡ octet t (p + (j + 2))) (told : u ≡ follows a b) where
-  pub named-next : b ≡ nameOctetAt t p (j + 1)
+    pub named-lower : 0 < nameOctetAt t p j → all (followed t p) j ≡ true → all (followed t p) (j + 1) ≡ true
+    unfolding followed
+    named-lower h before =
+        all-more (followed t p) j true (sym (lower-follows (nameOctetAt t p j) h) ∙ ap (follows (nameOctetAt t p j)) (read ∙ next-octet t p j)) before refl
+
+module _ (t : List ℕ) (p j a b : ℕ) (u : Bool) (last : a ≡ octet t (p + (j + 1))) (read : b ≡ octet t (p + (j + 2))) (told : u ≡ follows a b) where
+  named-next : b ≡ nameOctetAt t p (j + 1)
   named-next = read ∙ next-octet t p j
 
   pair : u ≡ followed t p j
   unfolding followed
-  pair = told ∙ ap₂ follows last named-next
+  pair = told ∙ ap₂ follows (last ∙ this-octet t p j) named-next
 
-  pub named-bad : (w : ℕ) → w ≡ nameWidth (octet t p) → j < w - 1 → not u ≡ true → false ≡ all (followed t p) (nameWidth (octet t p) - 1)
-  named-bad w e h n = all-bad (followed t p) j u pair (nameWidth (octet t p) - 1) (rw e at h) n
+  pub named-bad : (n : ℕ) → j < n → not u ≡ true → false ≡ all (followed t p) n
+  named-bad n h e = all-bad (followed t p) j u pair n h e
 
   module _ (before : all (followed t p) j ≡ true) (n : not u ≡ false) where
     pub named-more : all (followed t p) (j + 1) ≡ true
     named-more = all-more (followed t p) j u pair before n
 
-    pub named-fill : (r : Bool) → b ≡ 0 → r ≡ every isZero (part t (p + 1 + (j + 1)) (nameWidth (octet t p) - (j + 1)))
-        → r ≡ all (followed t p) (nameWidth (octet t p) - 1)
+    pub named-fill : (r : Bool) → b ≡ 0 → r ≡ every isZero (part t (p + 1 + (j + 1)) (24 - (j + 1))) → r ≡ all (followed t p) 23
     named-fill r z q =
         let place : p + 1 + (j + 1) ≡ p + (j + 2) = omega arith in
-        let left : nameWidth (octet t p) - (j + 1) ≡ nameWidth (octet t p) - 1 - j = omega arith in
-        q ∙ ap₂ (λ (x y : ℕ). every isZero (part t x y)) place left ∙ fill-is t p (nameWidth (octet t p) - 1) j named-more (sym named-next ∙ z)
+        let left : 24 - (j + 1) ≡ 23 - j = omega arith in
+        q ∙ ap₂ (λ (x y : ℕ). every isZero (part t x y)) place left ∙ fill-is t p 23 j named-more (sym named-next ∙ z)
 
-pub named-done : (t : List ℕ) (p j w : ℕ) → w ≡ nameWidth (octet t p) → all (followed t p) j ≡ true → j ≤ nameWidth (octet t p) - 1 → w - 1 ≤ j
-    → true ≡ all (followed t p) (nameWidth (octet t p) - 1)
-named-done t p j w e a l h = all-done (followed t p) j (nameWidth (octet t p) - 1) a l (rw e at h)
+pub named-done : (t : List ℕ) (p j n : ℕ) → all (followed t p) j ≡ true → j ≤ n → n ≤ j → true ≡ all (followed t p) n
+named-done t p j n a l h = all-done (followed t p) j n a l h
 
--- the fill of a name by its width
-module _ (k p n m : ℕ) where
-  pub long-place : p + nameWidth k ≤ m → k ≡ 21 → p + 48 ≤ m
-  long-place l e = let w = width-long k e in omega arith
-
-  pub long-count : n ≤ nameWidth k → k ≡ 21 → n ≤ 48
-  long-count l e = let w = width-long k e in omega arith
-
-  pub short-place : p + nameWidth k ≤ m → (k ≡ 21 → ⊥) → p + 24 ≤ m
-  short-place l e = let w = width-short k e in omega arith
-
-  pub short-count : n ≤ nameWidth k → (k ≡ 21 → ⊥) → n ≤ 24
-  short-count l e = let w = width-short k e in omega arith
-
-module _ (t : List ℕ) (p n k : ℕ) (r : Bool) where
-  pub fill-long : k ≡ 21 → r ≡ every isZero (part t (p + n) (48 - n)) → r ≡ every isZero (part t (p + n) (nameWidth k - n))
-  fill-long e q = q ∙ ap (λ (x : ℕ). every isZero (part t (p + n) (x - n))) (width-long k e)
-
-  pub fill-short : (k ≡ 21 → ⊥) → r ≡ every isZero (part t (p + n) (24 - n)) → r ≡ every isZero (part t (p + n) (nameWidth k - n))
-  fill-short e q = q ∙ ap (λ (x : ℕ). every isZero (part t (p + n) (x - n))) (width-short k e)
-
+-- the first 24 octets of a name
 module _ (t : List ℕ) (p o : ℕ) (low : Bool) (read : o ≡ octet t (p + 1)) (told : low ≡ isLower o) where
-  pub name-high : not low ≡ true → false ≡ nameFormed t p
-  unfolding nameFormed
-  name-high h = rw (← read, sym told ∙ not-true low h)
+  pub begun-high : not low ≡ true → false ≡ nameBegun t p
+  unfolding nameBegun
+  begun-high h = rw (← read, sym told ∙ not-true low h)
 
-  module _ (l w : ℕ) (h : not low ≡ false) (wide : w ≡ nameWidth (octet t p)) (last : l ≡ octet t (p + w)) where
-    last-octet : nameOctetAt t p (nameWidth (octet t p) - 1) ≡ l
-    last-octet =
-        let g = wide-name (octet t p) in
-        let place : p + (1 + (nameWidth (octet t p) - 1)) ≡ p + w = omega arith in
-        ap (octet t) place ∙ sym last
+  pub begun-spelt : (r : Bool) → not low ≡ false → r ≡ all (followed t p) 23 → r ≡ nameBegun t p
+  unfolding nameBegun
+  begun-spelt r h e = rw (← read, sym told ∙ not-false low h) e
 
-    pub name-hyphen : l ≡ 45 → false ≡ nameFormed t p
-    unfolding nameFormed
-    name-hyphen q = rw (← read, sym told ∙ not-false low h, last-octet, eq-eqb l 45 q)
-
-    name-spelt : (r : Bool) → (l ≡ 45 → ⊥) → r ≡ all (followed t p) (nameWidth (octet t p) - 1) → r ≡ nameFormed t p
-    unfolding nameFormed
-    name-spelt r q e = rw (← read, sym told ∙ not-false low h, last-octet, ne-eqb l 45 q) e
-
-pub lower-begins : (t : List ℕ) (p : ℕ) (low : Bool) → low ≡ isLower (octet t (p + 1)) → not low ≡ false → 0 < octet t (p + 1)
-lower-begins t p low told h = lower-some (octet t (p + 1)) low told (not-false low h)
-
-pub name-whole : (t : List ℕ) (p o w : ℕ) (low r : Bool) → o ≡ octet t (p + 1) → low ≡ isLower o → not low ≡ false → w ≡ nameWidth (octet t p)
-    → (octet t (p + w) ≡ 45 → ⊥) → r ≡ all (followed t p) (nameWidth (octet t p) - 1) → r ≡ nameFormed t p
-name-whole t p o w low r read told h wide q e = name-spelt t p o low read told (octet t (p + w)) w h wide refl r q e
+  pub lower-begins : not low ≡ false → 0 < octet t (p + 1)
+  lower-begins h = let l = lower-some o low told (not-false low h) in omega arith
 
 -- ---- behind the name
 module _ (t : List ℕ) (p q o n : ℕ) (at : q ≡ behindName t p) (read : o ≡ octet t (q + 5)) (wide : n ≡ o) where
@@ -414,61 +381,8 @@ module _ (t : List ℕ) (p q : ℕ) (at : q ≡ behindName t p) (a b : ℕ) (u :
     unfolding fieldsFormed presenceFormed
     member-filled w l k = rw (sym tag ∙ not-false u g, presence, le-leb c 2 l) k
 
--- ---- a member
-module _ (t : List ℕ) (p : ℕ) (r : Bool) (named : r ≡ nameFormed t p) where
-  pub named-is : not r ≡ false → nameFormed t p ≡ true
-  named-is h = sym named ∙ not-false r h
-
-  pub member-name : not r ≡ true → false ≡ memberFormed t p
-  unfolding memberFormed
-  member-name h = rw (sym named ∙ not-true r h)
-
-  module _ (h : not r ≡ false) (l : Bool) (sized : l ≡ lengthFormed t p) where
-    pub member-length : not l ≡ true → false ≡ memberFormed t p
-    unfolding memberFormed
-    member-length g = rw (named-is h, sym sized ∙ not-true l g)
-
-    pub member-fields : (u : Bool) → not l ≡ false → u ≡ fieldsFormed t p → u ≡ memberFormed t p
-    unfolding memberFormed fieldsFormed
-    member-fields u g e = rw (named-is h, sym sized ∙ not-false l g) e
-
--- ---- a named bit
-module _ (t : List ℕ) (p : ℕ) (r : Bool) (told : r ≡ nameFormed t p) where
-  pub bit-name : not r ≡ true → false ≡ bitFormed t p
-  unfolding bitFormed
-  bit-name e = rw (sym told ∙ not-true r e)
-
-  pub bit-number : not r ≡ false → leb (octet t (p + 25)) 63 ≡ bitFormed t p
-  unfolding bitFormed
-  bit-number e = rw (sym told ∙ not-false r e)
-
--- ---- a row that follows another
-module _ (t : List ℕ) (p : ℕ) (m : Bool) (told : m ≡ isMember (octet t p)) where
-  pub formed-member : (r : Bool) → m ≡ true → r ≡ memberFormed t p → r ≡ rowFormed (tableLimits .members) t p
-  unfolding rowFormed
-  formed-member r e q = rw (sym told ∙ e) q
-
-  module _ (whole : WholeFollower t p) (e : m ≡ false) where
-    is-bit : kindAt t p ≡ 18
-    is-bit = ⊎-elim (λ h. absurd (true≢false (sym h ∙ sym told ∙ e))) (λ h. h) (member-or-bit (kindAt t p) (whole .follows))
-
-    pub formed-bit : (r : Bool) → r ≡ bitFormed t p → r ≡ rowFormed (tableLimits .members) t p
-    unfolding rowFormed isMember
-    formed-bit r q = rw is-bit q
-
-  pub formed-inside : WholeFollower t p → m ≡ true → behindName t p + 14 ≤ length t
-  formed-inside whole e = follower-member t p whole (sym told ∙ e)
-
 -- ---- kinds
 module _ (k : ℕ) where
-  pub stands-long : k ≡ 21 → 16 ≡ standsAs k
-  unfolding standsAs
-  stands-long e = rw e
-
-  pub stands-other : (k ≡ 21 → ⊥) → k ≡ standsAs k
-  unfolding standsAs
-  stands-other n = rw (ne-eqb k 21 n)
-
   pub size-member : k ≡ 16 → 39 ≡ rowSize k
   unfolding rowSize isGroup isList isMember nameWidth
   size-member e = rw e
@@ -477,6 +391,23 @@ module _ (k : ℕ) where
   unfolding rowSize isGroup isList isMember nameWidth
   size-long e = rw e
 
-  pub size-bit : isFollower k ≡ true → (k ≡ 16 → ⊥) → (k ≡ 21 → ⊥) → 26 ≡ rowSize k
-  unfolding rowSize isGroup isList isMember
-  size-bit f n m = ⊎-elim (λ h. absurd (⊎-elim n m (member-kind k h))) (λ (h : k ≡ 18). rw h) (member-or-bit k f)
+module _ (k f : ℕ) where
+  pub stands-same : k ≡ f → not (eqb f 21) ≡ eqb (standsAs k) f
+  unfolding standsAs
+  stands-same e = rw e (go (eqb f 21) refl)
+    where
+      go : (x : Bool) → eqb f 21 ≡ x → not x ≡ eqb (pick x 16 f) f
+      go true q = sym (ne-eqb 16 f (λ h. let z = eqb-true f 21 q in omega arith))
+      go false q = sym (eq-eqb f f refl)
+
+  pub stands-not : (k ≡ f → ⊥) → (k ≡ 21 → ⊥) → false ≡ eqb (standsAs k) f
+  unfolding standsAs
+  stands-not n m = rw (ne-eqb k 21 m, ne-eqb k f n)
+
+  pub stands-long : k ≡ 21 → eqb f 16 ≡ eqb (standsAs k) f
+  unfolding standsAs
+  stands-long e = rw e (go (eqb f 16) refl)
+    where
+      go : (x : Bool) → eqb f 16 ≡ x → x ≡ eqb 16 f
+      go true q = sym (eq-eqb 16 f (sym (eqb-true f 16 q)))
+      go false q = sym (ne-eqb 16 f (λ h. eqb-false f 16 q (sym h)))

@@ -4,12 +4,14 @@ ghost use mathlib.Core.Path.{_≡_};
 ghost use mathlib.Core.Bool.{true};
 ghost use Prim.Native.Nat.{_≤_, _<_, _+_, _-_, _*_};
 ghost use lib.ListN.{length, drop};
-ghost use Rattle.octets.specs.Pick.{all};
+ghost use lib.Dec.{eqb};
+ghost use Rattle.octets.specs.Pick.{both, all};
 ghost use Rattle.octets.specs.Octets.{octet, two, part, every, same};
+ghost use Rattle.der.specs.Kind as kinds;
 ghost use Rattle.rows.specs.Row as row;
 ghost use Rattle.rows.specs.Body as body;
 ghost use Rattle.rows.specs.inner.Numbers.{leastFirst};
-ghost use Rattle.rows.specs.inner.Sizes.{typeRowSize, typeSize, fieldsFormed, WholeName, WholeFollower, WholeMember};
+ghost use Rattle.rows.specs.inner.Sizes.{typeRowSize, typeSize, nameBegun, fieldsFormed, formedSize, WholeName, WholeMember};
 ghost use Rattle.rows.specs.Limits.{tableFits};
 ghost use Rattle.rows.specs.Paper.{tableLimits};
 
@@ -126,6 +128,13 @@ pub fn name_at(t: &[u8], p: usize) -> &[u8]
     ensures { λ r. ⌜ now r ≡ row.nameAt (now (t .entry)) p ⌝ }
 {
     fields(t, p, 1, name_width(kind_at(t, p)))
+}
+
+// The first octet of its field.
+pub fn name_start(t: &[u8], p: usize) -> u8
+    ensures { λ r. ⌜ r ≡ octet (now (t .entry)) (p + 1) ⌝ }
+{
+    field(t, p, 1)
 }
 
 // The number of a named bit.
@@ -289,28 +298,17 @@ pub fn follower_kind(kind: u8) -> u8
     0
 }
 
-// The kind as which a row stands behind another.
-pub fn stands_as(kind: u8) -> u8
-    ensures { λ r. ⌜ r ≡ row.standsAs kind ⌝ }
+// Whether a row of a kind may stand where one of kind `follower` has to follow another: a member with a long name stands as a member.
+pub fn stands_as(kind: u8, follower: u8) -> bool
+    ensures { λ r. ⌜ r ≡ eqb (row.standsAs kind) follower ⌝ }
 {
-    if kind == Kind::LONG_MEMBER {
-        return Kind::MEMBER;
+    if kind == follower {
+        return follower != Kind::LONG_MEMBER;
     }
-    kind
-}
-
-// The octets of a row of a kind that follows another.
-pub fn follower_size(kind: u8) -> usize
-    requires { ⌜ row.isFollower kind ≡ true ⌝ }
-    ensures { λ r. ⌜ r ≡ row.rowSize kind ⌝ }
-{
-    if kind == Kind::MEMBER {
-        return Table::MEMBER_BYTES;
+    if kind != Kind::LONG_MEMBER {
+        return false;
     }
-    if kind == Kind::LONG_MEMBER {
-        return Table::LONG_MEMBER_BYTES;
-    }
-    Table::BIT_BYTES
+    follower == Kind::MEMBER
 }
 
 // How many rows follow a row, given their kind.
@@ -417,7 +415,7 @@ fn same_eight(t: &[u8], p: usize, q: usize) -> bool
     eight(t, p) == eight(t, q)
 }
 
-// Whether a field of 8, 16, 24, 48 octets at p is filled with zeros from its octet n on.
+// Whether a field of 8, 16, 24 octets at p is filled with zeros from its octet n on.
 fn filled_8(t: &[u8], p: usize, n: usize) -> bool
     requires whole { ⌜ p + 8 ≤ length (now t) ⌝ }
     requires within { ⌜ n ≤ 8 ⌝ }
@@ -457,85 +455,60 @@ fn filled_24(t: &[u8], p: usize, n: usize) -> bool
     filled_16(t, p + 8, 0)
 }
 
-fn filled_48(t: &[u8], p: usize, n: usize) -> bool
-    requires whole { ⌜ p + 48 ≤ length (now t) ⌝ }
-    requires within { ⌜ n ≤ 48 ⌝ }
-    ensures { λ r. ⌜ r ≡ every body.isZero (part (now (t .entry)) (p + n) (48 - n)) ⌝ }
-{
-    if 24 <= n {
-        return filled_24(t, p + 24, n - 24);
-    }
-    if !filled_24(t, p, n) {
-        return false;
-    }
-    filled_24(t, p + 24, 0)
-}
-
-// Whether the name's field at p, in a row of a kind, is filled from its octet n on.
-fn name_filled(t: &[u8], p: usize, n: usize, kind: u8) -> bool
-    requires whole { ⌜ p + row.nameWidth kind ≤ length (now t) ⌝ }
-    requires within { ⌜ n ≤ row.nameWidth kind ⌝ }
-    ensures { λ r. ⌜ r ≡ every body.isZero (part (now (t .entry)) (p + n) (row.nameWidth kind - n)) ⌝ }
-{
-    if kind == Kind::LONG_MEMBER {
-        return filled_48(t, p, n);
-    }
-    filled_24(t, p, n)
-}
-
-// ---- the body of a row that follows another and is whole
-// Whether each octet of a name may follow the one before it; a lowercase letter may follow any. Where the fill starts, all that is left has to be fill.
+// ---- the body of a row that follows another
+// Whether each of the 24 octets behind place p may follow the one before it in a name's field; a lowercase letter may follow any. Where the fill starts, all
+// that is left of them has to be fill.
 fn name_spelt(t: &[u8], p: usize) -> bool
-    requires whole { ⌜ WholeName (now t) p ⌝ }
+    requires whole { ⌜ p + (1 + row.shortWidth) ≤ length (now t) ⌝ }
     requires begins { ⌜ 0 < octet (now t) (p + 1) ⌝ }
-    ensures { λ r. ⌜ r ≡ all (body.followed (now (t .entry)) p) (row.nameWidth (row.kindAt (now (t .entry)) p) - 1) ⌝ }
+    ensures { λ r. ⌜ r ≡ all (body.followed (now (t .entry)) p) (row.shortWidth - 1) ⌝ }
 {
-    let kind = t[p];
-    let last = name_width(kind) - 1;
     let mut j = 0;
-    let mut a = t[p + 1];
-    while j < last {
+    while j < Table::MAX_NAME - 1 {
         let b = t[p + (j + 2)];
         if octets::is_lower(b) {
-            a = b;
             j += 1;
         } else {
-            if !follows(a, b) {
+            if !follows(t[p + (j + 1)], b) {
                 return false;
             }
             if b == 0 {
-                return name_filled(t, p + 1, j + 1, kind);
+                return filled_24(t, p + 1, j + 1);
             }
-            a = b;
             j += 1;
         }
     }
     true
 }
 
-fn name_formed(t: &[u8], p: usize) -> bool
-    requires { ⌜ WholeName (now t) p ⌝ }
-    ensures { λ r. ⌜ r ≡ body.nameFormed (now (t .entry)) p ⌝ }
+// The first 24 octets of the name of the row at p.
+fn name_begun(t: &[u8], p: usize) -> bool
+    requires { ⌜ p + row.bitSize ≤ length (now t) ⌝ }
+    ensures { λ r. ⌜ r ≡ nameBegun (now (t .entry)) p ⌝ }
 {
     if !octets::is_lower(t[p + 1]) {
-        return false;
-    }
-    if t[p + name_width(t[p])] == 45 {
         return false;
     }
     name_spelt(t, p)
 }
 
-// Whether a name of octets and fill is of a length that its field is for: a long one has more octets than a field of 24.
-fn length_formed(t: &[u8], p: usize) -> bool
-    requires whole { ⌜ WholeName (now t) p ⌝ }
-    requires formed { ⌜ body.nameFormed (now t) p ≡ true ⌝ }
-    ensures { λ r. ⌜ r ≡ body.lengthFormed (now (t .entry)) p ⌝ }
+// Whether the long name of the row at p is formed, and has more octets than a field of 24: what is left of its field is spelt as a field of 24.
+fn long_name_formed(t: &[u8], p: usize) -> bool
+    requires long { ⌜ row.kindAt (now t) p ≡ kinds.longMember ⌝ }
+    requires whole { ⌜ p + (1 + row.longWidth) ≤ length (now t) ⌝ }
+    requires begun { ⌜ nameBegun (now t) p ≡ true ⌝ }
+    ensures { λ r. ⌜ r ≡ both (body.nameFormed (now (t .entry)) p) (body.lengthFormed (now (t .entry)) p) ⌝ }
 {
-    if t[p] != Kind::LONG_MEMBER {
-        return true;
+    if t[p + 25] == 0 {
+        return false;
     }
-    t[p + 25] != 0
+    if t[p + 48] == 45 {
+        return false;
+    }
+    if !follows(t[p + 24], t[p + 25]) {
+        return false;
+    }
+    name_spelt(t, p + 24)
 }
 
 fn default_filled(t: &[u8], q: usize, p: usize) -> bool
@@ -550,13 +523,12 @@ fn default_filled(t: &[u8], q: usize, p: usize) -> bool
     filled_8(t, q + 6, n)
 }
 
-// The body of the member row at p behind its name.
-fn fields_formed(t: &[u8], p: usize) -> bool
-    requires named { ⌜ WholeName (now t) p ⌝ }
+// The body of the member row at p from place q on, behind its name.
+fn fields_formed(t: &[u8], q: usize, p: usize) -> bool
+    requires behind { ⌜ q ≡ row.behindName (now t) p ⌝ }
     requires whole { ⌜ row.behindName (now t) p + 14 ≤ length (now t) ⌝ }
     ensures { λ r. ⌜ r ≡ fieldsFormed (now (t .entry)) p ⌝ }
 {
-    let q = behind_name(t, p);
     if !tag_formed(t[q + 2], t[q + 3]) {
         return false;
     }
@@ -566,39 +538,79 @@ fn fields_formed(t: &[u8], p: usize) -> bool
     default_filled(t, q, p)
 }
 
-fn member_formed(t: &[u8], p: usize) -> bool
-    requires named { ⌜ WholeName (now t) p ⌝ }
-    requires whole { ⌜ row.behindName (now t) p + 14 ≤ length (now t) ⌝ }
-    ensures { λ r. ⌜ r ≡ body.memberFormed (now (t .entry)) p ⌝ }
+// ---- the size of a row that follows another, is whole and whose body is as the type table has it; 0 where it isn't
+// By its kind, where the first 24 octets of its name are as they have to be.
+fn member_size(t: &[u8], p: usize) -> usize
+    requires member { ⌜ row.kindAt (now t) p ≡ kinds.member ⌝ }
+    requires named { ⌜ p + row.bitSize ≤ length (now t) ⌝ }
+    requires begun { ⌜ nameBegun (now t) p ≡ true ⌝ }
+    ensures { λ r. ⌜ r ≡ formedSize (tableLimits .members) (now (t .entry)) p ⌝ }
 {
-    if !name_formed(t, p) {
-        return false;
+    if t.len() - p < Table::MEMBER_BYTES {
+        return 0;
     }
-    if !length_formed(t, p) {
-        return false;
+    if t[p + 24] == 45 {
+        return 0;
     }
-    fields_formed(t, p)
+    if !fields_formed(t, p + 25, p) {
+        return 0;
+    }
+    Table::MEMBER_BYTES
 }
 
-fn bit_formed(t: &[u8], p: usize) -> bool
-    requires named { ⌜ WholeName (now t) p ⌝ }
-    requires whole { ⌜ p + row.bitSize ≤ length (now t) ⌝ }
-    ensures { λ r. ⌜ r ≡ body.bitFormed (now (t .entry)) p ⌝ }
+fn long_member_size(t: &[u8], p: usize) -> usize
+    requires long { ⌜ row.kindAt (now t) p ≡ kinds.longMember ⌝ }
+    requires named { ⌜ p + row.bitSize ≤ length (now t) ⌝ }
+    requires begun { ⌜ nameBegun (now t) p ≡ true ⌝ }
+    ensures { λ r. ⌜ r ≡ formedSize (tableLimits .members) (now (t .entry)) p ⌝ }
 {
-    if !name_formed(t, p) {
-        return false;
+    if t.len() - p < Table::LONG_MEMBER_BYTES {
+        return 0;
     }
-    t[p + 25] <= Table::MAX_BIT
+    if !long_name_formed(t, p) {
+        return 0;
+    }
+    if !fields_formed(t, p + 49, p) {
+        return 0;
+    }
+    Table::LONG_MEMBER_BYTES
 }
 
-pub fn follower_formed(t: &[u8], p: usize) -> bool
-    requires { ⌜ WholeFollower (now t) p ⌝ }
-    ensures { λ r. ⌜ r ≡ body.rowFormed (tableLimits .members) (now (t .entry)) p ⌝ }
+fn bit_size(t: &[u8], p: usize) -> usize
+    requires bit { ⌜ row.kindAt (now t) p ≡ kinds.namedBit ⌝ }
+    requires named { ⌜ p + row.bitSize ≤ length (now t) ⌝ }
+    requires begun { ⌜ nameBegun (now t) p ≡ true ⌝ }
+    ensures { λ r. ⌜ r ≡ formedSize (tableLimits .members) (now (t .entry)) p ⌝ }
 {
-    if is_member(t[p]) {
-        return member_formed(t, p);
+    if t[p + 24] == 45 {
+        return 0;
     }
-    bit_formed(t, p)
+    if Table::MAX_BIT < t[p + 25] {
+        return 0;
+    }
+    Table::BIT_BYTES
+}
+
+// Of any row of a kind that follows another.
+pub fn follower_size(t: &[u8], p: usize) -> usize
+    requires inside { ⌜ p < length (now t) ⌝ }
+    requires follows { ⌜ row.isFollower (row.kindAt (now t) p) ≡ true ⌝ }
+    ensures { λ r. ⌜ r ≡ formedSize (tableLimits .members) (now (t .entry)) p ⌝ }
+{
+    if t.len() - p < Table::BIT_BYTES {
+        return 0;
+    }
+    if !name_begun(t, p) {
+        return 0;
+    }
+    let kind = t[p];
+    if kind == Kind::MEMBER {
+        return member_size(t, p);
+    }
+    if kind == Kind::NAMED_BIT {
+        return bit_size(t, p);
+    }
+    long_member_size(t, p)
 }
 
 // ---- names of two rows that follow another and are whole

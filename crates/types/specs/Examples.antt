@@ -253,7 +253,8 @@ long-admitted = refl
 long-octets : length (long "educationalConcessionCategory" 2) ≡ 63
 long-octets = refl
 
--- bodies: 24 letters, and one; no name; a capital first; a hyphen last, at 25 and at 48; two hyphens; another octet behind the fill; tag mode 3; a default's fill
+-- bodies: 24 letters, and one; no name; a capital first; a hyphen last, at 25 and at 48; two hyphens; another octet behind the fill; tag mode 3; a default's
+-- fill
 long-bodies : map clauses (one (long "abcdefghijklmnopqrstuvwx" 2) ∷ one (long "a" 2) ∷ one (long "" 2) ∷ one (long "EducationalConcessionCategory" 2)
     ∷ one (long "abcdefghijklmnopqrstuvwx-" 2) ∷ one (long "abcdefghijklmnopqrstuvwxyabcdefghijklmnopqrstuv-" 2)
     ∷ one (long "educational--ConcessionCategory" 2) ∷ one (set (long "educationalConcessionCategory" 2) 40 97)
@@ -263,8 +264,9 @@ unfolding tableComputes clauses clausesOf
 long-bodies = refl
 
 -- names that differ in the 48th letter, and in none; a row of kind 21 behind no SEQUENCE or CHOICE, in the place of a bit's name, and as an element
-long-names : clauses (pair 12 (long "abcdefghijklmnopqrstuvwxyabcdefghijklmnopqrstuvw" 3) (long "abcdefghijklmnopqrstuvwxyabcdefghijklmnopqrstuvx" 4) (1 ∷ 2 ∷ []))
-    ∷ map clauses (pair 12 (long "educationalConcessionCategory" 3) (long "educationalConcessionCategory" 4) (1 ∷ 2 ∷ [])
+long-names : map clauses (pair 12 (long "abcdefghijklmnopqrstuvwxyabcdefghijklmnopqrstuvw" 3)
+    (long "abcdefghijklmnopqrstuvwxyabcdefghijklmnopqrstuvx" 4) (1 ∷ 2 ∷ [])
+    ∷ pair 12 (long "educationalConcessionCategory" 3) (long "educationalConcessionCategory" 4) (1 ∷ 2 ∷ [])
     ∷ (12 ∷ 1 ∷ plain "a" 3 ++ long "educationalConcessionCategory" 3 ++ 2 ∷ []) ∷ (17 ∷ 1 ∷ long "educationalConcessionCategory" 2 ++ 2 ∷ [])
     ∷ (14 ∷ 0 ∷ 2 ∷ one (long "educationalConcessionCategory" 3)) ∷ [])
     ≡ replicate 12 true ∷ allBut 5 ∷ allBut 4 ∷ allBut 4 ∷ allBut 3 ∷ []

@@ -7,7 +7,6 @@ pub fields-formed-spec : {M : Type 1} → statement M
 fields-formed-spec =
     tie.close
     (tie.spec
-    (λ c κs. search needs)  -- behind-name-requires
     (λ c. search needs)  -- add-tag-formed
     (λ c. search needs)  -- shared-slice-read-tag-formed
     (λ c. search needs)  -- add-tag-formed-2

@@ -2,21 +2,20 @@ use Prim.Native.Nat.{_-_, _≤_, _<_}
 use mathlib.Core.Path.{_≡_}
 use mathlib.Core.Bool.{true}
 use native.Mathlib.Omega.{arith}
-use Rattle.octets.specs.Octets.{octet}
 use Rattle.octets.specs.Pick.{all}
-use Rattle.rows.specs.Body.{followed}
-use Rattle.rows.specs.Row.{nameWidth, nameOctetAt}
 use Rattle.octets.proofs.Laws.{all-none}
-use Rattle.rows.proofs.Steps.{lower-some, some-octet, next-octet, named-lower, named-bad, named-more, named-fill, named-done}
+use Rattle.rows.specs.Body.{followed}
+use Rattle.rows.specs.Row.{shortWidth, nameOctetAt}
+use Rattle.rows.proofs.Steps.{some-octet, lower-next, named-lower, named-bad, named-more, named-fill, named-done}
 use borrow.Author.Needs.{needs}
 use Rattle.rows.proofs.name_spelt.Statement.{statement}
 use Rattle.rows.proofs.name_spelt.Tie as tie
 
 abbrev Inv-loop : tie.InvT-loop
-Inv-loop t p kind last j₀ a₀ j a = (j ≤ nameWidth (octet t p) - 1) × (all (followed t p) j ≡ true) × (a ≡ nameOctetAt t p j) × (0 < a)
+Inv-loop t p j₀ j = (j ≤ shortWidth - 1) × (all (followed t p) j ≡ true) × (0 < nameOctetAt t p j)
 
 abbrev μ-loop : tie.MeasureT-loop
-μ-loop t p kind last j₀ a₀ j a = nameWidth (octet t p) - 1 - j
+μ-loop t p j₀ j = shortWidth - 1 - j
 
 pub name-spelt-spec : {M : Type 1} → statement M
 name-spelt-spec =
@@ -24,26 +23,25 @@ name-spelt-spec =
     (tie.spec
     Inv-loop
     μ-loop
-    (λ c. search needs)  -- shared-slice-read-kind
-    (λ c κs. search needs)  -- name-width-requires
-    (λ c. search needs)  -- sub-last
-    (λ c. search needs)  -- add-a
-    (λ c. search needs)  -- shared-slice-read-a
-    (λ c. (search needs, all-none (followed _ _), search needs, search needs))  -- loop-holds
+    (λ c. (search needs, all-none (followed _ _), search needs))  -- loop-holds
+    (λ c. search needs)  -- sub-loop
     (λ c. search needs)  -- add-b
     (λ c. search needs)  -- add-b-2
     (λ c. search needs)  -- shared-slice-read-b
     (λ c κs. search needs)  -- is-lower-requires
     (λ c. search needs)  -- add-j
     (λ c. search needs)  -- loop-less
-    (λ c. (omega arith, search named-lower, search next-octet, search lower-some))  -- loop-again
+    (λ c. (omega arith, search named-lower, search lower-next))  -- loop-again
+    (λ c. search needs)  -- add-follows
+    (λ c. search needs)  -- add-follows-2
+    (λ c. search needs)  -- shared-slice-read-follows
     (λ c κs. search needs)  -- follows-requires
     (λ c. search named-bad)  -- returns
-    (λ c. search needs)  -- add-name-filled
-    (λ c. search needs)  -- add-name-filled-2
-    (λ c κs. search needs)  -- name-filled-requires
+    (λ c. search needs)  -- add-filled-24
+    (λ c. search needs)  -- add-filled-24-2
+    (λ c κs. search needs)  -- filled-24-requires
     (λ c. search named-fill)  -- returns-2
     (λ c. search needs)  -- add-j-2
     (λ c. search needs)  -- loop-less-2
-    (λ c. (omega arith, search named-more, search next-octet, search some-octet))  -- loop-again-2
+    (λ c. (omega arith, search named-more, search some-octet))  -- loop-again-2
     (λ c. search named-done))  -- returns-3

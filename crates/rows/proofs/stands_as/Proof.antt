@@ -1,8 +1,11 @@
-use Rattle.rows.proofs.Steps.{stands-long, stands-other}
+use Rattle.rows.proofs.Steps.{stands-same, stands-not, stands-long}
 use Rattle.rows.proofs.stands_as.Statement.{statement}
 use Rattle.rows.proofs.stands_as.Tie as tie
 
 pub stands-as-spec : {M : Type 1} → statement M
-stands-as-spec = tie.close (tie.spec
-    (λ c. search stands-long)  -- returns
-    (λ c. search stands-other))  -- returns-2
+stands-as-spec =
+    tie.close
+    (tie.spec
+    (λ c. search stands-same)  -- returns
+    (λ c. search stands-not)  -- returns-2
+    (λ c. search stands-long))  -- returns-3

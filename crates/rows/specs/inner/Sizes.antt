@@ -6,10 +6,11 @@ use mathlib.Core.List.{List}
 use lib.ListN.{length}
 use lib.Dec.{ltb, eqb}
 use Rattle.der.specs.Kind as kind
-use Rattle.octets.specs.Pick.{pick, both}
-use Rattle.octets.specs.Text.{within}
-use Rattle.rows.specs.Row.{kindAt, shortWidth, nameWidth, behindName, defaultLengthAt, bitSize, isMember, isGroup, isList, rowSize, isFollower}
-use Rattle.rows.specs.Body.{countFormed, tagFormed, presenceFormed, defaultFilled}
+use Rattle.octets.specs.Pick.{pick, both, all}
+use Rattle.octets.specs.Text.{within, isLower}
+use Rattle.rows.specs.Row.{kindAt, shortWidth, nameWidth, nameOctetAt, behindName, defaultLengthAt, bitSize, isMember, isGroup, isList, rowSize}
+use Rattle.rows.specs.Row.{isFollower}
+use Rattle.rows.specs.Body.{countFormed, followed, tagFormed, presenceFormed, defaultFilled, rowFormed}
 
 -- the octets of a type row of kind k; 0 where no type has the kind
 unfoldable pub typeRowSize : ℕ → ℕ
@@ -29,9 +30,17 @@ typeSize most t p = pick (ltb (length t - p) (typeRowSize (kindAt t p))) 0 (pick
 abbrev pub sizeIf : List ℕ → ℕ → Bool → ℕ
 sizeIf t p good = pick (ltb (length t - p) (rowSize (kindAt t p))) 0 (pick good (rowSize (kindAt t p)) 0)
 
+-- the first 24 octets of the name's field of the row at p: a lowercase letter, and each may follow the one before it
+unfoldable pub nameBegun : List ℕ → ℕ → Bool
+nameBegun t p = both (isLower (nameOctetAt t p 0)) (all (followed t p) (shortWidth - 1))
+
 -- the body of the member row at p behind its name
 unfoldable pub fieldsFormed : List ℕ → ℕ → Bool
 fieldsFormed t p = both (tagFormed t p) (both (presenceFormed t p) (defaultFilled t p))
+
+-- the size of the row at p; 0 where it is not whole or its body is not formed
+unfoldable pub formedSize : ℕ → List ℕ → ℕ → ℕ
+formedSize most t p = sizeIf t p (rowFormed most t p)
 
 -- the name's field of the row at p is whole
 pub record WholeName (t : List ℕ) (p : ℕ) : Type 0 where

@@ -11,7 +11,8 @@ use Rattle.octets.specs.Text.{within}
 use Rattle.der.specs.Kind as kind
 use Rattle.der.specs.Tag.{ownOctet, implicitOctet, wrapperOctet}
 use Rattle.rows.specs.Paper.{tableLimits}
-use Rattle.rows.specs.Row.{rowAt, kindAt, isMember, namesRow, namedAt, membersAt, modeAt, numberAt, presenceAt, defaultLengthAt, defaultAt, bitNumberAt, bitNamesAt}
+use Rattle.rows.specs.Row.{rowAt, kindAt, isMember, namesRow, namedAt, membersAt, modeAt, numberAt, presenceAt, defaultLengthAt, defaultAt, bitNumberAt}
+use Rattle.rows.specs.Row.{bitNamesAt}
 use Rattle.clauses.specs.Clauses.{memberPlace, typeKind}
 use Rattle.types.specs.Types.{Tagging, untagged, explicit, implicit, taggingOf}
 use Rattle.types.specs.inner.Work.{Sound}
