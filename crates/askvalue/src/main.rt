@@ -1,4 +1,5 @@
 // Answers the filter of the file `filter` over the value of the file `value`, whose type is given by the table of the file `table`.
+#![tactic(auto)]
 ghost use Rattle.io.specs.Counts.{IsPrefixLen};
 
 use engine::Answer;

@@ -1,4 +1,6 @@
 // The assertion of an item: where each of its parts stands in the text.
+#![tactic(auto)]
+
 ghost use Rattle.std.specs.Prelude.{◌≡◌, ◌<◌, length, drop};
 ghost use Rattle.octets.specs.Octets.{every};
 ghost use Rattle.octets.specs.Inner.Answers.{report_place};
@@ -12,42 +14,42 @@ ghost use Rattle.assertion.specs.Inner.Places as places;
 use octets::Place;
 
 // The component reference: missing, or quoted, with the places of its two quotes.
-#[derive(Drop)]
+#[derive(Clone, Copy)]
 pub enum Component {
     Missing,
     Quoted(usize, usize),
 }
 
 // The component, and the place after it.
-#[derive(Drop)]
+#[derive(Clone, Copy)]
 pub enum ComponentPart {
     Of(Component, usize),
     Bad,
 }
 
 // useDefaultValues, and the place after it.
-#[derive(Drop)]
+#[derive(Clone, Copy)]
 pub enum DefaultsPart {
     Of(bool, usize),
     Bad,
 }
 
 // Where the rule starts and ends, and the place after it.
-#[derive(Drop)]
+#[derive(Clone, Copy)]
 pub enum RulePart {
     Of(usize, usize, usize),
     Bad,
 }
 
 // Where the value text starts and ends, and the brace behind it.
-#[derive(Drop)]
+#[derive(Clone, Copy)]
 pub enum ValuePart {
     Of(usize, usize, usize),
     Bad,
 }
 
 // Where each part of an assertion stands, and the place after the assertion.
-#[derive(Drop)]
+#[derive(Clone, Copy)]
 pub struct Parts {
     pub component: Component,
     pub defaults: bool,
@@ -58,7 +60,7 @@ pub struct Parts {
     pub after: usize,
 }
 
-#[derive(Drop)]
+#[derive(Clone, Copy)]
 pub enum Assertion {
     Good(Parts),
     Bad,

@@ -16,7 +16,7 @@ use Rattle.gser.specs.Listed.{after_spaces, in_braces, inside, parted, listed}
 use Rattle.gser.specs.Inner.Parts.{parted_behind}
 use Rattle.types.specs.Types.{NamedBit}
 use Rattle.types.specs.Inner.Work.{bit_of}
-use Rattle.types.proofs.BitSets.{bit_none, bit_or, bit_one}
+use Rattle.types.proofs.BitSets.{bit_none, bit_or_lem, bit_one}
 use Rattle.bitnames.specs.Names.{number_of, numbers_of, is_in, bits_listed, listed_bits}
 use Rattle.bitnames.specs.Inner.Sets.{report_number, Low, texts_from, bits_of_texts}
 use Rattle.bitnames.specs.declared.Number.{Number}
@@ -131,7 +131,7 @@ module _ (names : List NamedBit) (s : List ℕ) where
 
           one : (i : ℕ) → i < 64 → bit_of (bit_or set bit) i ≡ is_in i (inv.found ++ (n ∷ []))
           one i d =
-              bit_or i set bit
+              bit_or_lem i set bit
               ∙ ap₂ (λ (x y : Bool). pick x true y) (inv.bits i d) (ap (λ (x : ℕ). bit_of x i) b ∙ bit_one i n)
               ∙ or (is_in i inv.found) (eqb i n)
               ∙ sym (in_append i inv.found (n ∷ []))

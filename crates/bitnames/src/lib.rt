@@ -1,4 +1,6 @@
 // Names of bits: a GSER list of them, as a set of bits.
+#![tactic(auto)]
+
 ghost use Rattle.std.specs.Prelude.{◌≡◌, ◌<◌, length};
 ghost use Rattle.octets.specs.Inner.Answers.{between};
 ghost use Rattle.table.specs.Inner.Rows.{table_rows};
@@ -7,14 +9,14 @@ ghost use Rattle.bitnames.specs.Names as names;
 ghost use Rattle.bitnames.specs.Inner.Sets as sets;
 
 // The number of a bit that has a name; or none has it.
-#[derive(Drop)]
+#[derive(Clone, Copy)]
 pub enum Number {
     Of(usize),
     No,
 }
 
 // The bits that a list names, bit n of the number for bit n; or it is no list of names.
-#[derive(Drop)]
+#[derive(Clone, Copy)]
 pub enum BitSet {
     Of(u64),
     No,

@@ -1,4 +1,5 @@
 // The five entries, `quote` and `escape` for programs in other languages, as include/tezqulom.h declares them. A slice is a pointer and a length.
+#![tactic(auto)]
 ghost use Rattle.std.specs.Prelude.{◌≡◌};
 ghost use Rattle.types.specs.Check as tables;
 ghost use Rattle.table.specs.Check as check;
@@ -22,7 +23,7 @@ use value::ValueCheck;
 // An answer as two numbers: what it is (0 done, a refusal by its number, 16 FALSE, 17 TRUE, 18 Undefined, 32 to 34 nothing quoted or escaped), and a count,
 // which is 0 with a refusal and where nothing is quoted or escaped.
 #[repr(C)]
-#[derive(Drop)]
+#[derive(Clone, Copy)]
 pub struct CAnswer {
     pub number: u64,
     pub count: u64,

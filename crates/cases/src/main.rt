@@ -1,4 +1,5 @@
 // Answers the cases of standard input, a line for each. docs/CASES.md describes both formats.
+#![tactic(auto)]
 ghost use Rattle.std.specs.Prelude.{◌≤◌};
 
 use engine::{Answer, Listed};
@@ -9,7 +10,7 @@ use table::TableCheck;
 use value::{Value, ValueCheck};
 
 // A number that was read, or none.
-#[derive(Drop)]
+#[derive(Clone, Copy)]
 enum Number {
     Of(usize),
     None,

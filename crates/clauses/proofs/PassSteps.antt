@@ -68,11 +68,11 @@ Fails t = goes t 0 0 [] (rows_from table_limits.rows t 0) ≡ false
 abbrev Counted : List ℕ → ℕ → Type 0
 Counted t r = r ≡ pick (first_pass table_limits t (rows table_limits.rows t)) (length (rows table_limits.rows t)) 0
 
-pub fails : (t w : List ℕ) → length w ≡ 256 → Fails t → (Counted t 0) × ((Placed t w 0) × (length w ≡ 256))
-fails t w space e = (
-  sym (ap (λ (x : Bool). pick x (length (rows table_limits.rows t)) 0) e) ∙ pass_counts t,
-  (record { at = λ i h. absurd (omega arith) }, space),
-)
+pub fails_counted : (t : List ℕ) → Fails t → Counted t 0
+fails_counted t e = sym (ap (λ (x : Bool). pick x (length (rows table_limits.rows t)) 0) e) ∙ pass_counts t
+
+pub none_placed : (t w : List ℕ) → Placed t w 0
+none_placed t w = record { at = λ i h. absurd (omega arith) }
 
 -- ---- one row of what is left
 none_left : (k : ℕ) (t : List ℕ) (at : ℕ) → length t ≤ at → rows_from k t at ≡ some []

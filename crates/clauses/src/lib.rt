@@ -1,4 +1,6 @@
 // Clauses of "Admitted" in one pass from the first row to the last: each row's body, where rows stand, names, numbers of bits.
+#![tactic(auto)]
+
 ghost use Rattle.std.specs.Prelude.{◌≡◌, true, ◌≤◌, ◌<◌, ◌+◌, length};
 ghost use Rattle.octets.specs.Pick.{pick};
 ghost use Rattle.rows.specs.Row as row;

@@ -1,4 +1,5 @@
 // The demands, as contracts of functions that call the entries.
+#![tactic(auto)]
 ghost use Rattle.std.specs.Prelude.{◌≡◌};
 ghost use Rattle.table.specs.Check as check;
 ghost use Rattle.value.specs.Check as values;
@@ -62,7 +63,7 @@ pub fn ask(table: &[u8], value: &[u8], filter: &[u8], budget: u64) -> Answer
 
 // ---- demand 3
 // What the listing and the filter were answered.
-#[derive(Drop)]
+#[derive(Clone, Copy)]
 pub struct Replies {
     pub listed: Listed,
     pub answer: Answer,

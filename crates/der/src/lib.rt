@@ -1,4 +1,5 @@
 // DER values: tag octet, length, header, and the contents of the basic kinds. Where nothing is asked of a caller, reads past the end give 0.
+#![tactic(auto)]
 ghost use Rattle.std.specs.Prelude.{◌≡◌, ◌≤◌, ◌<◌, ◌+◌, ◌-◌, ◌%◌, ◌^◌, eqb, length, drop, get_or};
 ghost use Rattle.octets.specs.Pick.{both};
 ghost use Rattle.octets.specs.Octets.{octet, two, base_from, every};
@@ -15,7 +16,7 @@ ghost use Rattle.der.specs.Legal.{legal};
 ghost use Rattle.der.specs.Inner.Answers.{report_integer, report_sub, Forward, behind, four_printable, legal_after, Placed};
 
 // A tag octet in parts: its class, whether it is constructed (1 or 0), its number.
-#[derive(Drop)]
+#[derive(Clone, Copy)]
 struct Tag {
     class: u8,
     constructed: u8,
@@ -23,28 +24,28 @@ struct Tag {
 }
 
 // A length: its value and the place after it.
-#[derive(Drop)]
+#[derive(Clone, Copy)]
 pub enum Length {
     Of(usize, usize),
     Unusable,
 }
 
 // A header that fits: its tag octet, where its contents start and how long they are.
-#[derive(Drop)]
+#[derive(Clone, Copy)]
 pub enum Header {
     Found(u8, usize, usize),
     Misfit,
 }
 
 // What lies behind a header with the tag asked for: where the contents start and how long they are.
-#[derive(Drop)]
+#[derive(Clone, Copy)]
 pub enum Inside {
     Of(usize, usize),
     Misfit,
 }
 
 // A subidentifier and the place after it; the end of the contents; or octets that are none.
-#[derive(Drop)]
+#[derive(Clone, Copy)]
 pub enum Sub {
     Value(u32, usize),
     End,
@@ -52,21 +53,21 @@ pub enum Sub {
 }
 
 // An integer of up to eight octets: its sign and size.
-#[derive(Drop)]
+#[derive(Clone, Copy)]
 pub struct Integer {
     pub minus: bool,
     pub size: u64,
 }
 
 // A time: its 14 digits as one number, and its fraction in billionths.
-#[derive(Drop)]
+#[derive(Clone, Copy)]
 pub struct Time {
     pub stamp: u64,
     pub fraction: u64,
 }
 
 // The kinds of rows, by document 01's numbers and document 02's.
-#[derive(Drop)]
+#[derive(Clone, Copy)]
 pub struct Kind;
 
 impl Kind {
@@ -114,7 +115,7 @@ impl Kind {
 }
 
 // A distinguished name: how many RDNs it has at most, and one RDN pairs; the tag octets of an RDN, of a pair and of a pair's attribute type.
-#[derive(Drop)]
+#[derive(Clone, Copy)]
 pub struct Name;
 
 impl Name {
@@ -130,7 +131,7 @@ impl Name {
 }
 
 // Where the contents of a pair's attribute type and of its value lie.
-#[derive(Drop)]
+#[derive(Clone, Copy)]
 pub struct PairParts {
     pub type_start: usize,
     pub type_end: usize,

@@ -1,4 +1,6 @@
 // Octet strings and bit strings in a value text: `'..'H` and `'..'B`.
+#![tactic(auto)]
+
 ghost use Rattle.std.specs.Prelude.{◌≡◌, ◌≤◌, ◌+◌, ◌-◌, ◌*◌, [], length, drop, leb};
 ghost use Rattle.octets.specs.Pick.{both};
 ghost use Rattle.octets.specs.Octets as octets;
@@ -10,7 +12,7 @@ ghost use Rattle.digits.specs.Inner.Masks as masks;
 ghost use Rattle.digits.specs.Inner.Significant.{significant, ends_before};
 ghost use Rattle.digits.specs.Inner.Alike.{alike, alike_number, padded};
 
-#[derive(Drop)]
+#[derive(Clone, Copy)]
 pub enum Order {
     Less,
     Same,
@@ -18,14 +20,14 @@ pub enum Order {
 }
 
 // The octet that two hexadecimal digits stand for and the place after them, or the end.
-#[derive(Drop)]
+#[derive(Clone, Copy)]
 pub enum Pair {
     Of(usize, usize),
     End,
 }
 
 // Which bit of a hexadecimal digit comes next, from the top.
-#[derive(Drop)]
+#[derive(Clone, Copy)]
 pub enum Quarter {
     First,
     Second,
@@ -34,21 +36,21 @@ pub enum Quarter {
 }
 
 // A place among the bits of a text.
-#[derive(Drop)]
+#[derive(Clone, Copy)]
 pub struct Bits {
     pub at: usize,
     pub quarter: Quarter,
 }
 
 // A bit and the place after it, or the end.
-#[derive(Drop)]
+#[derive(Clone, Copy)]
 pub enum BitStep {
     Bit(u8, Bits),
     End,
 }
 
 // A bit, 0 past the end, and the place after it.
-#[derive(Drop)]
+#[derive(Clone, Copy)]
 pub struct Drawn {
     pub bit: u8,
     pub after: Bits,

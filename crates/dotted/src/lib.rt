@@ -1,4 +1,6 @@
 // OBJECT IDENTIFIERs in dotted form, arc by arc, with arcs of any size.
+#![tactic(auto)]
+
 ghost use Rattle.std.specs.Prelude.{◌≡◌, drop};
 ghost use Rattle.octets.specs.Octets.{same};
 ghost use Rattle.octets.specs.Text.{pieces};
@@ -12,7 +14,7 @@ use der::Sub;
 use octets::Size;
 
 // What the digits of an arc are so far: none, a single 0, a number without a leading 0, or no number.
-#[derive(Drop)]
+#[derive(Clone, Copy)]
 pub enum Form {
     Empty,
     Zero,
@@ -21,21 +23,21 @@ pub enum Form {
 }
 
 // The digits of an arc so far: the number they stand for, and their form.
-#[derive(Drop)]
+#[derive(Clone, Copy)]
 pub struct Digits {
     pub size: Size,
     pub form: Form,
 }
 
 // Where the next arc starts, if there is one.
-#[derive(Drop)]
+#[derive(Clone, Copy)]
 pub enum Dots {
     At(usize),
     Over,
 }
 
 // Where the next stored arc stands: at the start, in the first subidentifier, whose second arc is left, or at a place.
-#[derive(Drop)]
+#[derive(Clone, Copy)]
 pub enum Held {
     Start,
     Second(u32, usize),
@@ -43,14 +45,14 @@ pub enum Held {
 }
 
 // A stored arc and where the next one stands; or the end, true where the contents end and false where octets are no subidentifier.
-#[derive(Drop)]
+#[derive(Clone, Copy)]
 pub enum HeldStep {
     Next(u32, Held),
     End(bool),
 }
 
 // An arc: its number, whether it is written as one, and where the next arc starts.
-#[derive(Drop)]
+#[derive(Clone, Copy)]
 pub struct Arc {
     pub size: Size,
     pub formed: bool,
@@ -58,7 +60,7 @@ pub struct Arc {
 }
 
 // An arc that a stored one may be: its number, below 2^32, and where the next arc starts; or one above all stored ones.
-#[derive(Drop)]
+#[derive(Clone, Copy)]
 pub enum SmallArc {
     Of(u64, Dots),
     Above,

@@ -1,4 +1,5 @@
 // The answers of the engine: the listing, and the answer to a filter.
+#![tactic(auto)]
 ghost use Rattle.std.specs.Prelude.{◌≡◌, true, ◌≤◌, ◌+◌, ◌/◌, length};
 ghost use Rattle.rows.specs.Paper.{table_limits};
 ghost use Rattle.types.specs.Admitted.{admitted};
@@ -23,7 +24,7 @@ use rows::Table;
 use value::Value;
 
 // The answer of the listing: the number of named values, or a refusal.
-#[derive(Drop)]
+#[derive(Clone, Copy)]
 pub enum Listed {
     Values(usize),
     Refused(u8),
@@ -232,7 +233,7 @@ pub fn list(
 
 // ---- a filter
 // The answer to a filter: its truth with the tests made, or a refusal.
-#[derive(Drop)]
+#[derive(Clone, Copy)]
 pub enum Answer {
     True(usize),
     False(usize),

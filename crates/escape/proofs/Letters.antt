@@ -162,10 +162,10 @@ unfolding up_to_end letters_for
 up_to-end [] first ls e = e
 up_to-end (b ∷ t) first ls e = rw (ends_not first (eqb (length t) 0) b, up_to-end t false ls e)
 
-pub from_end : (t : List ℕ) (first : Bool) (ls : List Letter) → from_end ls ≡ ls → from_end (letters_for first t ++ ls) ≡ ls
+pub from-end : (t : List ℕ) (first : Bool) (ls : List Letter) → from_end ls ≡ ls → from_end (letters_for first t ++ ls) ≡ ls
 unfolding from_end letters_for
-from_end [] first ls e = e
-from_end (b ∷ t) first ls e = rw (ends_not first (eqb (length t) 0) b, from_end t false ls e)
+from-end [] first ls e = e
+from-end (b ∷ t) first ls e = rw (ends_not first (eqb (length t) 0) b, from-end t false ls e)
 
 pub octets-back : (t : List ℕ) (first : Bool) → map octet_of (letters_for first t) ≡ t
 unfolding letters_for

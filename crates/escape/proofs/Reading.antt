@@ -19,7 +19,7 @@ use Rattle.escape.specs.Reading.{ends_value, pair_with, ReadsAs, Reads}
 use Rattle.escape.specs.declared.Escaped.{Escaped}
 use Rattle.escape.proofs.Types.{type-read}
 use Rattle.escape.proofs.Unicode.{utf8-joined, utf8-escaped}
-use Rattle.escape.proofs.Letters.{letters_for, letters-escaped, up_to-end, from_end, octets-back, string-escaped}
+use Rattle.escape.proofs.Letters.{letters_for, letters-escaped, up_to-end, from-end, octets-back, string-escaped}
 
 -- ---- what stands behind a value isn't read with it
 behind-bare : (b : ℕ) → either (eqb b 43) (eqb b 44) ≡ true → b ≡ 92 → ⊥
@@ -41,7 +41,7 @@ module _ (t after : List ℕ) (e : ends_value after ≡ true) where
   value-letters = ap up_to_end (letters-escaped t true after) ∙ up_to-end t true (letters after) (none_read after e)
 
   left-letters : from_end (letters (escaped_text t ++ after)) ≡ letters after
-  left-letters = ap from_end (letters-escaped t true after) ∙ from_end t true (letters after) (all_left after e)
+  left-letters = ap from_end (letters-escaped t true after) ∙ from-end t true (letters after) (all_left after e)
 
   pub attribute-escaped : (type : List ℕ) → is_dotted type ≡ true → utf8 t ≡ true
       → attribute_from (letters (pair_with type (escaped_text t) after)) ≡ some (record { got = record { type = type; value = t }; rest = letters after })
@@ -79,5 +79,5 @@ report-read t room =
     (λ _. read_none t (escaping Escaped.TooLittleRoom room) (λ n e. let z : ◌≡◌ {A = ℕ} 0 1 = cc in omega arith)))
     (λ _. read_none t (escaping Escaped.NotUtf8 room) (λ n e. let z : ◌≡◌ {A = ℕ} 0 1 = cc in omega arith))
 
-pub with_reading : (t room m : List ℕ) (r : Escaped) → escaping r m ≡ escaped_report t room → (escaping r m ≡ escaped_report t room) × Reads r t m
-with_reading t room m r e = (e, subst (Read t) (sym e) (report-read t room))
+pub reads_report : (t room m : List ℕ) (r : Escaped) → escaping r m ≡ escaped_report t room → Reads r t m
+reads_report t room m r e = subst (Read t) (sym e) (report-read t room)

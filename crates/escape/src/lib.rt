@@ -1,11 +1,13 @@
 // The value of an attribute, escaped for a name as RFC 4514 has it.
+#![tactic(auto)]
+
 ghost use Rattle.std.specs.Prelude.{◌≡◌, ◌≤◌, ◌<◌, length};
 ghost use Rattle.escape.specs.Escape as specs;
 ghost use Rattle.escape.specs.Reading.{Reads};
 ghost use Rattle.escape.specs.Inner.Work as work;
 
 // The octets written, or why nothing was: a text that isn't UTF-8, too little room.
-#[derive(Drop)]
+#[derive(Clone, Copy)]
 pub enum Escaped {
     Written(usize),
     NotUtf8,

@@ -1,4 +1,5 @@
 // The truth of a filter over a value, and the tests made.
+#![tactic(auto)]
 ghost use Rattle.std.specs.Prelude.{◌≤◌, ◌≡◌, true, false, length};
 ghost use Rattle.std.proofs.Math.Option.{some};
 ghost use Rattle.rows.specs.Paper.{table_limits};
@@ -26,7 +27,7 @@ use reference::Target;
 use rules::{Named, Rule};
 use walk::State;
 
-#[derive(Drop)]
+#[derive(Clone, Copy)]
 pub enum Verdict {
     True,
     False,
@@ -34,14 +35,14 @@ pub enum Verdict {
 }
 
 // A truth after so many tests; or more tests than the budget.
-#[derive(Drop)]
+#[derive(Clone, Copy)]
 pub enum Judged {
     Of(Verdict, usize),
     Over,
 }
 
 // The same with the place after the filter and the items left of those allowed; or a text that is no filter within the limits.
-#[derive(Drop)]
+#[derive(Clone, Copy)]
 pub enum Judging {
     At(Verdict, usize, usize, usize),
     Over,
@@ -49,7 +50,7 @@ pub enum Judging {
 }
 
 // The filter of a whole text: a truth after so many tests; more tests than the budget; or a text that is no filter.
-#[derive(Drop)]
+#[derive(Clone, Copy)]
 pub enum Evaluated {
     Of(Verdict, usize),
     Over,
@@ -57,7 +58,7 @@ pub enum Evaluated {
 }
 
 // What is left at a place of a filter text: the depth and the items; and whether what stands there is judged or passed over.
-#[derive(Drop)]
+#[derive(Clone, Copy)]
 pub struct Left {
     pub depth: usize,
     pub items: usize,
@@ -65,21 +66,21 @@ pub struct Left {
 }
 
 // The tests made, and the most that may be made.
-#[derive(Drop)]
+#[derive(Clone, Copy)]
 pub struct Tests {
     pub made: usize,
     pub budget: usize,
 }
 
 // One filter of a list: the list so far, the tests made, the next one's place and the items left; or the list's end.
-#[derive(Drop)]
+#[derive(Clone, Copy)]
 pub enum Turn {
     Goes(Progress, usize, usize, usize),
     Ends(Judging),
 }
 
 // The filters of a list so far: none stopped it nor was Undefined; none stopped it and one was Undefined; one stopped it; or the list is passed over.
-#[derive(Drop)]
+#[derive(Clone, Copy)]
 pub enum Progress {
     Plain,
     Unsure,
@@ -323,7 +324,7 @@ fn begin(live: bool) -> Progress
 }
 
 // Whether the filters from here on are judged.
-fn goes_on_lem(p: Progress) -> bool
+fn goes_on(p: Progress) -> bool
     ensures { result ≡ work.goes_on p }
 {
     match p {
@@ -344,7 +345,7 @@ fn behind(p: Progress, undefined: bool) -> Progress
     p
 }
 
-fn is_false_lem(u: Verdict) -> bool
+fn is_false(u: Verdict) -> bool
     ensures { result ≡ work.is_falsity u }
 {
     match u {
@@ -359,8 +360,8 @@ fn stops(join: Join, u: Verdict) -> bool
     ensures { result ≡ work.stops_at (report_join join) u }
 {
     match join {
-        Join::And => is_false_lem(u),
-        Join::Or => is_false_lem(opposite(u)),
+        Join::And => is_false(u),
+        Join::Or => is_false(opposite(u)),
     }
 }
 
@@ -527,7 +528,7 @@ fn judge_list(
     let mut made = tests.made;
     let mut p = begin(left.live);
     loop {
-        let live = goes_on_lem(p);
+        let live = goes_on(p);
         let here = Left { depth, items, live };
         let first = judge_filter(t, w, v, f, i, here, Tests { made, budget });
         match next_turn(f, join, p, first) {

@@ -1,4 +1,5 @@
 // The filter text: reading it, with its depth and its items within the limits. No tree is made of it.
+#![tactic(auto)]
 ghost use Rattle.std.specs.Prelude.{◌≡◌};
 ghost use Rattle.assertion.specs.Spaces.{mark_at, open_brace};
 ghost use Rattle.assertion.specs.Assertion.{assertion_at};
@@ -11,7 +12,7 @@ use assertion::Assertion;
 use octets::Place;
 
 // A filter: how many items it has, and the limits of every filter.
-#[derive(Drop)]
+#[derive(Clone, Copy)]
 pub struct Filter {
     pub items: usize,
 }
@@ -42,7 +43,7 @@ impl Filter {
     }
 }
 
-#[derive(Drop)]
+#[derive(Clone, Copy)]
 pub enum Join {
     And,
     Or,
@@ -50,7 +51,7 @@ pub enum Join {
 
 // What a filter begins with: an assertion at a place, an empty list that ends at a place, a list whose first filter is at a place, a filter
 // under `not:` at a place, or nothing that a filter begins with.
-#[derive(Drop)]
+#[derive(Clone, Copy)]
 pub enum Head {
     Assertion(usize),
     EmptyList(Join, usize),
@@ -60,7 +61,7 @@ pub enum Head {
 }
 
 // What follows a filter in a list: another filter at a place, the list's end before a place, or neither.
-#[derive(Drop)]
+#[derive(Clone, Copy)]
 pub enum Tail {
     Another(usize),
     Closed(usize),
@@ -68,14 +69,14 @@ pub enum Tail {
 }
 
 // The place after what was read, and the items that are left of those allowed.
-#[derive(Drop)]
+#[derive(Clone, Copy)]
 pub enum Span {
     Of(usize, usize),
     Bad,
 }
 
 // A whole text: a filter, or none.
-#[derive(Drop)]
+#[derive(Clone, Copy)]
 pub enum Reading {
     Good(Filter),
     Bad,

@@ -1,4 +1,6 @@
 // A GSER list of names in a value text: `{ print, perform }`.
+#![tactic(auto)]
+
 ghost use Rattle.std.specs.Prelude.{◌≡◌, ◌∷◌, ◌≤◌, ◌-◌, length, drop};
 ghost use Rattle.octets.specs.Octets.{part};
 ghost use Rattle.gser.specs.Listed as listed;

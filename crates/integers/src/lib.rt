@@ -1,4 +1,6 @@
 // Asserted integers, of any size.
+#![tactic(auto)]
+
 ghost use Rattle.std.specs.Prelude.{◌≡◌, true, ◌≤◌, ◌<◌, length, drop, ltb, leb};
 ghost use Rattle.octets.specs.Pick.{both, no};
 ghost use Rattle.octets.specs.Octets.{octet, same, bytes};
@@ -11,14 +13,14 @@ ghost use Rattle.integers.specs.Inner.Bounds as bounds;
 use octets::Size;
 
 // An asserted integer: its sign and size.
-#[derive(Drop)]
+#[derive(Clone, Copy)]
 pub struct Asked {
     pub minus: bool,
     pub size: Size,
 }
 
 // An asserted integer among those that can be stored: at one, lifted; or below or above all of them.
-#[derive(Drop)]
+#[derive(Clone, Copy)]
 pub enum Bound {
     At(u64),
     Under,

@@ -1,4 +1,6 @@
 // Stored distinguished names against asserted ones.
+#![tactic(auto)]
+
 ghost use Rattle.std.specs.Prelude.{◌≡◌, true, ◌≤◌, ◌<◌, ◌-◌, length};
 ghost use Rattle.octets.specs.Octets.{octet, two, same};
 ghost use Rattle.octets.specs.Inner.Answers.{between};
@@ -16,7 +18,7 @@ ghost use Rattle.namematch.specs.Inner.Names as places;
 use der::{Inside, Name, PairParts};
 
 // Where an attribute of the operand lies: its type up to its value, and where its value ends.
-#[derive(Drop)]
+#[derive(Clone, Copy)]
 struct AttributeParts {
     type_start: usize,
     text_start: usize,
@@ -24,7 +26,7 @@ struct AttributeParts {
 }
 
 // The marks of the used attributes with one more; or no unused attribute is the same.
-#[derive(Drop)]
+#[derive(Clone, Copy)]
 enum Marks {
     Of(usize),
     No,

@@ -1,4 +1,6 @@
 // The operand of an asserted name: octets written once, in the order of the text, that are read from their end.
+#![tactic(auto)]
+
 ghost use Rattle.std.specs.Prelude.{◌≡◌, true, [], ◌∷◌, ◌++◌, ◌≤◌, ◌<◌, ◌+◌, ◌-◌, ◌*◌, length};
 ghost use Rattle.octets.specs.Pick.{is_some};
 ghost use Rattle.octets.specs.Octets.{part};
@@ -89,7 +91,7 @@ fn write_attribute(
 }
 
 // Where an RDN ends in the text, and where its octets end in memory.
-#[derive(Drop)]
+#[derive(Clone, Copy)]
 pub struct Written {
     pub end: usize,
     pub place: usize,

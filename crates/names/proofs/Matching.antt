@@ -145,6 +145,7 @@ match_permutes (a ∷ l) bs e =
 pub permutation_counts : (p : Compared) (l bs : List Compared) → Permutation l bs → occurrences p l ≡ occurrences p bs
 unfolding occurrences
 permutation_counts p [] [] empty = refl
+permutation_counts p [] (_ ∷ _) t = elim t [ ]
 permutation_counts p (a ∷ l) bs (more {m = m} t i) =
     let e = permutation_counts p l m t in let f = inserted_once p a m bs i in omega arith
 

@@ -1,4 +1,6 @@
 // Distinguished names as text: what stands between the quotes of a value text, read as RFC 4514 has it. Two quotes are one.
+#![tactic(auto)]
+
 ghost use Rattle.std.specs.Prelude.{◌≡◌, ◌≤◌, ◌<◌, length};
 ghost use Rattle.octets.specs.Pick.{is_some};
 ghost use Rattle.octets.specs.Quoted.{undoubled};
@@ -10,7 +12,7 @@ use der::Name;
 use octets::{Awaiting, Place};
 
 // An octet that stands for itself or an escaped one, with the place after it; a backslash that escapes nothing; or the end.
-#[derive(Drop)]
+#[derive(Clone, Copy)]
 pub enum Letter {
     Bare(u8, usize),
     Escaped(u8, usize),
@@ -19,28 +21,28 @@ pub enum Letter {
 }
 
 // The place where a value ends, or none where what stands there is no value.
-#[derive(Drop)]
+#[derive(Clone, Copy)]
 pub enum ValueEnd {
     Of(usize),
     No,
 }
 
 // An attribute: the place of the `=` after its type, and the place where its value ends.
-#[derive(Drop)]
+#[derive(Clone, Copy)]
 pub struct Attribute {
     pub equals: usize,
     pub end: usize,
 }
 
 // The attribute at a place, or none where what stands there is no attribute.
-#[derive(Drop)]
+#[derive(Clone, Copy)]
 pub enum AttributeAt {
     Of(Attribute),
     No,
 }
 
 // The place where an RDN ends, or none where what stands there is no RDN.
-#[derive(Drop)]
+#[derive(Clone, Copy)]
 pub enum RdnEnd {
     Of(usize),
     No,
@@ -89,7 +91,7 @@ fn is_special(b: u8) -> bool
 }
 
 // The place after the character at a place.
-fn next_place_lem(p: &[u8], at: usize) -> usize
+fn next_place(p: &[u8], at: usize) -> usize
     requires { at < length p.now }
     ensures { result ≡ reading.next_place p.now at }
 {
@@ -114,7 +116,7 @@ fn escaped_letter(p: &[u8], at: usize) -> Letter
     }
     let c = p[at];
     if is_special(c) {
-        return Letter::Escaped(c, next_place_lem(p, at));
+        return Letter::Escaped(c, next_place(p, at));
     }
     let d = octets::octet(p, at + 1);
     if !octets::is_hex_pair(c, d) {
@@ -135,7 +137,7 @@ fn next_letter(p: &[u8], at: usize) -> Letter
     if b == 92 {
         return escaped_letter(p, at + 1);
     }
-    Letter::Bare(b, next_place_lem(p, at))
+    Letter::Bare(b, next_place(p, at))
 }
 
 // ---- values

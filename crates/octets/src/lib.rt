@@ -1,4 +1,6 @@
 // Octets and text: the lowest layer. Reads past the end give 0, so a caller proves nothing of its places.
+#![tactic(auto)]
+
 ghost use Rattle.std.specs.Prelude.{◌≡◌, true, ◌≤◌, ◌+◌, ◌-◌, ◌*◌, drop};
 ghost use Rattle.octets.specs.Pick.{both};
 ghost use Rattle.octets.specs.Octets as octets;
@@ -8,21 +10,21 @@ ghost use Rattle.octets.specs.Quoted.{closing_at, closing};
 ghost use Rattle.octets.specs.Inner.Answers.{clip, report_place, grow_of, highest, between};
 
 // A number of any size: below 2^64, or beyond.
-#[derive(Drop)]
+#[derive(Clone, Copy)]
 pub enum Size {
     Of(u64),
     Beyond,
 }
 
 // A place in a text, or none.
-#[derive(Drop)]
+#[derive(Clone, Copy)]
 pub enum Place {
     At(usize),
     Nowhere,
 }
 
 // What may come next in UTF-8: so many octets of a character, the next of them within bounds; or nothing.
-#[derive(Drop)]
+#[derive(Clone, Copy)]
 pub enum Awaiting {
     Tails(u8, u8, u8),
     Broken,

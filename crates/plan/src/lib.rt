@@ -1,4 +1,5 @@
 // A plan: one lent array of numbers, the task first, then four for each identifier of a reference.
+#![tactic(auto)]
 ghost use Rattle.std.specs.Prelude.{◌≡◌, true, false, [], ◌≤◌, ◌<◌, ◌+◌, ◌*◌, length, get_or, set, ltb};
 ghost use Rattle.std.proofs.Math.Option.{none, some};
 ghost use Rattle.octets.specs.Pick.{both};
@@ -28,7 +29,7 @@ use reference::{Step, Target};
 use rules::{Rule, Syntax};
 
 // The sorts of steps: the end, a member, an alternative, a position, a position from the end, the count, all elements.
-#[derive(Drop)]
+#[derive(Clone, Copy)]
 pub struct Sort;
 
 impl Sort {
@@ -50,7 +51,7 @@ impl Sort {
 // The comparisons of a test: any value, none, a truth; an integer equal to one, to one below or above all that can be stored, or less; arcs; octets equal or
 // less; bits of hexadecimal or binary digits; a string, folded or exact; a time equal or earlier; bits with names, of hexadecimal or binary digits, or listed;
 // a distinguished name; an RDN.
-#[derive(Drop)]
+#[derive(Clone, Copy)]
 pub struct Comparison;
 
 impl Comparison {
@@ -104,21 +105,21 @@ impl Comparison {
 }
 
 // A test: its comparison, and the number that it is with.
-#[derive(Drop)]
+#[derive(Clone, Copy)]
 pub struct TestNumbers {
     pub comparison: usize,
     pub number: usize,
 }
 
 // The same of a rule of bits; or the rule isn't for what the reference leads to, or the text doesn't conform.
-#[derive(Drop)]
+#[derive(Clone, Copy)]
 pub enum BitsTest {
     Of(usize, usize),
     No,
 }
 
 // How a value text makes an operand: as it stands; what stands between its quotes; the same as prepared, folded or not; the same read as a name, or as an RDN.
-#[derive(Drop)]
+#[derive(Clone, Copy)]
 pub enum Form {
     Whole,
     Quoted,
@@ -643,7 +644,7 @@ pub fn passes_count(q: &[usize; 72], n: usize) -> bool
 // ---- resolution of a reference
 // The numbers of one identifier: its sort, two numbers, the row that it leads to and the place where those after it start. Or the count, the last one; or
 // it is not allowed.
-#[derive(Drop)]
+#[derive(Clone, Copy)]
 pub enum Planning {
     To(usize, usize, usize, usize, usize),
     Count,
@@ -826,7 +827,7 @@ fn absent_step(
 
 // ---- along a reference
 // Where the resolution of a reference stands: on the type of a row, at a place of the reference, at a step of the plan.
-#[derive(Drop)]
+#[derive(Clone, Copy)]
 pub struct Point {
     pub row: usize,
     pub place: usize,
@@ -834,7 +835,7 @@ pub struct Point {
 }
 
 // Where one identifier leads: to another row, with the place where those after it start; to the count; or it is not allowed.
-#[derive(Drop)]
+#[derive(Clone, Copy)]
 pub enum Resolved {
     On(usize, usize),
     Count,

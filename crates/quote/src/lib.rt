@@ -1,11 +1,12 @@
 // The quoted form of a text, as an assertion's value text has it.
+#![tactic(auto)]
 ghost use Rattle.std.specs.Prelude.{◌≡◌, ◌≤◌, length};
 ghost use Rattle.quote.specs.Quote as specs;
 ghost use Rattle.quote.specs.Reading.{Reads};
 ghost use Rattle.quote.specs.Inner.Work as work;
 
 // The octets written, or why nothing was: an empty text, one that isn't UTF-8, too little room.
-#[derive(Drop)]
+#[derive(Clone, Copy)]
 pub enum Quoted {
     Written(usize),
     Empty,

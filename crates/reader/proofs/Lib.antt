@@ -1,4 +1,2 @@
 pub mod Steps
-pub mod Thin
-pub mod Above
 pub mod Laws

@@ -1,5 +1,7 @@
 // A reader that holds a stored value's octets and a place in them. What it sees there is read by functions on the slice and the number; each function
 // over the reader takes it apart and calls one of these. Reads past the end are total, so nothing is asked of a caller.
+#![tactic(auto)]
+
 ghost use Rattle.std.specs.Prelude.{◌≡◌};
 ghost use Rattle.reader.specs.There.{header_there};
 ghost use Rattle.reader.specs.Inner.Reads.{reader_at, size_there, value_there};
@@ -7,7 +9,7 @@ ghost use Rattle.reader.specs.Inner.Reads.{reader_at, size_there, value_there};
 use der::Header;
 
 // A place in a stored value's octets.
-#[derive(Drop)]
+#[derive(Clone, Copy)]
 pub struct Reader<'a> {
     pub octets: &'a [u8],
     pub place: usize,

@@ -1,4 +1,6 @@
 // Component references: reading one, and whether a type allows it. The definitions are in specs/.
+#![tactic(auto)]
+
 ghost use Rattle.std.specs.Prelude.{◌≡◌, true, ◌≤◌, ◌<◌, ◌+◌, ◌-◌, length};
 ghost use Rattle.octets.specs.Octets.{same};
 ghost use Rattle.octets.specs.Inner.Answers.{between};
@@ -11,7 +13,7 @@ ghost use Rattle.reference.specs.Inner.Work as work;
 use octets::Size;
 
 // One component identifier: a name or an index, or none. A number beyond the largest is held as the largest.
-#[derive(Drop)]
+#[derive(Clone, Copy)]
 enum Piece {
     Name,
     Position(usize),
@@ -22,7 +24,7 @@ enum Piece {
 }
 
 // The next identifier of a reference and the place where those after it start; a name by its first place and its end. Or no more, or no identifier.
-#[derive(Drop)]
+#[derive(Clone, Copy)]
 pub enum Step {
     Name(usize, usize, usize),
     Position(usize, usize),
@@ -34,7 +36,7 @@ pub enum Step {
 }
 
 // What a reference leads to: the type of a row, the count of a list, or nothing, where it is malformed or not allowed.
-#[derive(Drop)]
+#[derive(Clone, Copy)]
 pub enum Target {
     Row(usize),
     Count,

@@ -1,4 +1,6 @@
 // The rows of a type table: where they start, their parts, and what their bodies are like. Reads past the end give 0.
+#![tactic(auto)]
+
 ghost use Rattle.std.specs.Prelude.{◌≡◌, true, ◌≤◌, ◌<◌, ◌+◌, ◌-◌, ◌*◌, length, drop, eqb};
 ghost use Rattle.octets.specs.Pick.{both, all};
 ghost use Rattle.octets.specs.Octets.{octet, two, part, every, same};
@@ -13,7 +15,7 @@ ghost use Rattle.rows.specs.Paper.{table_limits};
 use der::Kind;
 
 // A table: how many rows it has, and the limits of every table.
-#[derive(Drop)]
+#[derive(Clone, Copy)]
 pub struct Table {
     pub rows: usize,
 }
@@ -231,7 +233,7 @@ pub fn is_type_kind(kind: u8) -> bool
     octets::within(Kind::RDN_SEQUENCE, Kind::RDN, kind)
 }
 
-pub fn is_member_lem(kind: u8) -> bool
+pub fn is_member(kind: u8) -> bool
     ensures { result ≡ row.is_member kind }
 {
     if kind == Kind::MEMBER {

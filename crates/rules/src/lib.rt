@@ -1,4 +1,6 @@
 // Matching rules: known rules, which rule is for which type, conforming value texts.
+#![tactic(auto)]
+
 ghost use Rattle.std.specs.Prelude.{◌≡◌, ◌<◌, eqb, length, drop};
 ghost use Rattle.octets.specs.Pick.{all, bind, is_some};
 ghost use Rattle.octets.specs.Text.{lower};
@@ -17,7 +19,7 @@ ghost use Rattle.rules.specs.Inner.Answers as answers;
 use der::Kind;
 
 // What a rule compares; strings with letters folded (true) or as they are.
-#[derive(Drop)]
+#[derive(Clone, Copy)]
 pub enum Syntax {
     Booleans,
     Integers,
@@ -31,14 +33,14 @@ pub enum Syntax {
 }
 
 // presentMatch, an equality rule, an ordering rule.
-#[derive(Drop)]
+#[derive(Clone, Copy)]
 pub enum Rule {
     Present,
     Equal(Syntax),
     Less(Syntax),
 }
 
-#[derive(Drop)]
+#[derive(Clone, Copy)]
 pub enum Named {
     Known(Rule),
     Unknown,

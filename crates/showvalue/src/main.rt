@@ -1,5 +1,6 @@
 // Lists what the reference of the file `reference` names in the value of the file `value`, whose type is given by the table of the file `table`:
 // a line for each named value.
+#![tactic(auto)]
 ghost use Rattle.std.specs.Prelude.{◌*◌, ◌≤◌};
 ghost use Rattle.io.specs.Counts.{IsPrefixLen};
 

@@ -1,4 +1,6 @@
 // Strings: quoted in a value text, prepared for comparing. A stored string is compared image by image, and never written as prepared.
+#![tactic(auto)]
+
 ghost use Rattle.std.specs.Prelude.{◌≡◌, true, false, ◌≤◌, ◌<◌, ◌+◌, ◌*◌, [], ◌∷◌, ◌++◌, length, drop};
 ghost use Rattle.octets.specs.Pick.{is_some};
 ghost use Rattle.octets.specs.Octets.{octet, same, part};
@@ -13,7 +15,7 @@ ghost use Rattle.strings.specs.declared.Form.{Form};
 use octets::Place;
 
 // How a string stands: stored; between quotes, two quotes for one; or there with escapes too (RFC 4514).
-#[derive(Drop)]
+#[derive(Clone, Copy)]
 pub enum Form {
     Stored,
     Quoted,
@@ -21,7 +23,7 @@ pub enum Form {
 }
 
 // What stands before a place: no character yet, a character, or a space after one.
-#[derive(Drop)]
+#[derive(Clone, Copy)]
 pub enum Before {
     Nothing,
     Character,
@@ -29,35 +31,35 @@ pub enum Before {
 }
 
 // The octets of an image, the first in the lowest bits, and their number.
-#[derive(Drop)]
+#[derive(Clone, Copy)]
 pub struct Octets {
     pub word: u64,
     pub count: usize,
 }
 
 // The image of a character: a space to be dropped or joined, or octets.
-#[derive(Drop)]
+#[derive(Clone, Copy)]
 pub enum Shape {
     Blank,
     Shown(Octets),
 }
 
 // The image of a character of a string, and the place after the character.
-#[derive(Drop)]
+#[derive(Clone, Copy)]
 pub struct Piece {
     pub shape: Shape,
     pub after: usize,
 }
 
 // The next image of a string that has octets: whether a space comes before it, its octets, and the place after its character; or the string's end.
-#[derive(Drop)]
+#[derive(Clone, Copy)]
 pub enum Found {
     At(bool, Octets, usize),
     End,
 }
 
 // A stored string beside other octets: a place in each, and the octets of an image that come before what stands at the place in the string.
-#[derive(Drop)]
+#[derive(Clone, Copy)]
 pub struct Sides {
     pub at: usize,
     pub i: usize,
@@ -66,14 +68,14 @@ pub struct Sides {
 }
 
 // What two sides come to: others, or whether they are the same.
-#[derive(Drop)]
+#[derive(Clone, Copy)]
 pub enum Turn {
     On(Sides),
     Ended(bool),
 }
 
 // An octet of a string and the place after it, or its end.
-#[derive(Drop)]
+#[derive(Clone, Copy)]
 pub enum Letter {
     Got(u8, usize),
     End,

@@ -1,4 +1,6 @@
 // Row words: two numbers for each row of a table, written by admission and read by what they say of the table.
+#![tactic(auto)]
+
 ghost use Rattle.std.specs.Prelude.{◌≡◌, true, ◌≤◌, ◌<◌, ◌+◌, ◌-◌, ◌*◌, ◌^◌, length, get_or};
 ghost use Rattle.std.specs.Int.Bits.{bit_or};
 ghost use Rattle.octets.specs.Pick.{pick, all};
@@ -26,21 +28,21 @@ use der::Kind;
 use rows::Table;
 
 // The answer of the table check: the table, or a refusal.
-#[derive(Drop)]
+#[derive(Clone, Copy)]
 pub enum TableCheck {
     Admitted(Table),
     Refused(u8),
 }
 
 // The words of a row, or none where its clauses of "Admitted" do not hold.
-#[derive(Drop)]
+#[derive(Clone, Copy)]
 enum Made {
     Words(u64, u64),
     Refused,
 }
 
 // The tags of the alternatives of a CHOICE, or that two have one in common.
-#[derive(Drop)]
+#[derive(Clone, Copy)]
 enum Tags {
     Of(u64),
     Common,
@@ -520,7 +522,7 @@ fn one_row(t: &[u8], w: &[u64; 256], n: usize, i: usize, p: usize) -> Made
     ensures { Says t.now w.now i result }
 {
     let kind = rows::kind_at(t, p);
-    if rows::is_member_lem(kind) {
+    if rows::is_member(kind) {
         return member_row(t, w, n, i, p);
     }
     if kind == Kind::SEQUENCE {

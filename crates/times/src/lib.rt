@@ -1,4 +1,6 @@
 // Asserted times.
+#![tactic(auto)]
+
 ghost use Rattle.std.specs.Prelude.{◌≡◌};
 ghost use Rattle.octets.specs.Pick.{is_some};
 ghost use Rattle.times.specs.Asserted.{asserted_time};

@@ -40,23 +40,23 @@ low_digit : (n q r : ℕ) → n ≡ q * 2 + r → r < 2 → (n % 2 ≡ r) × (n 
 low_digit n q r e h = (omega arith, omega arith)
 
 -- ---- sums and products of sets
-pub bit_or : (g a b : ℕ) → bit_of (bit_or a b) g ≡ pick (bit_of a g) true (bit_of b g)
+pub bit_or_lem : (g a b : ℕ) → bit_of (bit_or a b) g ≡ pick (bit_of a g) true (bit_of b g)
 unfolding bit_of
-bit_or zero a b =
+bit_or_lem zero a b =
     let w = max_bit (a % 2) (b % 2) (omega arith) (omega arith) in
     ap (λ (x : ℕ). eqb x 1) (low_digit (bit_or a b) (bit_or (a / 2) (b / 2)) (max (a % 2) (b % 2)) (or_step a b) w.0).0 ∙ w.1
-bit_or (suc g) a b =
+bit_or_lem (suc g) a b =
     let w = max_bit (a % 2) (b % 2) (omega arith) (omega arith) in
-    ap (λ (x : ℕ). bit_of x g) (low_digit (bit_or a b) (bit_or (a / 2) (b / 2)) (max (a % 2) (b % 2)) (or_step a b) w.0).1 ∙ bit_or g (a / 2) (b / 2)
+    ap (λ (x : ℕ). bit_of x g) (low_digit (bit_or a b) (bit_or (a / 2) (b / 2)) (max (a % 2) (b % 2)) (or_step a b) w.0).1 ∙ bit_or_lem g (a / 2) (b / 2)
 
-pub bit_and : (g a b : ℕ) → bit_of (bit_and a b) g ≡ both (bit_of a g) (bit_of b g)
+pub bit_and_lem : (g a b : ℕ) → bit_of (bit_and a b) g ≡ both (bit_of a g) (bit_of b g)
 unfolding bit_of
-bit_and zero a b =
+bit_and_lem zero a b =
     let w = min_bit (a % 2) (b % 2) (omega arith) (omega arith) in
     ap (λ (x : ℕ). eqb x 1) (low_digit (bit_and a b) (bit_and (a / 2) (b / 2)) (min (a % 2) (b % 2)) (and_step a b) w.0).0 ∙ w.1
-bit_and (suc g) a b =
+bit_and_lem (suc g) a b =
     let w = min_bit (a % 2) (b % 2) (omega arith) (omega arith) in
-    ap (λ (x : ℕ). bit_of x g) (low_digit (bit_and a b) (bit_and (a / 2) (b / 2)) (min (a % 2) (b % 2)) (and_step a b) w.0).1 ∙ bit_and g (a / 2) (b / 2)
+    ap (λ (x : ℕ). bit_of x g) (low_digit (bit_and a b) (bit_and (a / 2) (b / 2)) (min (a % 2) (b % 2)) (and_step a b) w.0).1 ∙ bit_and_lem g (a / 2) (b / 2)
 
 -- ---- one bit alone
 doubled : (a : ℕ) → (2 ^ suc a % 2 ≡ 0) × (2 ^ suc a / 2 ≡ 2 ^ a)
@@ -94,11 +94,11 @@ sets-apart k a b h = go (eqb (bit_and a b) 0) refl (all (λ g. no (both (bit_of 
     go : (x : Bool) → eqb (bit_and a b) 0 ≡ x → (y : Bool) → all (λ g. no (both (bit_of a g) (bit_of b g))) k ≡ y → x ≡ y
     go true e true f = refl
     go false e false f = refl
-    go true e false f = sym (sym f ∙ all-is (λ g. no (both (bit_of a g) (bit_of b g))) k (λ g l. ap no (sym (bit_and g a b) ∙ ap (λ (x : ℕ). bit_of x g) (eqb-true (bit_and a b) 0 e) ∙ bit_none g)))
+    go true e false f = sym (sym f ∙ all-is (λ g. no (both (bit_of a g) (bit_of b g))) k (λ g l. ap no (sym (bit_and_lem g a b) ∙ ap (λ (x : ℕ). bit_of x g) (eqb-true (bit_and a b) 0 e) ∙ bit_none g)))
     go false e true f =
         let m = and_le_l a b in
         let l : bit_and a b < 2 ^ k = omega arith in
-        absurd (eqb-false (bit_and a b) 0 e (no_bits k (bit_and a b) l (λ g c. bit_and g a b ∙ no_true (both (bit_of a g) (bit_of b g)) (all-at (λ g. no (both (bit_of a g) (bit_of b g))) k g f c))))
+        absurd (eqb-false (bit_and a b) 0 e (no_bits k (bit_and a b) l (λ g c. bit_and_lem g a b ∙ no_true (both (bit_of a g) (bit_of b g)) (all-at (λ g. no (both (bit_of a g) (bit_of b g))) k g f c))))
 
 -- ---- a bit by a shift and a mask
 pub shifted_bit : (g n : ℕ) → bit_of n g ≡ eqb (n / 2 ^ g % 2) 1

@@ -18,7 +18,7 @@ use Rattle.types.specs.Begins.{as_tagged, begins, some_begins, member_begins, is
 use Rattle.types.specs.Inner.Work.{bit_of, context_bit, member_set, apart_from, union_from, never}
 use Rattle.types.proofs.TypeCases.{typed_cases, typed-sequence, typed-choice}
 use Rattle.clauses.proofs.PassLaws.{all_both}
-use Rattle.types.proofs.BitSets.{bit_none, bit_or, bit_one, sets-apart}
+use Rattle.types.proofs.BitSets.{bit_none, bit_or_lem, bit_one, sets-apart}
 
 pick_bit : (x : Bool) (g a b : ℕ) (c d : Bool) → (x ≡ true → bit_of a g ≡ c) → (x ≡ false → bit_of b g ≡ d) → bit_of (pick x a b) g ≡ pick x c d
 pick_bit true g a b c d p q = p refl
@@ -101,7 +101,7 @@ or_apart : (x y z : ℕ) → x < 2 ^ 64 → y < 2 ^ 64 → eqb (bit_and (bit_or 
 or_apart x y z hx hy =
     sets-apart 64 (bit_or x y) z (or_lt 64 x y hx hy)
     ∙ all_cong (λ g. no (both (bit_of (bit_or x y) g) (bit_of z g))) (λ g. both (no (both (bit_of x g) (bit_of z g))) (no (both (bit_of y g) (bit_of z g)))) 64
-    (λ g l. ap (λ (u : Bool). no (both u (bit_of z g))) (bit_or g x y) ∙ split (bit_of x g) (bit_of y g) (bit_of z g))
+    (λ g l. ap (λ (u : Bool). no (both u (bit_of z g))) (bit_or_lem g x y) ∙ split (bit_of x g) (bit_of y g) (bit_of z g))
     ∙ all_both (λ g. no (both (bit_of x g) (bit_of z g))) (λ g. no (both (bit_of y g) (bit_of z g))) 64
     ∙ sym (ap₂ both (sets-apart 64 x z hx) (sets-apart 64 y z hy))
   where
@@ -186,7 +186,7 @@ module _ (t s : List ℕ) (lo hi : ℕ) (f : ℕ → ℕ) (ty : ℕ → Ty)
       let r : b + 1 + k ≤ hi = omega arith in
       let d : lo ≤ b + 1 = omega arith in
       union-bits g l k (b + 1) (bit_or x (f b)) d r
-      ∙ ap (λ (u : Bool). either u (some_begins (members_from ty t s (b + 1) k) g)) (bit_or g x (f b) ∙ ap (either (bit_of x g)) (right b h hb g l ∙ begins-is (member_of t b (row_at s b)) (ty (named_at t (row_at s b))) g))
+      ∙ ap (λ (u : Bool). either u (some_begins (members_from ty t s (b + 1) k) g)) (bit_or_lem g x (f b) ∙ ap (either (bit_of x g)) (right b h hb g l ∙ begins-is (member_of t b (row_at s b)) (ty (named_at t (row_at s b))) g))
       ∙ joined (bit_of x g) (as_tagged (member_of t b (row_at s b)).tagging (begins (ty (named_at t (row_at s b))) g) g) (some_begins (members_from ty t s (b + 1) k) g)
     where
       joined : (a c d : Bool) → either (either a c) d ≡ either a (either c d)

@@ -1,4 +1,6 @@
 // The types that a table describes: the tags that each row can begin with.
+#![tactic(auto)]
+
 ghost use Rattle.std.specs.Prelude.{◌≡◌, ◌<◌, ◌^◌};
 ghost use Rattle.der.specs.Tag.{tag_of};
 ghost use Rattle.types.specs.Inner.Work as work;

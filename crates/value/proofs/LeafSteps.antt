@@ -128,8 +128,8 @@ module _ (k : ℕ) (v : List ℕ) (before i next : ℕ) where
 
 -- ---- contents of a basic kind
 module _ (stop : ℕ) (r x : Bool) (e : r ≡ x) where
-  pub up_to : r ≡ true → Checked.At stop ≡ up_to stop x
-  up_to h = rw (sym e ∙ h)
+  pub up_checked : r ≡ true → Checked.At stop ≡ up_to stop x
+  up_checked h = rw (sym e ∙ h)
 
   pub up_not : r ≡ false → Checked.Bad ≡ up_to stop x
   up_not h = rw (sym e ∙ h)

@@ -15,4 +15,3 @@ pub mod NestedSteps
 pub mod ElementSteps
 pub mod EntrySteps
 pub mod PartSteps
-pub mod PartCall

@@ -1,4 +1,6 @@
 // The check of a stored value: whether the octets are one value of the type of row 0, and the octets of a part of it.
+#![tactic(auto)]
+
 ghost use Rattle.std.specs.Prelude.{◌≡◌, true, false, ◌≤◌, ◌<◌, ◌+◌, ◌-◌, length};
 ghost use Rattle.octets.specs.Pick.{is_some};
 ghost use Rattle.octets.specs.Octets.{octet, part, same};
@@ -19,7 +21,7 @@ use der::{Inside, Kind};
 use rows::Table;
 
 // A stored value: the limits of every one.
-#[derive(Drop)]
+#[derive(Clone, Copy)]
 pub struct Value;
 
 impl Value {
@@ -39,21 +41,21 @@ impl Value {
 }
 
 // The answer of the value check: good, or a refusal.
-#[derive(Drop)]
+#[derive(Clone, Copy)]
 pub enum ValueCheck {
     Good,
     Refused(u8),
 }
 
 // The answer of the check of one value: the place after it, or none.
-#[derive(Drop)]
+#[derive(Clone, Copy)]
 pub enum Checked {
     At(usize),
     Bad,
 }
 
 // The alternative that a CHOICE's value is of: its member row, or none.
-#[derive(Drop)]
+#[derive(Clone, Copy)]
 pub enum Alternative {
     Of(usize),
     Missing,
@@ -292,7 +294,7 @@ fn stored_default(t: &[u8], w: &[u64; 256], v: &[u8], row: usize, at: usize, end
 }
 
 // Whether neighbours in a list are in order: those of a SET OF, each not above the next.
-fn in_order_lem(kind: u8, v: &[u8], before: usize, i: usize, next: usize) -> bool
+fn in_order(kind: u8, v: &[u8], before: usize, i: usize, next: usize) -> bool
     requires low { before ≤ i }
     requires high { i ≤ next }
     requires inside { next ≤ length v.now }
@@ -664,7 +666,7 @@ pub fn check_value(table: &[u8], value: &[u8]) -> ValueCheck
 
 // ---- the fifth entry
 // The answer of the fifth entry: the part, and the refusal number, 0 for none.
-#[derive(Drop)]
+#[derive(Clone, Copy)]
 pub struct ValuePart<'a> {
     pub octets: &'a [u8],
     pub refusal: u8,

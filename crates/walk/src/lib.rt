@@ -1,4 +1,5 @@
 // The walk along a plan on a stored value, with one task: count, list, test. Headers are read and not doubted.
+#![tactic(auto)]
 ghost use Rattle.std.specs.Prelude.{◌≡◌, ◌≤◌, ◌<◌, ◌+◌, ◌-◌, length, []};
 ghost use Rattle.rows.specs.Row.{members_at};
 ghost use Rattle.table.specs.Inner.Rows.{table_rows, MemberRow, place_at, tagging_at};
@@ -16,7 +17,7 @@ ghost use Rattle.walk.specs.Inner.Walk as walk;
 use plan::Sort;
 
 // Where a walk stands: going on after so many components; stopped at an accepted one, after so many tests; over, without room or budget.
-#[derive(Drop)]
+#[derive(Clone, Copy)]
 pub enum State {
     Going(usize),
     Accepted(usize),
@@ -24,14 +25,14 @@ pub enum State {
 }
 
 // A step of a plan, and the place of the value that it starts from.
-#[derive(Drop)]
+#[derive(Clone, Copy)]
 pub struct Place {
     pub step: usize,
     pub at: usize,
 }
 
 // A step of a plan, and the values that it starts from, one after another from start up to stop.
-#[derive(Drop)]
+#[derive(Clone, Copy)]
 pub struct Places {
     pub step: usize,
     pub start: usize,
@@ -40,7 +41,7 @@ pub struct Places {
 
 // Where steps that lead to one value at most end: at a step that does not, and the place of the value that it starts from; at a step whose member is absent,
 // and the place of its SEQUENCE; or they lead to nothing.
-#[derive(Drop)]
+#[derive(Clone, Copy)]
 pub enum Reached {
     At(usize, usize),
     Absent(usize, usize),
@@ -48,7 +49,7 @@ pub enum Reached {
 }
 
 // Where one step leads: to a value at a place; to a member that is absent; to nothing.
-#[derive(Drop)]
+#[derive(Clone, Copy)]
 pub enum Move {
     To(usize),
     Absent,
@@ -87,7 +88,7 @@ fn next_after(v: &[u8], at: usize) -> usize
 }
 
 // Both.
-#[derive(Drop)]
+#[derive(Clone, Copy)]
 pub struct Span {
     pub start: usize,
     pub end: usize,

@@ -1,0 +1,22 @@
+use Prim.Native.Nat.{◌+◌, ◌-◌}
+use lib.ListN.{length}
+use Rattle.bitnames.specs.Inner.Sets.{names_after}
+use Rattle.bitnames.proofs.SetSteps.{number-low, Gathering, gather_start, gather_done, gather_unknown, gather_next}
+use Rattle.types.proofs.TagSteps.{one_bit}
+use borrow.Author.Rules.{rules}
+use Rattle.bitnames.proofs.listed_in.Goals as goal
+
+pub loop-at-init : goal.loop-at-init
+loop-at-init c = search gather_start
+
+pub returns-in_default : goal.returns-in_default
+returns-in_default c = search gather_unknown
+
+pub overflow_shl-set : goal.overflow_shl-set
+overflow_shl-set c = search number-low
+
+pub loop-at-preserved : goal.loop-at-preserved
+loop-at-preserved c = search (gather_next, one_bit, number-low)
+
+pub returns : goal.returns
+returns c = search gather_done

@@ -1,0 +1,9 @@
+use Rattle.clauses.proofs.Steps.{allowed-is, allowed_not}
+use borrow.Author.Rules.{rules}
+use Rattle.clauses.proofs.default_allowed.Goals as goal
+
+pub returns-then-not-within : goal.returns-then-not-within
+returns-then-not-within c = search allowed_not
+
+pub returns : goal.returns
+returns c = search allowed-is

@@ -1,0 +1,11 @@
+use Prim.Native.Nat.{◌-◌, ◌*◌}
+use Rattle.clauses.specs.Inner.Work.{number_differs_at}
+use Rattle.clauses.proofs.NameSteps.{Tested, before-octet, before-fits, number-start, number_repeated, number-other, number-new}
+use borrow.Author.Rules.{rules}
+use Rattle.clauses.proofs.new_number.Given as goal
+
+abbrev pub invariant-loop-k : goal.invariant-loop-k
+invariant-loop-k l = Tested (number_differs_at l.t l.w l.first l.p) l.first l.n l.k
+
+abbrev pub decreases-loop-k : goal.decreases-loop-k
+decreases-loop-k l = 2 * l.n - l.k

@@ -1,0 +1,12 @@
+use lib.ListN.{length}
+use Prim.Native.Nat.{◌-◌}
+use Rattle.clauses.proofs.PassSteps.{Passing, fails_counted, none_placed, pass_start, set_space, due-kind, due-before, pass_many, pass_missing, pass_misfit, pass_follower}
+use Rattle.clauses.proofs.PassSteps.{pass_unsized, pass_type, pass_due, pass_done}
+use borrow.Author.Rules.{rules}
+use Rattle.clauses.proofs.scan.Given as goal
+
+abbrev pub invariant-loop-at : goal.invariant-loop-at
+invariant-loop-at l = Passing l.t l.w l.at l.n l.follower l.due l.first
+
+abbrev pub decreases-loop-at : goal.decreases-loop-at
+decreases-loop-at l = length l.t - l.at

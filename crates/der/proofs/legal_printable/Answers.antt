@@ -1,0 +1,20 @@
+use Rattle.octets.proofs.Laws.{every-done, every-bad, every_more}
+use Rattle.der.specs.Contents.{is_printable, legal_printable}
+use Rattle.octets.specs.Octets.{every}
+use mathlib.Core.Path.{◌≡◌}
+use Prim.Native.Nat.{◌-◌}
+use lib.ListN.{length, drop}
+use borrow.Author.Rules.{rules}
+use Rattle.der.proofs.legal_printable.Goals as goal
+
+pub returns-then-not-is_printable : goal.returns-then-not-is_printable
+unfolding legal_printable
+returns-then-not-is_printable c = search every-bad
+
+pub loop-i-preserved : goal.loop-i-preserved
+unfolding legal_printable
+loop-i-preserved c = search every_more
+
+pub returns : goal.returns
+unfolding legal_printable
+returns c = search every-done

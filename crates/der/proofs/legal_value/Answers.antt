@@ -1,0 +1,15 @@
+use Rattle.der.proofs.NameSteps.{value-misfit, value-starts, value_before-end, value-is}
+use borrow.Author.Rules.{rules}
+use Rattle.der.proofs.legal_value.Goals as goal
+
+pub returns-in_default : goal.returns-in_default
+returns-in_default c = search value-misfit
+
+pub overflow_sub-c : goal.overflow_sub-c
+overflow_sub-c c = search value-starts
+
+pub returns-then-c-start : goal.returns-then-c-start
+returns-then-c-start c = search value_before-end
+
+pub returns : goal.returns
+returns c = search value-is

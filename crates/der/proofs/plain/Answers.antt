@@ -1,0 +1,20 @@
+use Rattle.der.proofs.MeaningSteps.{Plain, plain-start, plain-times, plain-plus, plain_more, plain_end}
+use Prim.Native.Nat.{◌-◌}
+use lib.ListN.{length}
+use borrow.Author.Rules.{rules}
+use Rattle.der.proofs.plain.Goals as goal
+
+pub loop-i-init : goal.loop-i-init
+loop-i-init c = search plain-start
+
+pub overflow_mul-n : goal.overflow_mul-n
+overflow_mul-n c = record { fits = search plain-times }
+
+pub overflow_add-n : goal.overflow_add-n
+overflow_add-n c = record { fits = search plain-plus }
+
+pub loop-i-preserved : goal.loop-i-preserved
+loop-i-preserved c = search plain_more
+
+pub returns : goal.returns
+returns c = search plain_end

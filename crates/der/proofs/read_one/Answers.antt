@@ -1,0 +1,9 @@
+use Rattle.der.proofs.Steps.{one-is, one-past}
+use borrow.Author.Rules.{rules}
+use Rattle.der.proofs.read_one.Goals as goal
+
+pub returns-then-end-at-lt2 : goal.returns-then-end-at-lt2
+returns-then-end-at-lt2 c = search one-past
+
+pub returns : goal.returns
+returns c = search one-is

@@ -1,0 +1,14 @@
+use Rattle.der.proofs.SubSteps.{mask_fits, sub_80, sub_cut, sub-end, sub_more, sub-over, sub-start, sub-value}
+use Rattle.der.specs.Contents.{subs_from, subidentifiers}
+use mathlib.Core.Bool.{true}
+use mathlib.Core.Path.{◌≡◌}
+use Prim.Native.Nat.{◌-◌, ◌≤◌}
+use lib.ListN.{length, drop}
+use borrow.Author.Rules.{rules}
+use Rattle.der.proofs.read_sub.Given as goal
+
+abbrev pub invariant-loop-i : goal.invariant-loop-i
+invariant-loop-i l = (l.at ≤ l.i) × (subs_from true l.v (drop l.i l.c) ≡ subidentifiers (drop l.at l.c))
+
+abbrev pub decreases-loop-i : goal.decreases-loop-i
+decreases-loop-i l = length l.c - l.i

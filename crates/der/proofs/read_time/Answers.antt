@@ -1,0 +1,6 @@
+use Rattle.der.proofs.TimeSteps.{says}
+use borrow.Author.Rules.{rules}
+use Rattle.der.proofs.read_time.Goals as goal
+
+pub returns : goal.returns
+returns c = search says

@@ -1,0 +1,17 @@
+use Prim.Native.Nat.{◌-◌}
+use lib.ListN.{length}
+use Rattle.der.proofs.ContentsSteps.{Skipped, skip-none, skip-more, skipped_same}
+use borrow.Author.Rules.{rules}
+use Rattle.der.proofs.skip_printable.Goals as goal
+
+pub loop-i-init : goal.loop-i-init
+loop-i-init c = search skip-none
+
+pub returns-then-not-four_printable : goal.returns-then-not-four_printable
+returns-then-not-four_printable c = search skipped_same
+
+pub loop-i-preserved : goal.loop-i-preserved
+loop-i-preserved c = search skip-more
+
+pub returns : goal.returns
+returns c = search skipped_same

@@ -1,0 +1,11 @@
+use Prim.Native.Nat.{◌-◌}
+use lib.ListN.{length}
+use Rattle.der.proofs.ContentsSteps.{Skipped, skip-none, skip-more, skipped_same}
+use borrow.Author.Rules.{rules}
+use Rattle.der.proofs.skip_printable.Given as goal
+
+abbrev pub invariant-loop-i : goal.invariant-loop-i
+invariant-loop-i l = Skipped l.c l.i
+
+abbrev pub decreases-loop-i : goal.decreases-loop-i
+decreases-loop-i l = length l.c - l.i

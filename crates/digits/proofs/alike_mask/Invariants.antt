@@ -1,0 +1,14 @@
+use Prim.Native.Nat.{◌-◌}
+use Rattle.der.specs.Meaning.{bits_of}
+use Rattle.digits.proofs.NamedSteps.{mask_differ, mask_done, mask_last, mask_on}
+use Rattle.digits.specs.Inner.Alike.{alike_number}
+use lib.ListN.{drop}
+use mathlib.Core.Path.{◌≡◌, refl}
+use borrow.Author.Rules.{rules}
+use Rattle.digits.proofs.alike_mask.Given as goal
+
+abbrev pub invariant-loop-i : goal.invariant-loop-i
+invariant-loop-i l = alike_number (drop l.i (bits_of l.c)) l.rest ≡ alike_number (bits_of l.c) l.mask
+
+abbrev pub decreases-loop-i : goal.decreases-loop-i
+decreases-loop-i l = l.n - l.i

@@ -1,0 +1,28 @@
+use Prim.Native.Nat.{◌-◌}
+use Rattle.der.specs.Meaning.{bits_of}
+use Rattle.digits.proofs.NamedSteps.{alike-differ, alike-done, alike-on, alike-start}
+use Rattle.digits.proofs.SignificantLaws.{ends_some, digits-differ}
+use Rattle.digits.specs.Inner.Alike.{alike}
+use Rattle.digits.specs.Inner.Answers.{bits_in, rest_bits}
+use lib.ListN.{drop}
+use mathlib.Core.Path.{◌≡◌}
+use borrow.Author.Rules.{rules}
+use Rattle.digits.proofs.alike_text.Goals as goal
+
+pub overflow_sub-n : goal.overflow_sub-n
+overflow_sub-n c = search ends_some
+
+pub returns-then-bit_at-ne0 : goal.returns-then-bit_at-ne0
+returns-then-bit_at-ne0 c = search digits-differ
+
+pub loop-i-init : goal.loop-i-init
+loop-i-init c = search alike-start
+
+pub returns-then-bit_at-drawn : goal.returns-then-bit_at-drawn
+returns-then-bit_at-drawn c = search alike-differ
+
+pub loop-i-preserved : goal.loop-i-preserved
+loop-i-preserved c = search alike-on
+
+pub returns : goal.returns
+returns c = search alike-done

@@ -1,0 +1,20 @@
+use Prim.Native.Nat.{◌-◌}
+use Rattle.digits.specs.Asserted.{is_hex_digit}
+use Rattle.octets.proofs.Laws.{every-bad, every-done, every_more}
+use Rattle.octets.specs.Octets.{every}
+use lib.ListN.{drop, length}
+use mathlib.Core.Path.{◌≡◌, refl}
+use borrow.Author.Rules.{rules}
+use Rattle.digits.proofs.all_hex.Goals as goal
+
+pub loop-i-init : goal.loop-i-init
+loop-i-init c = refl
+
+pub returns-then-not-is_hex_digit : goal.returns-then-not-is_hex_digit
+returns-then-not-is_hex_digit c = search every-bad
+
+pub loop-i-preserved : goal.loop-i-preserved
+loop-i-preserved c = search every_more
+
+pub returns : goal.returns
+returns c = search every-done

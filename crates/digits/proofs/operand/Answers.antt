@@ -1,0 +1,6 @@
+use Rattle.digits.proofs.Steps.{digits-none}
+use borrow.Author.Rules.{rules}
+use Rattle.digits.proofs.operand.Goals as goal
+
+pub returns-then-t-le3 : goal.returns-then-t-le3
+returns-then-t-le3 c = search digits-none

@@ -1,0 +1,24 @@
+use Prim.Native.Nat.{◌-◌}
+use Rattle.digits.proofs.BitSteps.{bits-differ, bits-done, bits-on, bits-short, bits-start}
+use Rattle.digits.specs.Inner.Answers.{bits_in, rest_bits}
+use Rattle.der.specs.Meaning.{bits_of}
+use Rattle.octets.specs.Octets.{same}
+use lib.ListN.{drop}
+use mathlib.Core.Path.{◌≡◌}
+use borrow.Author.Rules.{rules}
+use Rattle.digits.proofs.same_bit_list.Goals as goal
+
+pub loop-i-init : goal.loop-i-init
+loop-i-init c = search bits-start
+
+pub returns-in_default : goal.returns-in_default
+returns-in_default c = search bits-short
+
+pub returns-then-bit_at-x : goal.returns-then-bit_at-x
+returns-then-bit_at-x c = search bits-differ
+
+pub loop-i-preserved : goal.loop-i-preserved
+loop-i-preserved c = search bits-on
+
+pub returns : goal.returns
+returns c = search bits-done

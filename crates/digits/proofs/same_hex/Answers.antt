@@ -1,0 +1,6 @@
+use Rattle.digits.proofs.Steps.{same_hex_is}
+use borrow.Author.Rules.{rules}
+use Rattle.digits.proofs.same_hex.Goals as goal
+
+pub returns : goal.returns
+returns c = search same_hex_is

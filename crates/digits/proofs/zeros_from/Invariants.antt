@@ -1,0 +1,14 @@
+use Rattle.digits.proofs.NamedSteps.{zeros_end, zeros_fall, zeros_on, zeros_other}
+use Rattle.digits.specs.Inner.Alike.{alike}
+use Rattle.digits.specs.Inner.Answers.{rest_bits}
+use lib.ListN.{length}
+use mathlib.Core.List.{[]}
+use mathlib.Core.Path.{◌≡◌, refl}
+use borrow.Author.Rules.{rules}
+use Rattle.digits.proofs.zeros_from.Given as goal
+
+abbrev pub invariant-loop-x : goal.invariant-loop-x
+invariant-loop-x l = alike [] (rest_bits l.hexed l.h l.a) ≡ alike [] (rest_bits l.hexed l.h l.initial.a)
+
+abbrev pub decreases-loop-x : goal.decreases-loop-x
+decreases-loop-x l = length (rest_bits l.hexed l.h l.a)

@@ -1,0 +1,24 @@
+use Rattle.der.specs.Dotted.{every_number}
+use Rattle.dotted.proofs.ArcSteps.{numbers-bad, numbers-done, numbers_longer, numbers_next, numbers-start}
+use Rattle.dotted.specs.Inner.Arcs.{numbers_after}
+use Rattle.octets.specs.Text.{pieces}
+use lib.ListN.{drop, length}
+use mathlib.Core.Path.{◌≡◌}
+use Prim.Native.Nat.{◌-◌}
+use borrow.Author.Rules.{rules}
+use Rattle.dotted.proofs.all_numbers.Goals as goal
+
+pub loop-i-init : goal.loop-i-init
+loop-i-init c = search numbers-start
+
+pub returns-then-not-is_formed : goal.returns-then-not-is_formed
+returns-then-not-is_formed c = search numbers-bad
+
+pub loop-i-preserved-then-b-eq46 : goal.loop-i-preserved-then-b-eq46
+loop-i-preserved-then-b-eq46 c = search numbers_next
+
+pub loop-i-preserved : goal.loop-i-preserved
+loop-i-preserved c = search numbers_longer
+
+pub returns : goal.returns
+returns c = search numbers-done

@@ -1,0 +1,13 @@
+use Prim.Native.Nat.{◌-◌}
+use Rattle.dotted.proofs.ArcSteps.{arc_done, arc_dot, arc_more, arc_start}
+use Rattle.dotted.specs.Inner.Arcs.{arc_at, arc_from}
+use lib.ListN.{drop, length}
+use mathlib.Core.Path.{◌≡◌}
+use borrow.Author.Rules.{rules}
+use Rattle.dotted.proofs.read_arc.Given as goal
+
+abbrev pub invariant-loop-i : goal.invariant-loop-i
+invariant-loop-i l = arc_from l.d (drop l.i l.t) l.i ≡ arc_at l.t l.at
+
+abbrev pub decreases-loop-i : goal.decreases-loop-i
+decreases-loop-i l = length l.t - l.i

@@ -1,0 +1,11 @@
+use Prim.Native.Nat.{◌-◌}
+use Rattle.dotted.proofs.SmallSteps.{Reading, small-start, small_dot, small-fits, tens_fit, small-above, small-more, small-done}
+use lib.ListN.{length}
+use borrow.Author.Rules.{rules}
+use Rattle.dotted.proofs.small_arc.Given as goal
+
+abbrev pub invariant-loop-i : goal.invariant-loop-i
+invariant-loop-i l = Reading l.t l.at l.i l.n
+
+abbrev pub decreases-loop-i : goal.decreases-loop-i
+decreases-loop-i l = length l.t - l.i

@@ -1,0 +1,20 @@
+use Rattle.escape.specs.Escape.{escaped_text}
+use Rattle.escape.proofs.Laws.{to_come}
+use Rattle.escape.proofs.Steps.{fits-start, fits-done, fits_not, fits_more}
+use mathlib.Core.Path.{◌≡◌}
+use Prim.Native.Nat.{◌+◌, ◌-◌}
+use lib.ListN.{length}
+use borrow.Author.Rules.{rules}
+use Rattle.escape.proofs.fits.Goals as goal
+
+pub loop-i-init : goal.loop-i-init
+loop-i-init c = search fits-start
+
+pub returns-then-left-w : goal.returns-then-left-w
+returns-then-left-w c = search fits_not
+
+pub loop-i-preserved : goal.loop-i-preserved
+loop-i-preserved c = search fits_more
+
+pub returns : goal.returns
+returns c = search fits-done

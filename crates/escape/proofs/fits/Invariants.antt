@@ -1,0 +1,14 @@
+use Rattle.escape.specs.Escape.{escaped_text}
+use Rattle.escape.proofs.Laws.{to_come}
+use Rattle.escape.proofs.Steps.{fits-start, fits-done, fits_not, fits_more}
+use mathlib.Core.Path.{◌≡◌}
+use Prim.Native.Nat.{◌+◌, ◌-◌}
+use lib.ListN.{length}
+use borrow.Author.Rules.{rules}
+use Rattle.escape.proofs.fits.Given as goal
+
+abbrev pub invariant-loop-i : goal.invariant-loop-i
+invariant-loop-i l = length (escaped_text l.text) + l.left ≡ l.size + length (to_come l.text l.i)
+
+abbrev pub decreases-loop-i : goal.decreases-loop-i
+decreases-loop-i l = length l.text - l.i

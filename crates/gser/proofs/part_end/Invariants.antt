@@ -1,0 +1,11 @@
+use Prim.Native.Nat.{◌-◌}
+use Rattle.gser.proofs.Steps.{Parting, parting_ends, parting_found, parting_on, parting_start}
+use lib.ListN.{length}
+use borrow.Author.Rules.{rules}
+use Rattle.gser.proofs.part_end.Given as goal
+
+abbrev pub invariant-loop-i : goal.invariant-loop-i
+invariant-loop-i l = Parting l.s l.at l.i
+
+abbrev pub decreases-loop-i : goal.decreases-loop-i
+decreases-loop-i l = length l.s - l.i

@@ -1,0 +1,6 @@
+use Rattle.integers.proofs.Steps.{after_first-is}
+use borrow.Author.Rules.{rules}
+use Rattle.integers.proofs.after_first.Goals as goal
+
+pub returns : goal.returns
+returns c = search after_first-is

@@ -1,0 +1,6 @@
+use Rattle.integers.proofs.Steps.{count-is}
+use borrow.Author.Rules.{rules}
+use Rattle.integers.proofs.lift_count.Goals as goal
+
+pub returns : goal.returns
+returns c = search count-is

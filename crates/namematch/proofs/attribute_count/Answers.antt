@@ -1,0 +1,6 @@
+use Rattle.namematch.proofs.Steps.{one-before}
+use borrow.Author.Rules.{rules}
+use Rattle.namematch.proofs.attribute_count.Goals as goal
+
+pub returns : goal.returns
+returns c = search one-before

@@ -1,0 +1,27 @@
+use Rattle.namematch.proofs.Steps.{Counting, count-start, count_full, count-misfit, count_falls, count-more, count-done}
+use Rattle.der.proofs.NameSteps.{contents-fit}
+use Prim.Native.Nat.{◌-◌}
+use lib.ListN.{length}
+use borrow.Author.Rules.{rules}
+use Rattle.namematch.proofs.count.Goals as goal
+
+pub loop-at-init : goal.loop-at-init
+loop-at-init c = search count-start
+
+pub returns-then-most-n : goal.returns-then-most-n
+returns-then-most-n c = search count_full
+
+pub returns-in_default : goal.returns-in_default
+returns-in_default c = search count-misfit
+
+pub overflow_add-at : goal.overflow_add-at
+overflow_add-at c = record { fits = search contents-fit }
+
+pub loop-at-smaller : goal.loop-at-smaller
+loop-at-smaller c = search count_falls
+
+pub loop-at-preserved : goal.loop-at-preserved
+loop-at-preserved c = search count-more
+
+pub returns : goal.returns
+returns c = search count-done

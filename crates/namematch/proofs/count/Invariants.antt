@@ -1,0 +1,12 @@
+use Rattle.namematch.proofs.Steps.{Counting, count-start, count_full, count-misfit, count_falls, count-more, count-done}
+use Rattle.der.proofs.NameSteps.{contents-fit}
+use Prim.Native.Nat.{◌-◌}
+use lib.ListN.{length}
+use borrow.Author.Rules.{rules}
+use Rattle.namematch.proofs.count.Given as goal
+
+abbrev pub invariant-loop-at : goal.invariant-loop-at
+invariant-loop-at l = Counting l.tag l.most l.c l.n l.at
+
+abbrev pub decreases-loop-at : goal.decreases-loop-at
+decreases-loop-at l = length l.c - l.at

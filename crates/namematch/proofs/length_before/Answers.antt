@@ -1,0 +1,6 @@
+use Rattle.namematch.proofs.Steps.{two-before}
+use borrow.Author.Rules.{rules}
+use Rattle.namematch.proofs.length_before.Goals as goal
+
+pub returns : goal.returns
+returns c = search two-before

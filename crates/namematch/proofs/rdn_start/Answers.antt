@@ -1,0 +1,6 @@
+use Rattle.namematch.proofs.Steps.{start_told}
+use borrow.Author.Rules.{rules}
+use Rattle.namematch.proofs.rdn_start.Goals as goal
+
+pub returns : goal.returns
+returns c = search start_told

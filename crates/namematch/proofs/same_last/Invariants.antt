@@ -1,0 +1,12 @@
+use Rattle.namematch.proofs.NameSteps.{Reaching, reach-start, reach-none, reach-misfit, reach-more, reach-fewer, reach-last}
+use Rattle.der.proofs.NameLaws.{rdn_usable}
+use Rattle.der.proofs.NameSteps.{contents-fit}
+use Prim.Native.Nat.{◌-◌}
+use borrow.Author.Rules.{rules}
+use Rattle.namematch.proofs.same_last.Given as goal
+
+abbrev pub invariant-loop-i : goal.invariant-loop-i
+invariant-loop-i l = Reaching l.c l.x l.n l.place l.reached l.i
+
+abbrev pub decreases-loop-i : goal.decreases-loop-i
+decreases-loop-i l = l.last - l.i

@@ -1,0 +1,10 @@
+use Prim.Native.Nat.{◌-◌}
+use Rattle.nameoperand.proofs.Steps.{Copying, copy_start, copy_long, copy_room, copy_fits, copy_more, copy_done, copy_place}
+use borrow.Author.Rules.{rules}
+use Rattle.nameoperand.proofs.copy.Given as goal
+
+abbrev pub invariant-loop-i : goal.invariant-loop-i
+invariant-loop-i l = Copying l.p l.from l.to l.n l.initial.memory l.i l.at l.memory
+
+abbrev pub decreases-loop-i : goal.decreases-loop-i
+decreases-loop-i l = l.to - l.i

@@ -1,0 +1,12 @@
+use Prim.Native.Nat.{◌-◌}
+use lib.ListN.{length}
+use Rattle.nameoperand.proofs.WritingSteps.{type-long, Writing, writing_start, writing_none, writing_long, writing_behind, value-behind, value-within}
+use Rattle.nameoperand.proofs.WritingSteps.{count_fits, count_room, count_small, writing_done, writing_on, writing_falls, writing_more}
+use borrow.Author.Rules.{rules}
+use Rattle.nameoperand.proofs.write_from.Given as goal
+
+abbrev pub invariant-loop-a : goal.invariant-loop-a
+invariant-loop-a l = Writing l.p l.first l.from l.initial.memory l.at l.n l.count l.memory
+
+abbrev pub decreases-loop-a : goal.decreases-loop-a
+decreases-loop-a l = length l.p - l.at

@@ -1,0 +1,9 @@
+use Rattle.octets.proofs.Tests.{tests}
+use borrow.Author.Rules.{rules}
+use Rattle.names.proofs.ends_value.Goals as goal
+
+pub returns-then-b-eq43 : goal.returns-then-b-eq43
+returns-then-b-eq43 c = search tests
+
+pub returns : goal.returns
+returns c = search tests

@@ -1,0 +1,20 @@
+use Rattle.octets.specs.Octets.{every}
+use Rattle.octets.specs.Text.{is_digit}
+use mathlib.Core.Path.{◌≡◌, refl}
+use Prim.Native.Nat.{◌-◌}
+use lib.ListN.{length, drop}
+use Rattle.octets.proofs.Laws.{every-done, every-bad, every_more}
+use borrow.Author.Rules.{rules}
+use Rattle.octets.proofs.all_digits.Goals as goal
+
+pub loop-i-init : goal.loop-i-init
+loop-i-init c = refl
+
+pub returns-then-not-is_digit : goal.returns-then-not-is_digit
+returns-then-not-is_digit c = search every-bad
+
+pub loop-i-preserved : goal.loop-i-preserved
+loop-i-preserved c = search every_more
+
+pub returns : goal.returns
+returns c = search every-done

@@ -1,0 +1,14 @@
+use Prim.Native.Nat.{◌-◌}
+use lib.ListN.{length}
+use Rattle.octets.proofs.Steps.{Decimal, decimal-start, decimal-more, decimal-done}
+use borrow.Author.Rules.{rules}
+use Rattle.octets.proofs.decimal.Goals as goal
+
+pub loop-i-init : goal.loop-i-init
+loop-i-init c = search decimal-start
+
+pub loop-i-preserved : goal.loop-i-preserved
+loop-i-preserved c = search decimal-more
+
+pub returns : goal.returns
+returns c = search decimal-done

@@ -1,0 +1,11 @@
+use Prim.Native.Nat.{◌-◌}
+use lib.ListN.{length}
+use Rattle.octets.proofs.Steps.{Decimal, decimal-start, decimal-more, decimal-done}
+use borrow.Author.Rules.{rules}
+use Rattle.octets.proofs.decimal.Given as goal
+
+abbrev pub invariant-loop-i : goal.invariant-loop-i
+invariant-loop-i l = Decimal l.s l.i l.size
+
+abbrev pub decreases-loop-i : goal.decreases-loop-i
+decreases-loop-i l = length l.s - l.i

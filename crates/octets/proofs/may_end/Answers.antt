@@ -1,0 +1,6 @@
+use Rattle.octets.proofs.Steps.{end_is}
+use borrow.Author.Rules.{rules}
+use Rattle.octets.proofs.may_end.Goals as goal
+
+pub returns : goal.returns
+returns c = search end_is

@@ -1,0 +1,29 @@
+use Rattle.reference.proofs.NameSteps.{name-short, name_longer, name-other, name-fill, name-on, name_done}
+use Rattle.octets.specs.Octets.{same}
+use Rattle.rows.specs.Row.{unfilled}
+use mathlib.Core.Path.{◌≡◌, refl}
+use Prim.Native.Nat.{◌-◌, ◌≤◌}
+use lib.ListN.{length, drop}
+use borrow.Author.Rules.{rules}
+use Rattle.reference.proofs.has_name.Goals as goal
+
+pub returns-then-field-x : goal.returns-then-field-x
+returns-then-field-x c = search name-short
+
+pub returns-then-octet-ne0 : goal.returns-then-octet-ne0
+returns-then-octet-ne0 c = search name_longer
+
+pub loop-i-init : goal.loop-i-init
+loop-i-init c = (search rules, refl)
+
+pub returns-then-field-i : goal.returns-then-field-i
+returns-then-field-i c = search name-other
+
+pub returns-then-x-i-eq0 : goal.returns-then-x-i-eq0
+returns-then-x-i-eq0 c = search name-fill
+
+pub loop-i-preserved : goal.loop-i-preserved
+loop-i-preserved c = (search rules, search name-on)
+
+pub returns : goal.returns
+returns c = search name_done

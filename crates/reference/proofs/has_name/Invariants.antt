@@ -1,0 +1,14 @@
+use Rattle.reference.proofs.NameSteps.{name-short, name_longer, name-other, name-fill, name-on, name_done}
+use Rattle.octets.specs.Octets.{same}
+use Rattle.rows.specs.Row.{unfilled}
+use mathlib.Core.Path.{◌≡◌, refl}
+use Prim.Native.Nat.{◌-◌, ◌≤◌}
+use lib.ListN.{length, drop}
+use borrow.Author.Rules.{rules}
+use Rattle.reference.proofs.has_name.Given as goal
+
+abbrev pub invariant-loop-i : goal.invariant-loop-i
+invariant-loop-i l = (l.i ≤ length l.x) × (same (unfilled (drop l.i l.field)) (drop l.i l.x) ≡ same (unfilled l.field) l.x)
+
+abbrev pub decreases-loop-i : goal.decreases-loop-i
+decreases-loop-i l = length l.x - l.i

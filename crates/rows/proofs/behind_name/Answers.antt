@@ -1,0 +1,6 @@
+use Rattle.rows.proofs.Steps.{behind-is}
+use borrow.Author.Rules.{rules}
+use Rattle.rows.proofs.behind_name.Goals as goal
+
+pub returns : goal.returns
+returns c = search behind-is

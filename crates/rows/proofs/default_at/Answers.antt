@@ -1,0 +1,6 @@
+use Rattle.rows.proofs.Steps.{default-is}
+use borrow.Author.Rules.{rules}
+use Rattle.rows.proofs.default_at.Goals as goal
+
+pub returns : goal.returns
+returns c = search default-is

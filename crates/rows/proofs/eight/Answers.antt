@@ -1,0 +1,6 @@
+use Rattle.rows.proofs.NumberSteps.{eight_is}
+use borrow.Author.Rules.{rules}
+use Rattle.rows.proofs.eight.Goals as goal
+
+pub returns : goal.returns
+returns c = search eight_is

@@ -1,0 +1,6 @@
+use Rattle.rows.proofs.Steps.{fields_are}
+use borrow.Author.Rules.{rules}
+use Rattle.rows.proofs.fields.Goals as goal
+
+pub returns : goal.returns
+returns c = search fields_are

@@ -1,0 +1,9 @@
+use Rattle.rows.proofs.NumberSteps.{filled_none, filled_eight}
+use borrow.Author.Rules.{rules}
+use Rattle.rows.proofs.filled_8.Goals as goal
+
+pub returns-then-n-eq8 : goal.returns-then-n-eq8
+returns-then-n-eq8 c = search filled_none
+
+pub returns : goal.returns
+returns c = search (filled_eight, c.shared_slice_known-1.given)

@@ -1,0 +1,12 @@
+use Rattle.octets.proofs.Tests.{tests}
+use Rattle.rows.specs.Row.{is_group}
+use borrow.Author.Rules.{rules}
+use Rattle.rows.proofs.is_group.Goals as goal
+
+pub returns-then-kind-eq-SEQUENCE : goal.returns-then-kind-eq-SEQUENCE
+unfolding is_group
+returns-then-kind-eq-SEQUENCE c = search tests
+
+pub returns : goal.returns
+unfolding is_group
+returns c = search tests

@@ -1,0 +1,12 @@
+use Rattle.octets.proofs.Tests.{tests}
+use Rattle.rows.specs.Row.{is_list}
+use borrow.Author.Rules.{rules}
+use Rattle.rows.proofs.is_list.Goals as goal
+
+pub returns-then-kind-eq-SEQUENCE_OF : goal.returns-then-kind-eq-SEQUENCE_OF
+unfolding is_list
+returns-then-kind-eq-SEQUENCE_OF c = search tests
+
+pub returns : goal.returns
+unfolding is_list
+returns c = search tests

@@ -1,0 +1,12 @@
+use Rattle.octets.proofs.Tests.{tests}
+use Rattle.rows.specs.Row.{is_member}
+use borrow.Author.Rules.{rules}
+use Rattle.rows.proofs.is_member.Goals as goal
+
+pub returns-then-kind-eq-MEMBER : goal.returns-then-kind-eq-MEMBER
+unfolding is_member
+returns-then-kind-eq-MEMBER c = search tests
+
+pub returns : goal.returns
+unfolding is_member
+returns c = search tests

@@ -1,0 +1,6 @@
+use Rattle.rows.proofs.Steps.{default-whole}
+use borrow.Author.Rules.{rules}
+use Rattle.rows.proofs.member_default.Goals as goal
+
+pub returns : goal.returns
+returns c = search default-whole

@@ -1,0 +1,6 @@
+use Rattle.rows.proofs.Steps.{field_whole}
+use borrow.Author.Rules.{rules}
+use Rattle.rows.proofs.member_mode.Goals as goal
+
+pub returns : goal.returns
+returns c = search field_whole

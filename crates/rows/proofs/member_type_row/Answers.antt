@@ -1,0 +1,6 @@
+use Rattle.rows.proofs.Steps.{type_row_whole}
+use borrow.Author.Rules.{rules}
+use Rattle.rows.proofs.member_type_row.Goals as goal
+
+pub returns : goal.returns
+returns c = search type_row_whole

@@ -1,0 +1,9 @@
+use Rattle.rows.proofs.Steps.{members_group, members-none}
+use borrow.Author.Rules.{rules}
+use Rattle.rows.proofs.members_at.Goals as goal
+
+pub returns-then-is_group : goal.returns-then-is_group
+returns-then-is_group c = search members_group
+
+pub returns : goal.returns
+returns c = search members-none

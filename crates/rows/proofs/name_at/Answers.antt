@@ -1,0 +1,6 @@
+use Rattle.rows.proofs.Steps.{name-is}
+use borrow.Author.Rules.{rules}
+use Rattle.rows.proofs.name_at.Goals as goal
+
+pub returns : goal.returns
+returns c = search name-is

@@ -1,0 +1,20 @@
+use Rattle.rules.proofs.NameSteps.{rule-here, rule-after}
+use Rattle.rules.specs.Rule.{known_rules}
+use borrow.Author.Rules.{rules}
+use Rattle.rules.proofs.text_rule.Goals as goal
+
+pub returns-then-is_called : goal.returns-then-is_called
+unfolding known_rules
+returns-then-is_called c = search rule-here
+
+pub returns-then-is_called-2 : goal.returns-then-is_called-2
+unfolding known_rules
+returns-then-is_called-2 c = search (rule-here, rule-after)
+
+pub returns-then-is_called-3 : goal.returns-then-is_called-3
+unfolding known_rules
+returns-then-is_called-3 c = search (rule-here, rule-after)
+
+pub returns : goal.returns
+unfolding known_rules
+returns c = search rule-after

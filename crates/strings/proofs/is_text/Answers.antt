@@ -1,0 +1,6 @@
+use Rattle.strings.proofs.Laws.{text-is}
+use borrow.Author.Rules.{rules}
+use Rattle.strings.proofs.is_text.Goals as goal
+
+pub returns : goal.returns
+returns c = search text-is

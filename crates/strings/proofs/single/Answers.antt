@@ -1,0 +1,6 @@
+use Rattle.strings.proofs.ShapeSteps.{single-octet, single_wide}
+use borrow.Author.Rules.{rules}
+use Rattle.strings.proofs.single.Goals as goal
+
+pub returns : goal.returns
+returns c = record { shape = search single_wide; octet = search single-octet }

@@ -1,0 +1,9 @@
+use Rattle.table.proofs.PassSteps.{implicit-is, implicit_not}
+use borrow.Author.Rules.{rules}
+use Rattle.table.proofs.implicit_choice.Goals as goal
+
+pub returns-then-member_mode-eq2 : goal.returns-then-member_mode-eq2
+returns-then-member_mode-eq2 c = search implicit-is
+
+pub returns : goal.returns
+returns c = search implicit_not

@@ -1,0 +1,6 @@
+use Rattle.table.proofs.PassSteps.{mandatory-is}
+use borrow.Author.Rules.{rules}
+use Rattle.table.proofs.is_mandatory.Goals as goal
+
+pub returns : goal.returns
+returns c = search mandatory-is

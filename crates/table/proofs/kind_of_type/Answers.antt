@@ -1,0 +1,9 @@
+use Rattle.table.proofs.Reading.{row_small, read-type_kind}
+use borrow.Author.Rules.{rules}
+use Rattle.table.proofs.kind_of_type.Goals as goal
+
+pub first_word-requires : goal.first_word-requires
+first_word-requires c = search row_small
+
+pub returns : goal.returns
+returns c = search read-type_kind

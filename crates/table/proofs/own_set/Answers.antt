@@ -1,0 +1,10 @@
+use Rattle.table.proofs.PassSteps.{own_is}
+use Rattle.types.proofs.TagLaws.{universal-fits}
+use borrow.Author.Rules.{rules}
+use Rattle.table.proofs.own_set.Goals as goal
+
+pub bit-requires : goal.bit-requires
+bit-requires c = search universal-fits
+
+pub returns : goal.returns
+returns c = search own_is

@@ -1,0 +1,9 @@
+use Rattle.types.proofs.TagSteps.{context-high, context-low}
+use borrow.Author.Rules.{rules}
+use Rattle.types.proofs.context_bit.Goals as goal
+
+pub returns-then-n-lt32 : goal.returns-then-n-lt32
+returns-then-n-lt32 c = search context-low
+
+pub returns : goal.returns
+returns c = search context-high

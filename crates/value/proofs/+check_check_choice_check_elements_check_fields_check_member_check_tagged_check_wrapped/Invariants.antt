@@ -1,0 +1,53 @@
+-- The check: each need is answered by one lemma.
+use Prim.Native.Nat.{◌*◌, ◌+◌, ◌-◌, ◌<◌, ℕ}
+use Rattle.value.proofs.LeafSteps.{inside-fits, inside-ends}
+use Rattle.value.proofs.MemberSteps.{row_fits_lem, member-fits, Fielded, field_falls, field_here, field_member, fields_again, fields_bad}
+use Rattle.value.proofs.MemberSteps.{fields_done, fields_short, fields-start, member_absent, member-default, member_is}
+use Rattle.value.proofs.ModeSteps.{is_plain, is-other}
+use Rattle.value.proofs.TagSteps.{own_usable, first_usable}
+use Rattle.value.proofs.CheckSteps.{falls_body, falls_tagged, falls_wrapped, falls_value, falls_inner, list-row, answer-choice, answer-misfit}
+use Rattle.value.proofs.CheckSteps.{answer-fields, answer_elements, answer_basic, wraps_misfit, wraps_inner, wraps_surplus, wraps_filled, target-here}
+use Rattle.value.proofs.CheckSteps.{target-typed, tagged-explicit, tagged-other}
+use Rattle.value.proofs.NestedSteps.{missing_is, row_here, row-member, row_falls, row_is}
+use Rattle.value.proofs.ElementSteps.{Listed, leaves_basic, element-here, element-typed, element_falls, elements_bad, element-after, element-ends}
+use Rattle.value.proofs.ElementSteps.{element-less, elements_disorder}
+use Rattle.value.proofs.ElementSteps.{elements_again, elements_done, elements_start, listed-low}
+use lib.ListN.{length}
+use Rattle.rows.specs.Paper.{table_limits}
+use Rattle.rows.specs.Row.{row_at, named_at}
+use Rattle.table.specs.Inner.Rows.{table_rows}
+use borrow.Author.Rules.{rules}
+use Rattle.value.proofs.+check_check_choice_check_elements_check_fields_check_member_check_tagged_check_wrapped.Given as goal
+
+abbrev pub decreases-check : goal.decreases-check
+decreases-check l = 5 * (length (table_rows l.t.now) - l.row) + 3
+
+abbrev pub decreases-check_choice : goal.decreases-check_choice
+decreases-check_choice l = 5 * (length (table_rows l.t.now) - l.row) + 2
+
+abbrev pub decreases-check_elements : goal.decreases-check_elements
+decreases-check_elements l = 5 * (length (table_rows l.t.now) - l.row) + 2
+
+abbrev pub invariant-check_elements-loop-i : goal.invariant-check_elements-loop-i
+invariant-check_elements-loop-i l = Listed table_limits.chain l.t (table_rows l.t) l.row l.v l.start l.stop l.before l.i
+
+abbrev pub decreases-check_elements-loop-i : goal.decreases-check_elements-loop-i
+decreases-check_elements-loop-i l = l.stop - l.i
+
+abbrev pub decreases-check_fields : goal.decreases-check_fields
+decreases-check_fields l = 5 * (length (table_rows l.t.now) - l.row) + 2
+
+abbrev pub invariant-check_fields-loop-j : goal.invariant-check_fields-loop-j
+invariant-check_fields-loop-j l = Fielded table_limits.chain l.t (table_rows l.t) l.row l.v l.start l.stop l.n l.i l.j
+
+abbrev pub decreases-check_fields-loop-j : goal.decreases-check_fields-loop-j
+decreases-check_fields-loop-j l = l.n - l.j
+
+abbrev pub decreases-check_member : goal.decreases-check_member
+decreases-check_member l = 5 * (length (table_rows l.t.now) - named_at l.t.now (row_at (table_rows l.t.now) l.row)) + 6
+
+abbrev pub decreases-check_tagged : goal.decreases-check_tagged
+decreases-check_tagged l = 5 * (length (table_rows l.t.now) - named_at l.t.now (row_at (table_rows l.t.now) l.row)) + 5
+
+abbrev pub decreases-check_wrapped : goal.decreases-check_wrapped
+decreases-check_wrapped l = 5 * (length (table_rows l.t.now) - l.row) + 4

@@ -1,0 +1,18 @@
+use Rattle.value.specs.Inner.Work.{starts_of}
+use Rattle.value.specs.Inner.Work.{first}
+use Rattle.rows.specs.Paper.{table_limits}
+use Rattle.table.specs.Inner.Rows.{table_rows}
+use native.Mathlib.Omega.{arith}
+use mathlib.Core.Path.{◌≡◌}
+use Prim.Native.Nat.{◌-◌, ◌≤◌}
+use Rattle.value.proofs.LeafSteps.{first-start, first_found, first_again, first_done, starts-here}
+use Rattle.value.proofs.MemberSteps.{row_fits_lem, alternative-here, alternative-member, alternative-fits}
+use borrow.Author.Rules.{rules}
+use Rattle.value.proofs.first_alternative.Given as goal
+
+abbrev pub invariant-loop-j : goal.invariant-loop-j
+invariant-loop-j l = (l.j ≤ l.n) ×
+    (first (starts_of table_limits.chain l.t (table_rows l.t) l.row l.v l.end l.at) l.n 0 ≡ first (starts_of table_limits.chain l.t (table_rows l.t) l.row l.v l.end l.at) (l.n - l.j) l.j)
+
+abbrev pub decreases-loop-j : goal.decreases-loop-j
+decreases-loop-j l = l.n - l.j

@@ -1,0 +1,9 @@
+use Rattle.value.proofs.LeafSteps.{order_any, order_is}
+use borrow.Author.Rules.{rules}
+use Rattle.value.proofs.in_order.Goals as goal
+
+pub returns-then-kind-eq-SEQUENCE_OF : goal.returns-then-kind-eq-SEQUENCE_OF
+returns-then-kind-eq-SEQUENCE_OF c = search order_any
+
+pub returns : goal.returns
+returns c = search order_is

@@ -1,0 +1,9 @@
+use Rattle.value.proofs.TagSteps.{tags-apart, tags-class}
+use borrow.Author.Rules.{rules}
+use Rattle.value.proofs.same_tag.Goals as goal
+
+pub returns-then-a-b : goal.returns-then-a-b
+returns-then-a-b c = search tags-apart
+
+pub returns : goal.returns
+returns c = search tags-class
