@@ -1,5 +1,6 @@
 // The filter text: reading it, with its depth and its items within the limits. No tree is made of it.
 #![tactic(auto)]
+
 ghost use Rattle.std.specs.Prelude.{◌≡◌};
 ghost use Rattle.assertion.specs.Spaces.{mark_at, open_brace};
 ghost use Rattle.assertion.specs.Assertion.{assertion_at};

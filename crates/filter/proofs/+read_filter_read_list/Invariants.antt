@@ -1,0 +1,19 @@
+-- the depth that is left falls
+use Rattle.filter.proofs.Steps.{filter_shallow, filter_item, filter-empty, filter-list, filter-negation, filter_none, Listed, list_stop, list_again, list_falls, list-ends, list_lost}
+use mathlib.Core.Path.{refl}
+use Prim.Native.Nat.{ℕ, ◌<◌, ◌+◌, ◌-◌, ◌*◌}
+use lib.ListN.{length}
+use borrow.Author.Rules.{rules}
+use Rattle.filter.proofs.+read_filter_read_list.Given as goal
+
+abbrev pub decreases-read_filter : goal.decreases-read_filter
+decreases-read_filter l = 2 * l.depth
+
+abbrev pub decreases-read_list : goal.decreases-read_list
+decreases-read_list l = 2 * l.depth + 1
+
+abbrev pub invariant-read_list-loop-q : goal.invariant-read_list-loop-q
+invariant-read_list-loop-q l = Listed l.s l.at l.depth l.room l.i l.left
+
+abbrev pub decreases-read_list-loop-q : goal.decreases-read_list-loop-q
+decreases-read_list-loop-q l = length l.s - l.i
