@@ -44,14 +44,14 @@ module _ (f : ℕ → Ty) (t s : List ℕ) (row : ℕ) (x : List ℕ) where
       let q : row + 1 + (a + 1) ≡ row + 1 + a + 1 = omega arith in
       cons (free a (omega arith) (omega arith)) (subst (λ (y : ℕ). Unnamed x (members_from f t s y k)) q (unnamed_from k (a + 1) (λ i l h. free i (omega arith) (omega arith))))
 
-  abbrev member_of : ℕ → Member
-  member_of j = member_of t (row + 1 + j) (row_at s (row + 1 + j))
+  abbrev the_member : ℕ → Member
+  the_member j = member_of t (row + 1 + j) (row_at s (row + 1 + j))
 
   abbrev type-of : ℕ → Ty
   type-of j = f (named_at t (row_at s (row + 1 + j)))
 
   names-from : (k a j : ℕ) → a ≤ j → j < a + k → named_of t s row x j ≡ true → ((i : ℕ) → a ≤ i → i < a + k → (i ≡ j → ⊥) → named_of t s row x i ≡ false)
-      → Names x (members_from f t s (row + 1 + a) k) (j - a) (member_of j) (type-of j)
+      → Names x (members_from f t s (row + 1 + a) k) (j - a) (the_member j) (type-of j)
   unfolding members_from member_of named_of
   names-from zero a j l h is others = absurd (omega arith)
   names-from (suc k) a j l h is others = go (j - a) refl (λ z. names-from k (a + 1) j (omega arith) (omega arith) is (λ i b c. others i (omega arith) (omega arith)))
@@ -59,17 +59,17 @@ module _ (f : ℕ → Ty) (t s : List ℕ) (row : ℕ) (x : List ℕ) where
       q : row + 1 + (a + 1) ≡ row + 1 + a + 1
       q = omega arith
 
-      go : (n : ℕ) → j - a ≡ n → (0 < n → Names x (members_from f t s (row + 1 + (a + 1)) k) (j - (a + 1)) (member_of j) (type-of j))
-          → Names x (more (member_of a) (type-of a) (members_from f t s (row + 1 + a + 1) k)) n (member_of j) (type-of j)
+      go : (n : ℕ) → j - a ≡ n → (0 < n → Names x (members_from f t s (row + 1 + (a + 1)) k) (j - (a + 1)) (the_member j) (type-of j))
+          → Names x (more (the_member a) (type-of a) (members_from f t s (row + 1 + a + 1) k)) n (the_member j) (type-of j)
       go zero e rest =
           let z : a ≡ j = omega arith in
-          subst (λ (y : ℕ). Names x (more (member_of a) (type-of a) (members_from f t s (row + 1 + a + 1) k)) 0 (member_of y) (type-of y)) z
+          subst (λ (y : ℕ). Names x (more (the_member a) (type-of a) (members_from f t s (row + 1 + a + 1) k)) 0 (the_member y) (type-of y)) z
           (here (ap (named_of t s row x) z ∙ is) (subst (λ (y : ℕ). Unnamed x (members_from f t s y k)) q (unnamed_from k (a + 1) (λ i b c. others i (omega arith) (omega arith) (λ y. absurd (omega arith))))))
       go (suc n) e rest =
           let z : j - (a + 1) ≡ n = omega arith in
           later (others a (omega arith) (omega arith) (λ y. absurd (omega arith)))
-          (subst (λ (y : ℕ). Names x (members_from f t s (row + 1 + a + 1) k) y (member_of j) (type-of j)) z
-          (subst (λ (y : ℕ). Names x (members_from f t s y k) (j - (a + 1)) (member_of j) (type-of j)) q (rest (omega arith))))
+          (subst (λ (y : ℕ). Names x (members_from f t s (row + 1 + a + 1) k) y (the_member j) (type-of j)) z
+          (subst (λ (y : ℕ). Names x (members_from f t s y k) (j - (a + 1)) (the_member j) (type-of j)) q (rest (omega arith))))
 
 first_true : (f : ℕ → Bool) (k a : ℕ) → first f k a < a + k → f (first f k a) ≡ true
 first_true f zero a h = absurd (let q = first-none f a in omega arith)

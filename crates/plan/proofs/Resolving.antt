@@ -25,7 +25,7 @@ use Rattle.reference.specs.declared.Target.{Target}
 use Rattle.reference.proofs.Laws.{ids_all, ids-over, ids-within}
 use Rattle.plan.specs.Inner.Sort as sort
 use Rattle.plan.specs.Inner.Task.{Task, task_of, passes_contents}
-use Rattle.plan.specs.Inner.Plan.{Within, Low, absent_of, Planned, over, member, alternative, to-position, from_end, to-count, to-all}
+use Rattle.plan.specs.Inner.Plan.{Within, Low, absent_of, Planned, over, member, alternative, to-position, to-from_end, to-count, to-all}
 use Rattle.plan.specs.Inner.Resolve.{Fits, as_member, as_alternative, as_position, as_last, as_all, NamesMember, Onward, PlannedAs, Plans, written, last_absent, absent_for, Agrees, Resolving, NextIs, Nexts, Follows, Resolves}
 use Rattle.plan.specs.declared.Planning.{Planning}
 use Rattle.plan.specs.declared.Resolved.{Resolved}
@@ -214,7 +214,7 @@ module _ (t r x : List ℕ) (defaults : Bool) (q : List ℕ) (row k j : ℕ) (z 
         subst (λ (y : Ty). Planned t p x defaults j y (name nm ∷ is)) (sym (choice-at t w row ok z.here k))
         (alternative e (record { low = step-low; row_is = f; index_is = g; here = z.here; one = o; named = n }) d rest)
     planned-cons p s a b to i is (as_position l) e f g c rest = subst (λ (y : Ty). Planned t p x defaults j y (i ∷ is)) (sym (list_at t w row ok z.here l)) (to-position e step-low f rest)
-    planned-cons p s a b to i is (as_last l) e f g c rest = subst (λ (y : Ty). Planned t p x defaults j y (i ∷ is)) (sym (list_at t w row ok z.here l)) (from_end e step-low f rest)
+    planned-cons p s a b to i is (as_last l) e f g c rest = subst (λ (y : Ty). Planned t p x defaults j y (i ∷ is)) (sym (list_at t w row ok z.here l)) (to-from_end e step-low f rest)
     planned-cons p s a b to i is (as_all l) e f g c rest = subst (λ (y : Ty). Planned t p x defaults j y (i ∷ is)) (sym (list_at t w row ok z.here l)) (to-all e step-low rest)
 
     -- the task is kept

@@ -16,7 +16,7 @@ use Rattle.reference.specs.Allowed.{Target, of_type, member_type, under, allowed
 use Rattle.plan.specs.Inner.Task.{Task, counting, listing, testing, task_of, passes_contents}
 use Rattle.plan.specs.Inner.Test.{Test, test_of}
 use Rattle.plan.specs.Inner.Plan.{absent_of, Names, here, later, ByName, SameSteps, Relisted}
-use Rattle.plan.specs.Inner.Plan.{Planned, over, member, alternative, to-position, from_end, to-count, to-all}
+use Rattle.plan.specs.Inner.Plan.{Planned, over, member, alternative, to-position, to-from_end, to-count, to-all}
 
 module _ (q : List ℕ) where
   pub is-counting : get_or q 0 0 ≡ 0 → task_of q ≡ counting (get_or q 1 0)
@@ -136,8 +136,8 @@ module _ (t q p x : List ℕ) (d : Bool) (steps : SameSteps q p) (Led : Target �
       (replanned (k + 1) _ js (omega arith) (λ g a. led g (rw (names-type n.named) a)) rest)
   replanned k ty is h led (to-position {is = js} e low r rest) =
       to-position (steps.kept (4 * k) (omega arith) ∙ e) low (steps.kept (4 * k + 1) (omega arith) ∙ r) (replanned (k + 1) _ js (omega arith) led rest)
-  replanned k ty is h led (from_end {is = js} e low r rest) =
-      from_end (steps.kept (4 * k) (omega arith) ∙ e) low (steps.kept (4 * k + 1) (omega arith) ∙ r) (replanned (k + 1) _ js (omega arith) led rest)
+  replanned k ty is h led (to-from_end {is = js} e low r rest) =
+      to-from_end (steps.kept (4 * k) (omega arith) ∙ e) low (steps.kept (4 * k + 1) (omega arith) ∙ r) (replanned (k + 1) _ js (omega arith) led rest)
   replanned k ty is h led (to-count e low) = to-count (steps.kept (4 * k) (omega arith) ∙ e) low
   replanned k ty is h led (to-all {is = js} e low rest) = to-all (steps.kept (4 * k) (omega arith) ∙ e) low (replanned (k + 1) _ js (omega arith) led rest)
 

@@ -1,5 +1,6 @@
 // A plan: one lent array of numbers, the task first, then four for each identifier of a reference.
 #![tactic(auto)]
+
 ghost use Rattle.std.specs.Prelude.{◌≡◌, true, false, [], ◌≤◌, ◌<◌, ◌+◌, ◌*◌, length, get_or, set, ltb};
 ghost use Rattle.std.proofs.Math.Option.{none, some};
 ghost use Rattle.octets.specs.Pick.{both};

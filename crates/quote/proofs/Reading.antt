@@ -208,5 +208,5 @@ report-read t room =
     (λ _. read_none t (quoting Quoted.TooLittleRoom room) (λ n e. let z : ◌≡◌ {A = ℕ} 0 1 = cc in omega arith)))
     (λ _. read_none t (quoting Quoted.NotUtf8 room) (λ n e. let z : ◌≡◌ {A = ℕ} 0 1 = cc in omega arith)))
 
-pub with_reading : (t room m : List ℕ) (r : Quoted) → quoting r m ≡ quoted_report t room → (quoting r m ≡ quoted_report t room) × Reads r t m
-with_reading t room m r e = (e, subst (Read t) (sym e) (report-read t room))
+pub reads_report : (t room m : List ℕ) (r : Quoted) → quoting r m ≡ quoted_report t room → Reads r t m
+reads_report t room m r e = subst (Read t) (sym e) (report-read t room)

@@ -1,5 +1,6 @@
 // The quoted form of a text, as an assertion's value text has it.
 #![tactic(auto)]
+
 ghost use Rattle.std.specs.Prelude.{◌≡◌, ◌≤◌, length};
 ghost use Rattle.quote.specs.Quote as specs;
 ghost use Rattle.quote.specs.Reading.{Reads};

@@ -14,7 +14,7 @@ use Rattle.reference.specs.Reference.{Index, position, from_end, count, all, Id,
 use Rattle.reference.specs.Inner.Work.{cap}
 use Rattle.plan.specs.Inner.Sort as sort
 use Rattle.plan.specs.Inner.Task.{task_of}
-use Rattle.plan.specs.Inner.Plan.{sort_at, first_at, absent_at, Within, absent_of, ByName, Planned, over, member, alternative, to-position, from_end, to-count, to-all}
+use Rattle.plan.specs.Inner.Plan.{sort_at, first_at, absent_at, Within, absent_of, ByName, Planned, over, member, alternative, to-position, to-from_end, to-count, to-all}
 use Rattle.walk.specs.Inner.Raw.{start_of, next_after}
 use Rattle.walk.specs.Inner.Stands.{Stands}
 use Rattle.walk.specs.Inner.Walk.{Goes}
@@ -78,7 +78,7 @@ module _ (t q x v : List ℕ) (k at : ℕ) (g : Goes t q x v k at) where
       go ids (member e b c rest) st = absurd (omega arith)
       go ids (alternative e b c rest) st = absurd (omega arith)
       go ids (to-position e low r rest) st = absurd (omega arith)
-      go ids (from_end e low r rest) st = absurd (omega arith)
+      go ids (to-from_end e low r rest) st = absurd (omega arith)
       go ids (to-count e low) st = absurd (omega arith)
       go ids (to-all e low rest) st = absurd (omega arith)
 
@@ -90,7 +90,7 @@ module _ (t q x v : List ℕ) (k at : ℕ) (g : Goes t q x v k at) where
       go ids (member {row = row} {j = j} {nm = nm} {is = is} e b c rest) st = let w = fields_stand st in record { row = row; j = j; nm = nm; is = is; by = b; ids_are = refl; cell = c; rest = rest; spot = w.0; fs = w.1; members = w.2; value-is = w.3 }
       go ids (alternative e b c rest) st = absurd (omega arith)
       go ids (to-position e low r rest) st = absurd (omega arith)
-      go ids (from_end e low r rest) st = absurd (omega arith)
+      go ids (to-from_end e low r rest) st = absurd (omega arith)
       go ids (to-count e low) st = absurd (omega arith)
       go ids (to-all e low rest) st = absurd (omega arith)
 
@@ -102,7 +102,7 @@ module _ (t q x v : List ℕ) (k at : ℕ) (g : Goes t q x v k at) where
       go ids (member e b c rest) st = absurd (omega arith)
       go ids (alternative {row = row} {j = j} {nm = nm} {is = is} e b c rest) st = record { row = row; j = j; nm = nm; is = is; by = b; ids_are = refl; differ = c; rest = rest; choice = choice-stands st }
       go ids (to-position e low r rest) st = absurd (omega arith)
-      go ids (from_end e low r rest) st = absurd (omega arith)
+      go ids (to-from_end e low r rest) st = absurd (omega arith)
       go ids (to-count e low) st = absurd (omega arith)
       go ids (to-all e low rest) st = absurd (omega arith)
 
@@ -114,7 +114,7 @@ module _ (t q x v : List ℕ) (k at : ℕ) (g : Goes t q x v k at) where
       go ids (member e b c rest) st = absurd (omega arith)
       go ids (alternative e b c rest) st = absurd (omega arith)
       go ids (to-position {n = n} {is = is} e low r rest) st = (n, r, record { list = list-step (position n) is st; index_is = refl; low = low; rest = rest })
-      go ids (from_end e low r rest) st = absurd (omega arith)
+      go ids (to-from_end e low r rest) st = absurd (omega arith)
       go ids (to-count e low) st = absurd (omega arith)
       go ids (to-all e low rest) st = absurd (omega arith)
 
@@ -126,7 +126,7 @@ module _ (t q x v : List ℕ) (k at : ℕ) (g : Goes t q x v k at) where
       go ids (member e b c rest) st = absurd (omega arith)
       go ids (alternative e b c rest) st = absurd (omega arith)
       go ids (to-position e low r rest) st = absurd (omega arith)
-      go ids (from_end {n = n} {is = is} e low r rest) st = (n, r, record { list = list-step (from_end n) is st; index_is = refl; low = low; rest = rest })
+      go ids (to-from_end {n = n} {is = is} e low r rest) st = (n, r, record { list = list-step (from_end n) is st; index_is = refl; low = low; rest = rest })
       go ids (to-count e low) st = absurd (omega arith)
       go ids (to-all e low rest) st = absurd (omega arith)
 
@@ -138,7 +138,7 @@ module _ (t q x v : List ℕ) (k at : ℕ) (g : Goes t q x v k at) where
       go ids (member e b c rest) st = absurd (omega arith)
       go ids (alternative e b c rest) st = absurd (omega arith)
       go ids (to-position e low r rest) st = absurd (omega arith)
-      go ids (from_end e low r rest) st = absurd (omega arith)
+      go ids (to-from_end e low r rest) st = absurd (omega arith)
       go ids (to-count e low) st = (list-step count [] st, refl, refl)
       go ids (to-all e low rest) st = absurd (omega arith)
 
@@ -150,6 +150,6 @@ module _ (t q x v : List ℕ) (k at : ℕ) (g : Goes t q x v k at) where
       go ids (member e b c rest) st = absurd (omega arith)
       go ids (alternative e b c rest) st = absurd (omega arith)
       go ids (to-position e low r rest) st = absurd (omega arith)
-      go ids (from_end e low r rest) st = absurd (omega arith)
+      go ids (to-from_end e low r rest) st = absurd (omega arith)
       go ids (to-count e low) st = absurd (omega arith)
       go ids (to-all {is = is} e low rest) st = record { list = list-step all is st; index_is = refl; low = low; rest = rest }

@@ -323,7 +323,7 @@ move_last t q v k at op read a b c d st = go st.goes.planned
     go (plan.member e n z rest) = absurd (a (read ∙ e))
     go (plan.alternative e n z rest) = absurd (b (read ∙ e))
     go (plan.to-position e low r rest) = absurd (c (read ∙ e))
-    go (plan.from_end e low r rest) = e
+    go (plan.to-from_end e low r rest) = e
     go (plan.to-count e low) = absurd (d.1 e)
     go (plan.to-all e low rest) = absurd (d.2 e)
 
@@ -553,7 +553,7 @@ low-after t q x v k at op g read other = go g.planned
     go (plan.member e n z rest) = n.low
     go (plan.alternative e n z rest) = n.low
     go (plan.to-position e low r rest) = low
-    go (plan.from_end e low r rest) = low
+    go (plan.to-from_end e low r rest) = low
     go (plan.to-count e low) = low
     go (plan.to-all e low rest) = low
 

@@ -72,7 +72,7 @@ pub data Planned (t q x : List ℕ) (defaults : Bool) : ℕ → Ty → List Id �
       → Planned t q x defaults (k + 1) (member_type_at t (row + 1 + j)) is → Planned t q x defaults k (choice (members_after t row)) (name nm ∷ is)
   to-position : {k n kd : ℕ} {ty : Ty} {is : List Id} → sort_at q k ≡ sort.position → Within k → first_at q k ≡ cap n
       → Planned t q x defaults (k + 1) ty is → Planned t q x defaults k (list_of kd ty) (index (position n) ∷ is)
-  from_end : {k n kd : ℕ} {ty : Ty} {is : List Id} → sort_at q k ≡ sort.from_end → Within k → first_at q k ≡ cap n
+  to-from_end : {k n kd : ℕ} {ty : Ty} {is : List Id} → sort_at q k ≡ sort.from_end → Within k → first_at q k ≡ cap n
       → Planned t q x defaults (k + 1) ty is → Planned t q x defaults k (list_of kd ty) (index (from_end n) ∷ is)
   to-count : {k kd : ℕ} {ty : Ty} → sort_at q k ≡ sort.count → Within k → Planned t q x defaults k (list_of kd ty) (index count ∷ [])
   to-all : {k kd : ℕ} {ty : Ty} {is : List Id} → sort_at q k ≡ sort.all → Within k

@@ -1,0 +1,9 @@
+use Rattle.plan.proofs.PassSteps.{count-passes, count-tested}
+use borrow.Author.Rules.{rules}
+use Rattle.plan.proofs.passes_count.Goals as goal
+
+pub returns-then-task-lt2 : goal.returns-then-task-lt2
+returns-then-task-lt2 c = search count-passes
+
+pub returns : goal.returns
+returns c = search count-tested

@@ -1,0 +1,6 @@
+use Rattle.plan.proofs.TaskLaws.{listing-is, relisted}
+use borrow.Author.Rules.{rules}
+use Rattle.plan.proofs.plan_listing.Goals as goal
+
+pub returns : goal.returns
+returns c = record { task = search listing-is; planned = search relisted }

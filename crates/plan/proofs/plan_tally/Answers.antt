@@ -1,0 +1,6 @@
+use Rattle.plan.proofs.TaskLaws.{counting-is, two-long}
+use borrow.Author.Rules.{rules}
+use Rattle.plan.proofs.plan_tally.Goals as goal
+
+pub returns : goal.returns
+returns c = record { task = search counting-is; room = search two-long }

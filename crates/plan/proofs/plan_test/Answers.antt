@@ -1,0 +1,6 @@
+use Rattle.plan.proofs.TaskLaws.{filled-long, testing-is}
+use borrow.Author.Rules.{rules}
+use Rattle.plan.proofs.plan_test.Goals as goal
+
+pub returns : goal.returns
+returns c = record { task = search testing-is; room = search filled-long }

@@ -1,0 +1,6 @@
+use Rattle.plan.proofs.TaskLaws.{test_set, steps_kept}
+use borrow.Author.Rules.{rules}
+use Rattle.plan.proofs.set_test.Goals as goal
+
+pub returns : goal.returns
+returns c = record { task = search test_set; steps = search steps_kept }

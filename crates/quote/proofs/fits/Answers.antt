@@ -1,0 +1,22 @@
+use Rattle.quote.specs.Quote.{doubled, quoted}
+use Rattle.quote.proofs.Steps.{fits-small, fits-start, fits-done, fits_not, fits_more}
+use mathlib.Core.Path.{◌≡◌}
+use Prim.Native.Nat.{◌+◌, ◌-◌}
+use lib.ListN.{length, drop}
+use borrow.Author.Rules.{rules}
+use Rattle.quote.proofs.fits.Goals as goal
+
+pub returns-then-size-lt2 : goal.returns-then-size-lt2
+returns-then-size-lt2 c = search fits-small
+
+pub loop-i-init : goal.loop-i-init
+loop-i-init c = search fits-start
+
+pub returns-then-left-w : goal.returns-then-left-w
+returns-then-left-w c = search fits_not
+
+pub loop-i-preserved : goal.loop-i-preserved
+loop-i-preserved c = search fits_more
+
+pub returns : goal.returns
+returns c = search fits-done

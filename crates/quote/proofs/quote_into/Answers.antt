@@ -1,0 +1,12 @@
+use Rattle.quote.proofs.Steps.{into_little, into_written, fits_all}
+use borrow.Author.Rules.{rules}
+use Rattle.quote.proofs.quote_into.Goals as goal
+
+pub returns-then-not-fits : goal.returns-then-not-fits
+returns-then-not-fits c = search into_little
+
+pub write-requires : goal.write-requires
+write-requires c = search fits_all
+
+pub returns : goal.returns
+returns c = search into_written
