@@ -22,7 +22,7 @@ use Rattle.reference.specs.Numbers.{component, numbers_of, by_default, contents_
 use Rattle.reference.proofs.HeldLaws.{held_none, held-step}
 use Rattle.plan.specs.Inner.Test.{Test}
 use Rattle.plan.specs.Inner.Task.{Task, counting, listing, testing, passes_contents, passes}
-use Rattle.plan.specs.Inner.Plan.{absent_of, Unnamed, cons, Names, here, later}
+use Rattle.plan.specs.Inner.Plan.{absent_of, Unnamed, nil, cons, Names, here, later}
 use Rattle.walk.specs.Inner.Leads.{Picked, there, lacking, past, picked_at}
 use Rattle.walk.specs.Inner.Run.{Seen, seen, count_one, test_one, noted, visited, onward, run, counted_to, tested_to, ran_to}
 use Rattle.walk.specs.declared.State.{State}
@@ -153,6 +153,7 @@ true_false b p q = absurd (let z : ◌≡◌ {A = Bool} true false = sym p ∙ q
 
 chosen_unnamed : {nm v : List ℕ} {end at : ℕ} {ms : Members} {x : Value} {after : ℕ} → Unnamed nm ms → Chosen v end at ms x after
     → (s : Spot) × (m : Member) × (y : Value) × (x ≡ chosen s m y) × (same m.name nm ≡ false)
+chosen_unnamed nil x = elim x [ ]
 chosen_unnamed (cons e un) (this {m = m} {s = s} {x = y} q t b) = (s, m, y, refl, e)
 chosen_unnamed (cons e un) (other q c) = chosen_unnamed un c
 
@@ -180,7 +181,7 @@ module _ (v : List ℕ) (end at : ℕ) where
       let z : no (both true true) ≡ true = sym (ap (λ (y : Bool). no (both y true)) (begins-here m ty a)) ∙ sym (ap (λ (y : Bool). no (both (member_begins m ty (tag_of (octet v at))) y)) (begins-here n u b)) ∙ w in
       absurd (let y : ◌≡◌ {A = ℕ} 0 1 = cc in omega arith)
 
-apart_from_lem : (m : Member) (ty : Ty) {ms : Members} {nm : List ℕ} {j : ℕ} {n : Member} {u : Ty} → apart_from_all m ty ms ≡ true → Names nm ms j n u → apart m ty n u ≡ true
+apart_from_lem : (m : Member) (ty : Ty) {nm : List ℕ} {ms : Members} {j : ℕ} {n : Member} {u : Ty} → apart_from_all m ty ms ≡ true → Names nm ms j n u → apart m ty n u ≡ true
 unfolding apart_from_all
 apart_from_lem m ty e (here {m = o} {ty = w} {ms = ms} f un) = (both_true (apart m ty o w) (apart_from_all m ty ms) e).0
 apart_from_lem m ty e (later {m = o} {ty = w} {ms = ms} f nm) = apart_from_lem m ty (both_true (apart m ty o w) (apart_from_all m ty ms) e).1 nm

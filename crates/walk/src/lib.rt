@@ -1,5 +1,6 @@
 // The walk along a plan on a stored value, with one task: count, list, test. Headers are read and not doubted.
 #![tactic(auto)]
+
 ghost use Rattle.std.specs.Prelude.{◌≡◌, ◌≤◌, ◌<◌, ◌+◌, ◌-◌, length, []};
 ghost use Rattle.rows.specs.Row.{members_at};
 ghost use Rattle.table.specs.Inner.Rows.{table_rows, MemberRow, place_at, tagging_at};

@@ -1,0 +1,9 @@
+use Rattle.walk.proofs.Members.{inside_wrapped, inside-bare}
+use borrow.Author.Rules.{rules}
+use Rattle.walk.proofs.inside.Goals as goal
+
+pub returns-then-tagged-eq1 : goal.returns-then-tagged-eq1
+returns-then-tagged-eq1 c = search inside_wrapped
+
+pub returns : goal.returns
+returns c = search inside-bare
