@@ -1,5 +1,6 @@
 // The truth of a filter over a value, and the tests made.
 #![tactic(auto)]
+
 ghost use Rattle.std.specs.Prelude.{◌≤◌, ◌≡◌, true, false, length};
 ghost use Rattle.std.proofs.Math.Option.{some};
 ghost use Rattle.rows.specs.Paper.{table_limits};

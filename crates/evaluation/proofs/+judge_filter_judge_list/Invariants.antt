@@ -1,0 +1,22 @@
+-- the text that is left falls
+use Rattle.evaluation.proofs.FilterSteps.{filter_shallow, filter_item, filter-empty, filter-list, filter_not, filter_none, list-less, not-less, Listing, list-begins, list-lower, list-within, list-ends, list_falls, list_again}
+use Prim.Native.Nat.{ℕ, ◌<◌, ◌+◌, ◌-◌, ◌*◌}
+use lib.ListN.{length}
+use Rattle.table.specs.Inner.Rows.{type_at}
+use Rattle.filter.specs.Inner.Answers.{report_join}
+use Rattle.evaluation.specs.Inner.Work.{stored_outcome}
+use borrow.Author.Rules.{rules}
+use Rattle.evaluation.proofs.+judge_filter_judge_list.Given as goal
+
+abbrev pub decreases-judge_filter : goal.decreases-judge_filter
+decreases-judge_filter l = 2 * (length l.f.now - l.at)
+
+abbrev pub decreases-judge_list : goal.decreases-judge_list
+decreases-judge_list l = 2 * (length l.f.now - l.at) + 1
+
+abbrev pub invariant-judge_list-loop-next : goal.invariant-judge_list-loop-next
+invariant-judge_list-loop-next l =
+    Listing (stored_outcome (type_at l.t 0) l.v) l.f (report_join l.join) l.initial.p l.depth l.initial.items l.budget l.initial.made l.initial.i l.p l.made l.i l.items
+
+abbrev pub decreases-judge_list-loop-next : goal.decreases-judge_list-loop-next
+decreases-judge_list-loop-next l = length l.f - l.i

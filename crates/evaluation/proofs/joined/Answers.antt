@@ -1,0 +1,12 @@
+use Rattle.evaluation.proofs.FilterSteps.{joined-over, joined-stops, joined-on}
+use borrow.Author.Rules.{rules}
+use Rattle.evaluation.proofs.joined.Goals as goal
+
+pub returns-then-not-goes_on : goal.returns-then-not-goes_on
+returns-then-not-goes_on c = search joined-over
+
+pub returns-then-stops : goal.returns-then-stops
+returns-then-stops c = search joined-stops
+
+pub returns : goal.returns
+returns c = search joined-on
