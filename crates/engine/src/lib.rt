@@ -1,5 +1,6 @@
 // The answers of the engine: the listing, and the answer to a filter.
 #![tactic(auto)]
+
 ghost use Rattle.std.specs.Prelude.{◌≡◌, true, ◌≤◌, ◌+◌, ◌/◌, length};
 ghost use Rattle.rows.specs.Paper.{table_limits};
 ghost use Rattle.types.specs.Admitted.{admitted};
