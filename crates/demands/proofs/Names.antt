@@ -31,6 +31,8 @@ same_one_by_one (q ∷ qs) (r ∷ rs) e = let w = both_true (same_rdn q r) (same
 one_by_one_same : (qs rs : List (List Compared)) → OneByOne qs rs → same_name qs rs ≡ true
 unfolding same_name
 one_by_one_same [] [] nil = refl
+one_by_one_same [] (r ∷ rs) o = elim o [ ]
+one_by_one_same (q ∷ qs) [] o = elim o [ ]
 one_by_one_same (q ∷ qs) (r ∷ rs) (cons p o) = rw (permutation_matches q r p) (one_by_one_same qs rs o)
 
 -- what is asserted is a name, and the rule accepts contents exactly if they are the same

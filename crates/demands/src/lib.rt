@@ -1,5 +1,6 @@
 // The demands, as contracts of functions that call the entries.
 #![tactic(auto)]
+
 ghost use Rattle.std.specs.Prelude.{◌≡◌};
 ghost use Rattle.table.specs.Check as check;
 ghost use Rattle.value.specs.Check as values;

@@ -1,0 +1,6 @@
+use Rattle.demands.proofs.Demand1.{refuses_value}
+use borrow.Author.Rules.{rules}
+use Rattle.demands.proofs.check_value.Goals as goal
+
+pub returns : goal.returns
+returns c = search refuses_value

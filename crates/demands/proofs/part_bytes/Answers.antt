@@ -1,0 +1,6 @@
+use Rattle.demands.proofs.Demand1.{empties_part}
+use borrow.Author.Rules.{rules}
+use Rattle.demands.proofs.part_bytes.Goals as goal
+
+pub returns : goal.returns
+returns c = search empties_part
