@@ -1,5 +1,6 @@
 // DER values: tag octet, length, header, and the contents of the basic kinds. Where nothing is asked of a caller, reads past the end give 0.
 #![tactic(auto)]
+
 ghost use Rattle.std.specs.Prelude.{◌≡◌, ◌≤◌, ◌<◌, ◌+◌, ◌-◌, ◌%◌, ◌^◌, eqb, length, drop, get_or};
 ghost use Rattle.octets.specs.Pick.{both};
 ghost use Rattle.octets.specs.Octets.{octet, two, base_from, every};

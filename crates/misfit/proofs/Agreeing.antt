@@ -23,7 +23,7 @@ use Rattle.reference.specs.Named.{Held, value, default_value, count_value, absen
 use Rattle.reference.specs.Numbers.{stored, by_default, by_count, component}
 use Rattle.reference.proofs.HeldLaws.{held_none, held-append, held-step}
 use Rattle.misfit.specs.Opened.{Opened, after, open_at}
-use Rattle.misfit.specs.Trail.{Trail, done, reach, then, each_from, count_from, position_from, Found, found, lacking, nothing, find_member}
+use Rattle.misfit.specs.Trail.{Trail, done, reach, then, each_from, count_from, position_from, found, lacking, nothing, find_member}
 use Rattle.misfit.specs.Trail.{find_alternative, ending, lacking_trail, on_found, in_members, along_index, in_list, in_value, along, trail, has_misfit}
 use Rattle.misfit.proofs.Standing.{Stands, open_decoded, same_start, same_span}
 

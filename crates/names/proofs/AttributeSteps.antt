@@ -3,7 +3,7 @@ use mathlib.Core.Path.{◌≡◌, refl, sym, ap, ◌∙◌}
 use mathlib.Core.Bool.{Bool, true, false, not, false≢true}
 use mathlib.Core.Option.{Option, none, some}
 use mathlib.Core.List.{List, [], ◌∷◌}
-use Prim.Native.Nat.{ℕ, ◌≤◌, ◌<◌, ◌+◌, ◌-◌}
+use Prim.Native.Nat.{ℕ, ◌≤◌, ◌<◌, ◌+◌}
 use native.Mathlib.Omega.{arith}
 use borrow.Author.Tests.{ne_eqb, eqb-true, not-true, not-false}
 use lib.Dec.{eqb}
@@ -21,7 +21,6 @@ use Rattle.names.specs.Rfc4514.{Read, bare, escaped, wrong, up_to_end, from_end,
 use Rattle.names.specs.Inner.Reading.{letters_at, next_place, read, value_octets, value_from, report_value, UpTo, ValuePlaces}
 use Rattle.names.specs.Inner.Reading.{is_type_octet, plain_type, report_type, Before, TypePlaces, report_attribute, Rising}
 use Rattle.names.specs.declared.ValueEnd.{ValueEnd}
-use Rattle.names.specs.declared.Attribute.{Attribute}
 use Rattle.names.specs.declared.AttributeAt.{AttributeAt}
 use Rattle.names.proofs.Laws.{between_cons, between_none}
 use Rattle.names.proofs.LetterSteps.{letter-end, letters-plain, letters_cases}

@@ -2,7 +2,7 @@
 use mathlib.Core.Path.{◌≡◌, sym, ap, ◌∙◌}
 use mathlib.Core.Bool.{Bool, true, false}
 use mathlib.Core.List.{List}
-use Prim.Native.Nat.{ℕ, ◌≤◌}
+use Prim.Native.Nat.{ℕ}
 use Rattle.octets.specs.Octets.{same, bytes}
 use Rattle.octets.specs.Quoted.{undoubled}
 use Rattle.der.specs.Dotted.{dotted_arcs}

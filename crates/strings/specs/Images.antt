@@ -1,7 +1,7 @@
 -- Q-1, the image of a character: "Mend the preparation for characters up to U+017F: its Map step (case folding from RFC 3454 table B.2 for
 -- caseIgnoreMatch, no-break space, U+0009 to U+000D and U+0085 to a space, soft hyphen and other controls to nothing) and the NFKC form of single
 -- characters from Unicode 3.2." Characters are numbers here (code points), and a character that no row has stands for itself.
-use Rattle.std.specs.Prelude.{ℕ, ◌+◌, ◌-◌, ◌*◌, ◌/◌, ◌%◌, Bool, List, [], ◌∷◌, ◌++◌, map, ltb, eqb}
+use Rattle.std.specs.Prelude.{ℕ, ◌+◌, ◌-◌, ◌/◌, ◌%◌, Bool, List, [], ◌∷◌, ◌++◌, map, ltb, eqb}
 use Rattle.octets.specs.Pick.{pick, both}
 use Rattle.octets.specs.Text.{within}
 

@@ -2,7 +2,7 @@
 use mathlib.Core.Path.{◌≡◌, ap, ◌∙◌, refl}
 use mathlib.Core.Bool.{true}
 use mathlib.Core.List.{List}
-use Prim.Native.Nat.{ℕ, ◌<◌, ◌+◌, ◌/◌, ◌^◌}
+use Prim.Native.Nat.{ℕ, ◌<◌, ◌/◌, ◌^◌}
 use lib.Dec.{eqb}
 use lib.Bits.{bit_and}
 use Rattle.der.specs.Tag.{tag_of}

@@ -16,7 +16,7 @@ use Rattle.der.specs.Header.{inside_at, opened}
 use Rattle.der.specs.Legal.{legal}
 use Rattle.der.specs.declared.Inside.{Inside}
 use Rattle.rows.specs.Row.{row_at, kind_at, is_member, named_at, members_at, is_list, mode_at, number_at}
-use Rattle.types.specs.Types.{untagged, implicit, tagging_of, Ty, basic, sequence, choice, list_of, Members, members_from, bits_after, typed, type_from}
+use Rattle.types.specs.Types.{untagged, implicit, tagging_of, Ty, basic, sequence, choice, list_of, Members, members_from, bits_after, type_from}
 use Rattle.rows.proofs.KindLaws.{member-names}
 use Rattle.types.proofs.TypeCases.{typed-sequence, typed-choice, typed-list, typed_basic}
 use Rattle.clauses.specs.Clauses.{type_kind}

@@ -1,10 +1,5 @@
-use Rattle.assertion.specs.Assertion.{is_name_letter}
-use Rattle.octets.specs.Octets.{every}
-use lib.ListN.{length, drop}
-use Prim.Native.Nat.{◌-◌}
-use mathlib.Core.Path.{◌≡◌, refl}
+use mathlib.Core.Path.{refl}
 use Rattle.octets.proofs.Laws.{every-bad, every_more, every-done}
-use borrow.Author.Rules.{rules}
 use Rattle.assertion.proofs.all_name_letters.Goals as goal
 
 pub loop-i-init : goal.loop-i-init

@@ -2,9 +2,7 @@ use Rattle.assertion.specs.Assertion.{is_name_letter}
 use Rattle.octets.specs.Octets.{every}
 use lib.ListN.{length, drop}
 use Prim.Native.Nat.{◌-◌}
-use mathlib.Core.Path.{◌≡◌, refl}
-use Rattle.octets.proofs.Laws.{every-bad, every_more, every-done}
-use borrow.Author.Rules.{rules}
+use mathlib.Core.Path.{◌≡◌}
 use Rattle.assertion.proofs.all_name_letters.Given as goal
 
 abbrev pub invariant-loop-i : goal.invariant-loop-i

@@ -1,7 +1,4 @@
-use Rattle.assertion.proofs.Steps.{Braces, brace-start, brace_quote, brace_hidden, brace-opens, brace-other, brace-found, brace_closes, brace-none}
-use lib.ListN.{length}
-use Prim.Native.Nat.{◌-◌}
-use borrow.Author.Rules.{rules}
+use Rattle.assertion.proofs.Steps.{brace-start, brace_quote, brace_hidden, brace-opens, brace-other, brace-found, brace_closes, brace-none}
 use Rattle.assertion.proofs.brace_at.Goals as goal
 
 pub loop-i-init : goal.loop-i-init

@@ -1,7 +1,6 @@
-use Rattle.assertion.proofs.Steps.{Braces, brace-start, brace_quote, brace_hidden, brace-opens, brace-other, brace-found, brace_closes, brace-none}
+use Rattle.assertion.proofs.Steps.{Braces}
 use lib.ListN.{length}
 use Prim.Native.Nat.{◌-◌}
-use borrow.Author.Rules.{rules}
 use Rattle.assertion.proofs.brace_at.Given as goal
 
 abbrev pub invariant-loop-i : goal.invariant-loop-i

@@ -1,9 +1,5 @@
-use Rattle.assertion.specs.Assertion.{comma_from}
-use lib.ListN.{length, drop}
-use Prim.Native.Nat.{◌-◌}
-use mathlib.Core.Path.{◌≡◌, refl}
+use mathlib.Core.Path.{refl}
 use Rattle.assertion.proofs.Steps.{comma-found, comma-on, comma-none}
-use borrow.Author.Rules.{rules}
 use Rattle.assertion.proofs.comma_at.Goals as goal
 
 pub loop-i-init : goal.loop-i-init

@@ -1,9 +1,7 @@
 use Rattle.assertion.specs.Assertion.{comma_from}
 use lib.ListN.{length, drop}
 use Prim.Native.Nat.{◌-◌}
-use mathlib.Core.Path.{◌≡◌, refl}
-use Rattle.assertion.proofs.Steps.{comma-found, comma-on, comma-none}
-use borrow.Author.Rules.{rules}
+use mathlib.Core.Path.{◌≡◌}
 use Rattle.assertion.proofs.comma_at.Given as goal
 
 abbrev pub invariant-loop-i : goal.invariant-loop-i

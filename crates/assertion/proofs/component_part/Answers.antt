@@ -1,5 +1,4 @@
 use Rattle.assertion.proofs.Steps.{component_missing, component-is}
-use borrow.Author.Rules.{rules}
 use Rattle.assertion.proofs.component_part.Goals as goal
 
 pub returns-in_default : goal.returns-in_default

@@ -1,5 +1,4 @@
 use Rattle.assertion.proofs.Steps.{defaults_missing, defaults-is}
-use borrow.Author.Rules.{rules}
 use Rattle.assertion.proofs.defaults_part.Goals as goal
 
 pub returns-in_default : goal.returns-in_default

@@ -1,5 +1,4 @@
 use Rattle.octets.proofs.Laws.{either_first, either_second}
-use borrow.Author.Rules.{rules}
 use Rattle.assertion.proofs.is_name_letter.Goals as goal
 
 pub returns-then-is_alnum : goal.returns-then-is_alnum

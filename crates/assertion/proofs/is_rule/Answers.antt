@@ -1,6 +1,5 @@
 use Rattle.assertion.specs.Assertion.{is_rule}
 use Rattle.octets.proofs.Laws.{either_first, either_second}
-use borrow.Author.Rules.{rules}
 use Rattle.assertion.proofs.is_rule.Goals as goal
 
 pub returns-then-is_rule_name : goal.returns-then-is_rule_name

@@ -1,5 +1,4 @@
 use Rattle.assertion.proofs.Steps.{name_not, name-is}
-use borrow.Author.Rules.{rules}
 use Rattle.assertion.proofs.is_rule_name.Goals as goal
 
 pub returns-then-not-is_letter : goal.returns-then-not-is_letter

@@ -1,5 +1,4 @@
 use Rattle.assertion.proofs.Steps.{label_none, label_close, label_is}
-use borrow.Author.Rules.{rules}
 use Rattle.assertion.proofs.label_at.Goals as goal
 
 pub returns-in_default : goal.returns-in_default

@@ -1,5 +1,4 @@
 use Rattle.assertion.proofs.Steps.{mark-past, mark-other, mark-is}
-use borrow.Author.Rules.{rules}
 use Rattle.assertion.proofs.mark_at.Goals as goal
 
 pub returns-then-s-at : goal.returns-then-s-at

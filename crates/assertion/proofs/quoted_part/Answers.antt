@@ -1,6 +1,5 @@
 use Rattle.assertion.proofs.Steps.{quoted_open, quote_within, quoted-alone, quoted-is}
 use native.Mathlib.Omega.{arith}
-use borrow.Author.Rules.{rules}
 use Rattle.assertion.proofs.quoted_part.Goals as goal
 
 pub returns-in_default : goal.returns-in_default

@@ -1,5 +1,4 @@
 use Rattle.assertion.proofs.Steps.{assertion_open, assertion-is}
-use borrow.Author.Rules.{rules}
 use Rattle.assertion.proofs.read_assertion.Goals as goal
 
 pub returns-in_default : goal.returns-in_default

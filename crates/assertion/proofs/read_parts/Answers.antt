@@ -1,5 +1,4 @@
 use Rattle.assertion.proofs.Steps.{parts_no_component, parts_no_defaults, parts_are}
-use borrow.Author.Rules.{rules}
 use Rattle.assertion.proofs.read_parts.Goals as goal
 
 pub returns-in_default : goal.returns-in_default

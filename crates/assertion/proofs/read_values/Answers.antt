@@ -1,6 +1,5 @@
 use Rattle.assertion.proofs.Steps.{values_no_rule, values-no_value, brace-before, values_are}
 use native.Mathlib.Omega.{arith}
-use borrow.Author.Rules.{rules}
 use Rattle.assertion.proofs.read_values.Goals as goal
 
 pub returns-in_default : goal.returns-in_default

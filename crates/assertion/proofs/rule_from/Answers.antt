@@ -1,6 +1,5 @@
 use Rattle.assertion.proofs.Steps.{rule_endless, rule-within, rule-other, rule-alone, rule-is}
 use native.Mathlib.Omega.{arith}
-use borrow.Author.Rules.{rules}
 use Rattle.assertion.proofs.rule_from.Goals as goal
 
 pub returns-in_default : goal.returns-in_default

@@ -1,5 +1,4 @@
 use Rattle.assertion.proofs.Steps.{rule-bare, rule_labelled}
-use borrow.Author.Rules.{rules}
 use Rattle.assertion.proofs.rule_part.Goals as goal
 
 pub returns-in_default : goal.returns-in_default

@@ -1,5 +1,4 @@
-use Rattle.assertion.proofs.Steps.{Trims, trim_start, trim_stops, trim_on, trim_none}
-use borrow.Author.Rules.{rules}
+use Rattle.assertion.proofs.Steps.{trim_start, trim_stops, trim_on, trim_none}
 use Rattle.assertion.proofs.trimmed_length.Goals as goal
 
 pub loop-n-init : goal.loop-n-init

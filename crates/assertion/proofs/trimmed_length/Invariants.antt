@@ -1,5 +1,4 @@
-use Rattle.assertion.proofs.Steps.{Trims, trim_start, trim_stops, trim_on, trim_none}
-use borrow.Author.Rules.{rules}
+use Rattle.assertion.proofs.Steps.{Trims}
 use Rattle.assertion.proofs.trimmed_length.Given as goal
 
 abbrev pub invariant-loop-n : goal.invariant-loop-n

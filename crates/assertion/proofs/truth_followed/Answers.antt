@@ -1,5 +1,4 @@
 use Rattle.assertion.proofs.Steps.{truth-alone, truth-followed}
-use borrow.Author.Rules.{rules}
 use Rattle.assertion.proofs.truth_followed.Goals as goal
 
 pub returns-in_default : goal.returns-in_default

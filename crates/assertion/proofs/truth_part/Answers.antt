@@ -1,5 +1,4 @@
 use Rattle.assertion.proofs.Steps.{truth_true, truth_false, truth-none}
-use borrow.Author.Rules.{rules}
 use Rattle.assertion.proofs.truth_part.Goals as goal
 
 pub returns-in-At : goal.returns-in-At

@@ -1,5 +1,4 @@
 use Rattle.assertion.proofs.Steps.{value-bare, value_labelled}
-use borrow.Author.Rules.{rules}
 use Rattle.assertion.proofs.value_part.Goals as goal
 
 pub returns-in_default : goal.returns-in_default

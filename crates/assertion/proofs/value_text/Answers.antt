@@ -1,6 +1,5 @@
 use Rattle.assertion.proofs.Steps.{value_open, value-within, value-fits, value-empty, value-is}
 use native.Mathlib.Omega.{arith}
-use borrow.Author.Rules.{rules}
 use Rattle.assertion.proofs.value_text.Goals as goal
 
 pub returns-in_default : goal.returns-in_default

@@ -1,5 +1,4 @@
 use Rattle.assertion.proofs.Steps.{quotes_none}
-use borrow.Author.Rules.{rules}
 use Rattle.assertion.proofs.within_quotes.Goals as goal
 
 pub returns-then-b-a : goal.returns-then-b-a

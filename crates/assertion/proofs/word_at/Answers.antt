@@ -2,7 +2,6 @@ use mathlib.Core.Bool.{not}
 use mathlib.Core.Path.{ap}
 use Rattle.assertion.proofs.Steps.{word_none, word_fits, word_is}
 use native.Mathlib.Omega.{arith}
-use borrow.Author.Rules.{rules}
 use Rattle.assertion.proofs.word_at.Goals as goal
 
 pub returns-then-not-starts : goal.returns-then-not-starts

@@ -1,5 +1,4 @@
 use Rattle.bitnames.proofs.SetSteps.{list-none, list-empty, list-bits}
-use borrow.Author.Rules.{rules}
 use Rattle.bitnames.proofs.listed_bits.Goals as goal
 
 pub returns-then-not-in_braces : goal.returns-then-not-in_braces

@@ -1,9 +1,5 @@
-use Prim.Native.Nat.{◌+◌, ◌-◌}
-use lib.ListN.{length}
-use Rattle.bitnames.specs.Inner.Sets.{names_after}
-use Rattle.bitnames.proofs.SetSteps.{number-low, Gathering, gather_start, gather_done, gather_unknown, gather_next}
+use Rattle.bitnames.proofs.SetSteps.{number-low, gather_start, gather_done, gather_unknown, gather_next}
 use Rattle.types.proofs.TagSteps.{one_bit}
-use borrow.Author.Rules.{rules}
 use Rattle.bitnames.proofs.listed_in.Goals as goal
 
 pub loop-at-init : goal.loop-at-init

@@ -1,12 +1,4 @@
-use Prim.Native.Nat.{◌≤◌, ◌+◌, ◌-◌}
-use mathlib.Core.Path.{◌≡◌}
 use native.Mathlib.Omega.{arith}
-use Rattle.octets.specs.Octets.{part}
-use Rattle.rows.specs.Row.{bit_names_at}
-use Rattle.types.specs.Types.{bits_from}
-use Rattle.table.specs.Inner.Rows.{table_rows, place_at}
-use Rattle.bitnames.specs.Names.{number_of}
-use Rattle.bitnames.specs.Inner.Sets.{names_after}
 use Rattle.bitnames.proofs.NameSteps.{bit_here, row_fits_lem, bit_fits, bit_low, number-count, number-start, number-none, number-found, number_again}
 use borrow.Author.Rules.{rules}
 use Rattle.bitnames.proofs.number_of.Goals as goal

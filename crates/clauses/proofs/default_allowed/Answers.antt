@@ -1,5 +1,4 @@
 use Rattle.clauses.proofs.Steps.{allowed-is, allowed_not}
-use borrow.Author.Rules.{rules}
 use Rattle.clauses.proofs.default_allowed.Goals as goal
 
 pub returns-then-not-within : goal.returns-then-not-within

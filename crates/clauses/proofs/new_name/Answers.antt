@@ -1,8 +1,5 @@
-use Prim.Native.Nat.{◌-◌, ◌*◌}
-use Rattle.clauses.specs.Inner.Work.{differs_at}
 use Rattle.rows.proofs.KindLaws.{follower-name}
-use Rattle.clauses.proofs.NameSteps.{Tested, before-name, name-start, name_repeated, name-other, name_new}
-use borrow.Author.Rules.{rules}
+use Rattle.clauses.proofs.NameSteps.{before-name, name-start, name_repeated, name-other, name_new}
 use Rattle.clauses.proofs.new_name.Goals as goal
 
 pub loop-k-init : goal.loop-k-init

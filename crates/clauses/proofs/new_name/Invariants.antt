@@ -1,8 +1,6 @@
 use Prim.Native.Nat.{◌-◌, ◌*◌}
 use Rattle.clauses.specs.Inner.Work.{differs_at}
-use Rattle.rows.proofs.KindLaws.{follower-name}
-use Rattle.clauses.proofs.NameSteps.{Tested, before-name, name-start, name_repeated, name-other, name_new}
-use borrow.Author.Rules.{rules}
+use Rattle.clauses.proofs.NameSteps.{Tested}
 use Rattle.clauses.proofs.new_name.Given as goal
 
 abbrev pub invariant-loop-k : goal.invariant-loop-k

@@ -1,6 +1,4 @@
-use Prim.Native.Nat.{◌-◌, ◌*◌}
-use Rattle.clauses.specs.Inner.Work.{number_differs_at}
-use Rattle.clauses.proofs.NameSteps.{Tested, before-octet, before-fits, number-start, number_repeated, number-other, number-new}
+use Rattle.clauses.proofs.NameSteps.{before-octet, before-fits, number-start, number_repeated, number-other, number-new}
 use borrow.Author.Rules.{rules}
 use Rattle.clauses.proofs.new_number.Goals as goal
 

@@ -1,7 +1,6 @@
 use Prim.Native.Nat.{◌-◌, ◌*◌}
 use Rattle.clauses.specs.Inner.Work.{number_differs_at}
-use Rattle.clauses.proofs.NameSteps.{Tested, before-octet, before-fits, number-start, number_repeated, number-other, number-new}
-use borrow.Author.Rules.{rules}
+use Rattle.clauses.proofs.NameSteps.{Tested}
 use Rattle.clauses.proofs.new_number.Given as goal
 
 abbrev pub invariant-loop-k : goal.invariant-loop-k

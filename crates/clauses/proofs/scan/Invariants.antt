@@ -1,8 +1,6 @@
 use lib.ListN.{length}
 use Prim.Native.Nat.{◌-◌}
-use Rattle.clauses.proofs.PassSteps.{Passing, fails_counted, none_placed, pass_start, set_space, due-kind, due-before, pass_many, pass_missing, pass_misfit, pass_follower}
-use Rattle.clauses.proofs.PassSteps.{pass_unsized, pass_type, pass_due, pass_done}
-use borrow.Author.Rules.{rules}
+use Rattle.clauses.proofs.PassSteps.{Passing}
 use Rattle.clauses.proofs.scan.Given as goal
 
 abbrev pub invariant-loop-at : goal.invariant-loop-at

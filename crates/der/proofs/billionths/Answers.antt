@@ -1,6 +1,4 @@
-use Rattle.der.proofs.TimeSteps.{Scaled, scaled-start, scaled-times, scaled-plus, scaled-more, scaled-end}
-use Prim.Native.Nat.{◌-◌}
-use borrow.Author.Rules.{rules}
+use Rattle.der.proofs.TimeSteps.{scaled-start, scaled-times, scaled-plus, scaled-more, scaled-end}
 use Rattle.der.proofs.billionths.Goals as goal
 
 pub loop-k-init : goal.loop-k-init

@@ -1,6 +1,5 @@
-use Rattle.der.proofs.TimeSteps.{Scaled, scaled-start, scaled-times, scaled-plus, scaled-more, scaled-end}
+use Rattle.der.proofs.TimeSteps.{Scaled}
 use Prim.Native.Nat.{◌-◌}
-use borrow.Author.Rules.{rules}
 use Rattle.der.proofs.billionths.Given as goal
 
 abbrev pub invariant-loop-k : goal.invariant-loop-k

@@ -1,5 +1,4 @@
 use Rattle.der.proofs.MeaningSteps.{bit_here, past-bits}
-use borrow.Author.Rules.{rules}
 use Rattle.der.proofs.bit_at.Goals as goal
 
 pub returns-then-bit_count-i : goal.returns-then-bit_count-i

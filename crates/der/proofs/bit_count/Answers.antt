@@ -1,5 +1,4 @@
 use Rattle.der.proofs.MeaningSteps.{count-few, count-is, count_none}
-use borrow.Author.Rules.{rules}
 use Rattle.der.proofs.bit_count.Goals as goal
 
 pub returns-then-c-eq0 : goal.returns-then-c-eq0

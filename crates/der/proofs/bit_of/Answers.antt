@@ -1,5 +1,4 @@
 use Rattle.der.proofs.MeaningSteps.{bit_is}
-use borrow.Author.Rules.{rules}
 use Rattle.der.proofs.bit_of.Goals as goal
 
 pub returns : goal.returns

@@ -1,5 +1,4 @@
 use Rattle.der.proofs.ContentsSteps.{first_fails, first_holds}
-use borrow.Author.Rules.{rules}
 use Rattle.der.proofs.both_printable.Goals as goal
 
 pub returns-then-not-is_printable : goal.returns-then-not-is_printable

@@ -1,5 +1,4 @@
 use Rattle.der.proofs.TimeSteps.{days_february, days_leap, days_most, days_thirty}
-use borrow.Author.Rules.{rules}
 use Rattle.der.proofs.days_in.Goals as goal
 
 pub returns-then-is_leap : goal.returns-then-is_leap

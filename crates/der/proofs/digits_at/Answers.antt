@@ -1,7 +1,4 @@
-use Rattle.der.proofs.TimeSteps.{Digits, digits-start, digits-times, digits-plus, digits_more, digits-end}
-use lib.ListN.{length}
-use Prim.Native.Nat.{◌-◌}
-use borrow.Author.Rules.{rules}
+use Rattle.der.proofs.TimeSteps.{digits-start, digits-times, digits-plus, digits_more, digits-end}
 use Rattle.der.proofs.digits_at.Goals as goal
 
 pub loop-i-init : goal.loop-i-init

@@ -1,7 +1,6 @@
-use Rattle.der.proofs.TimeSteps.{Digits, digits-start, digits-times, digits-plus, digits_more, digits-end}
+use Rattle.der.proofs.TimeSteps.{Digits}
 use lib.ListN.{length}
 use Prim.Native.Nat.{◌-◌}
-use borrow.Author.Rules.{rules}
 use Rattle.der.proofs.digits_at.Given as goal
 
 abbrev pub invariant-loop-i : goal.invariant-loop-i

@@ -1,6 +1,5 @@
 use Rattle.octets.proofs.Tests.{tests}
 use Rattle.der.specs.Time.{earlier}
-use borrow.Author.Rules.{rules}
 use Rattle.der.proofs.earlier.Goals as goal
 
 pub returns-then-a-b : goal.returns-then-a-b

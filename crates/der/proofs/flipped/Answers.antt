@@ -1,7 +1,4 @@
-use Rattle.der.proofs.MeaningSteps.{Flipped, flipped_start, flipped_times, flipped_plus, flipped_more, flipped_end}
-use Prim.Native.Nat.{◌-◌}
-use lib.ListN.{length}
-use borrow.Author.Rules.{rules}
+use Rattle.der.proofs.MeaningSteps.{flipped_start, flipped_times, flipped_plus, flipped_more, flipped_end}
 use Rattle.der.proofs.flipped.Goals as goal
 
 pub loop-i-init : goal.loop-i-init

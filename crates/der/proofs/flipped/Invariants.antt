@@ -1,7 +1,6 @@
-use Rattle.der.proofs.MeaningSteps.{Flipped, flipped_start, flipped_times, flipped_plus, flipped_more, flipped_end}
+use Rattle.der.proofs.MeaningSteps.{Flipped}
 use Prim.Native.Nat.{◌-◌}
 use lib.ListN.{length}
-use borrow.Author.Rules.{rules}
 use Rattle.der.proofs.flipped.Given as goal
 
 abbrev pub invariant-loop-i : goal.invariant-loop-i

@@ -1,6 +1,5 @@
 use Rattle.octets.proofs.Tests.{tests}
 use Rattle.der.specs.Kind.{is_constructed}
-use borrow.Author.Rules.{rules}
 use Rattle.der.proofs.form.Goals as goal
 
 pub returns-then-kind-eq-SEQUENCE : goal.returns-then-kind-eq-SEQUENCE

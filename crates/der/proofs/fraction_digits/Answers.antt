@@ -1,5 +1,4 @@
 use Rattle.der.proofs.TimeSteps.{fraction_none, fraction_some}
-use borrow.Author.Rules.{rules}
 use Rattle.der.proofs.fraction_digits.Goals as goal
 
 pub returns-then-c-le16 : goal.returns-then-c-le16

@@ -1,7 +1,6 @@
 use Rattle.der.proofs.TimeSteps.{fraction_last, fraction_other}
 use Rattle.octets.proofs.Tests.{tests}
 use Rattle.der.specs.Time.{fraction_formed}
-use borrow.Author.Rules.{rules}
 use Rattle.der.proofs.fraction_formed.Goals as goal
 
 pub returns-then-f-lt1 : goal.returns-then-f-lt1

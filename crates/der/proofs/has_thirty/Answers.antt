@@ -1,6 +1,5 @@
 use Rattle.octets.proofs.Tests.{tests}
 use Rattle.der.specs.Time.{has_thirty}
-use borrow.Author.Rules.{rules}
 use Rattle.der.proofs.has_thirty.Goals as goal
 
 pub returns-then-month-eq4 : goal.returns-then-month-eq4

@@ -1,6 +1,5 @@
 use Rattle.octets.proofs.Tests.{tests}
 use Rattle.der.specs.Time.{is_leap}
-use borrow.Author.Rules.{rules}
 use Rattle.der.proofs.is_leap.Goals as goal
 
 pub returns-then-year-ne0 : goal.returns-then-year-ne0

@@ -1,5 +1,4 @@
 use Rattle.der.proofs.ContentsSteps.{printable_low, printable_high, printable_none}
-use borrow.Author.Rules.{rules}
 use Rattle.der.proofs.is_printable.Goals as goal
 
 pub returns-then-b-lt64 : goal.returns-then-b-lt64

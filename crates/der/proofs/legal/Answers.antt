@@ -1,5 +1,4 @@
 use Rattle.der.proofs.ContentsSteps.{direct_integer, direct_printable}
-use borrow.Author.Rules.{rules}
 use Rattle.der.proofs.legal.Goals as goal
 
 pub returns-then-kind-eq-INTEGER : goal.returns-then-kind-eq-INTEGER

@@ -1,5 +1,4 @@
 use Rattle.der.proofs.NameSteps.{after-above, after_is}
-use borrow.Author.Rules.{rules}
 use Rattle.der.proofs.legal_after.Goals as goal
 
 pub returns-then-not-not_above : goal.returns-then-not-not_above

@@ -1,5 +1,4 @@
 use Rattle.der.proofs.ContentsSteps.{bits_eight, bits-empty, bits-last, bits_none}
-use borrow.Author.Rules.{rules}
 use Rattle.der.proofs.legal_bits.Goals as goal
 
 pub returns-then-c-lt1 : goal.returns-then-c-lt1

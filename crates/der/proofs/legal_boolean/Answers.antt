@@ -1,5 +1,4 @@
 use Rattle.der.proofs.ContentsSteps.{boolean_false, boolean-length, boolean-other}
-use borrow.Author.Rules.{rules}
 use Rattle.der.proofs.legal_boolean.Goals as goal
 
 pub returns-then-c-ne1 : goal.returns-then-c-ne1

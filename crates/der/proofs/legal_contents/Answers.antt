@@ -1,6 +1,5 @@
 use Rattle.der.proofs.ContentsSteps.{kind-bits, kind-boolean, kind-enumerated, kind-integer, kind-named, kind-null, kind-octets, kind-oid, kind-text}
 use Rattle.der.proofs.ContentsSteps.{kind-rdn_sequence, kind-rdn, kind-none}
-use borrow.Author.Rules.{rules}
 use Rattle.der.proofs.legal_contents.Goals as goal
 
 pub returns-then-kind-eq-BOOLEAN : goal.returns-then-kind-eq-BOOLEAN

@@ -1,5 +1,4 @@
 use Rattle.der.proofs.ContentsSteps.{ia5_is}
-use borrow.Author.Rules.{rules}
 use Rattle.der.proofs.legal_ia5.Goals as goal
 
 pub returns : goal.returns

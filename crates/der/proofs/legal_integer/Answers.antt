@@ -1,5 +1,4 @@
 use Rattle.der.proofs.ContentsSteps.{integer_empty, integer-long, integer-more, integer-one}
-use borrow.Author.Rules.{rules}
 use Rattle.der.proofs.legal_integer.Goals as goal
 
 pub returns-then-c-lt1 : goal.returns-then-c-lt1

@@ -1,5 +1,4 @@
 use Rattle.der.proofs.ContentsSteps.{named_illegal, named-empty, named-long, named_first_in, named_last_in, named-unused, named-last}
-use borrow.Author.Rules.{rules}
 use Rattle.der.proofs.legal_named_bits.Goals as goal
 
 pub returns-then-not-legal_bits : goal.returns-then-not-legal_bits

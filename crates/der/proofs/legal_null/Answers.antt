@@ -1,6 +1,5 @@
 use Rattle.octets.proofs.Tests.{tests}
 use Rattle.der.specs.Contents.{legal_null}
-use borrow.Author.Rules.{rules}
 use Rattle.der.proofs.legal_null.Goals as goal
 
 pub returns : goal.returns

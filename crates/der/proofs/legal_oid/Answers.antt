@@ -1,8 +1,4 @@
-use Rattle.der.proofs.SubSteps.{legal_from, oid-start, oid_full, oid_falls, oid-more, oid-end, oid-broken, oid-done}
-use Rattle.der.specs.Contents.{subidentifiers, legal_oid}
-use mathlib.Core.Path.{◌≡◌}
-use Prim.Native.Nat.{◌-◌, ◌≤◌}
-use lib.ListN.{length, drop}
+use Rattle.der.proofs.SubSteps.{oid-start, oid_full, oid_falls, oid-more, oid-end, oid-broken, oid-done}
 use borrow.Author.Rules.{rules}
 use Rattle.der.proofs.legal_oid.Goals as goal
 

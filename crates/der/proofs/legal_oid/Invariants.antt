@@ -1,9 +1,8 @@
-use Rattle.der.proofs.SubSteps.{legal_from, oid-start, oid_full, oid_falls, oid-more, oid-end, oid-broken, oid-done}
+use Rattle.der.proofs.SubSteps.{legal_from}
 use Rattle.der.specs.Contents.{subidentifiers, legal_oid}
 use mathlib.Core.Path.{◌≡◌}
 use Prim.Native.Nat.{◌-◌, ◌≤◌}
 use lib.ListN.{length, drop}
-use borrow.Author.Rules.{rules}
 use Rattle.der.proofs.legal_oid.Given as goal
 
 abbrev pub invariant-loop-i : goal.invariant-loop-i

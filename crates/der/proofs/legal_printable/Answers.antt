@@ -1,10 +1,5 @@
 use Rattle.octets.proofs.Laws.{every-done, every-bad, every_more}
-use Rattle.der.specs.Contents.{is_printable, legal_printable}
-use Rattle.octets.specs.Octets.{every}
-use mathlib.Core.Path.{◌≡◌}
-use Prim.Native.Nat.{◌-◌}
-use lib.ListN.{length, drop}
-use borrow.Author.Rules.{rules}
+use Rattle.der.specs.Contents.{legal_printable}
 use Rattle.der.proofs.legal_printable.Goals as goal
 
 pub returns-then-not-is_printable : goal.returns-then-not-is_printable

@@ -1,10 +1,8 @@
-use Rattle.octets.proofs.Laws.{every-done, every-bad, every_more}
-use Rattle.der.specs.Contents.{is_printable, legal_printable}
+use Rattle.der.specs.Contents.{is_printable}
 use Rattle.octets.specs.Octets.{every}
 use mathlib.Core.Path.{◌≡◌}
 use Prim.Native.Nat.{◌-◌}
 use lib.ListN.{length, drop}
-use borrow.Author.Rules.{rules}
 use Rattle.der.proofs.legal_printable.Given as goal
 
 abbrev pub invariant-loop-i : goal.invariant-loop-i

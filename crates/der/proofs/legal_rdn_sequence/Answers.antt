@@ -1,8 +1,6 @@
 use Rattle.der.proofs.NameLaws.{rdn_usable}
-use Rattle.der.proofs.NameSteps.{Rdns, rdns-start, rdns_full, rdns-misfit, contents-fit}
+use Rattle.der.proofs.NameSteps.{rdns-start, rdns_full, rdns-misfit, contents-fit}
 use Rattle.der.proofs.NameSteps.{rdns-bad, rdns-room, rdns_falls, rdns-more, rdns-done}
-use Prim.Native.Nat.{◌-◌}
-use lib.ListN.{length}
 use borrow.Author.Rules.{rules}
 use Rattle.der.proofs.legal_rdn_sequence.Goals as goal
 

@@ -1,5 +1,4 @@
 use Rattle.der.proofs.NameSteps.{string-utf8, string_printable, string_ia5, string-none}
-use borrow.Author.Rules.{rules}
 use Rattle.der.proofs.legal_string.Goals as goal
 
 pub returns-then-tag-eq-UTF8_TAG : goal.returns-then-tag-eq-UTF8_TAG

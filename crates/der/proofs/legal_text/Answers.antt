@@ -1,7 +1,6 @@
 use Rattle.der.proofs.ContentsSteps.{text_ia5, text_printable, text-time, text-utf8}
 use Rattle.octets.proofs.Tests.{tests}
 use Rattle.der.specs.Contents.{legal_text}
-use borrow.Author.Rules.{rules}
 use Rattle.der.proofs.legal_text.Goals as goal
 
 pub returns-then-kind-eq-UTF8_STRING : goal.returns-then-kind-eq-UTF8_STRING

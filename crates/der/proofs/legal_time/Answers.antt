@@ -1,5 +1,4 @@
 use Rattle.der.proofs.TimeSteps.{time-is, time_no_digits, time-no_tail, time-short}
-use borrow.Author.Rules.{rules}
 use Rattle.der.proofs.legal_time.Goals as goal
 
 pub returns-then-c-lt15 : goal.returns-then-c-lt15

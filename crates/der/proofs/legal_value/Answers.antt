@@ -1,5 +1,4 @@
 use Rattle.der.proofs.NameSteps.{value-misfit, value-starts, value_before-end, value-is}
-use borrow.Author.Rules.{rules}
 use Rattle.der.proofs.legal_value.Goals as goal
 
 pub returns-in_default : goal.returns-in_default

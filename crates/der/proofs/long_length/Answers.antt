@@ -1,6 +1,5 @@
 use Rattle.octets.proofs.Tests.{tests}
 use Rattle.der.specs.Header.{long_length}
-use borrow.Author.Rules.{rules}
 use Rattle.der.proofs.long_length.Goals as goal
 
 pub returns-then-end-next : goal.returns-then-end-next

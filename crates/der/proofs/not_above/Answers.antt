@@ -1,9 +1,5 @@
 use Rattle.der.proofs.MeaningSteps.{order_end, order_less, order_more, order_on}
-use Rattle.der.specs.Order.{not_above}
-use mathlib.Core.Path.{◌≡◌, refl}
-use Prim.Native.Nat.{◌-◌}
-use lib.ListN.{length, drop}
-use borrow.Author.Rules.{rules}
+use mathlib.Core.Path.{refl}
 use Rattle.der.proofs.not_above.Goals as goal
 
 pub loop-i-init : goal.loop-i-init

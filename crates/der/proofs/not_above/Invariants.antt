@@ -1,9 +1,7 @@
-use Rattle.der.proofs.MeaningSteps.{order_end, order_less, order_more, order_on}
 use Rattle.der.specs.Order.{not_above}
-use mathlib.Core.Path.{◌≡◌, refl}
+use mathlib.Core.Path.{◌≡◌}
 use Prim.Native.Nat.{◌-◌}
 use lib.ListN.{length, drop}
-use borrow.Author.Rules.{rules}
 use Rattle.der.proofs.not_above.Given as goal
 
 abbrev pub invariant-loop-i : goal.invariant-loop-i

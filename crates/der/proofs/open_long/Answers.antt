@@ -1,5 +1,4 @@
 use Rattle.der.proofs.Steps.{length-ends, long-is, long-past, long_unusable}
-use borrow.Author.Rules.{rules}
 use Rattle.der.proofs.open_long.Goals as goal
 
 pub returns-in_default : goal.returns-in_default

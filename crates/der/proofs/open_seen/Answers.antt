@@ -1,5 +1,4 @@
 use Rattle.der.proofs.Steps.{seen-is, seen-long, seen-past, seen-short}
-use borrow.Author.Rules.{rules}
 use Rattle.der.proofs.open_seen.Goals as goal
 
 pub returns-then-end-at-lt2 : goal.returns-then-end-at-lt2

@@ -1,5 +1,4 @@
 use Rattle.der.proofs.MeaningSteps.{own_is}
-use borrow.Author.Rules.{rules}
 use Rattle.der.proofs.own_octet.Goals as goal
 
 pub returns : goal.returns

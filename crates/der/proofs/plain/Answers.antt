@@ -1,7 +1,4 @@
-use Rattle.der.proofs.MeaningSteps.{Plain, plain-start, plain-times, plain-plus, plain_more, plain_end}
-use Prim.Native.Nat.{◌-◌}
-use lib.ListN.{length}
-use borrow.Author.Rules.{rules}
+use Rattle.der.proofs.MeaningSteps.{plain-start, plain-times, plain-plus, plain_more, plain_end}
 use Rattle.der.proofs.plain.Goals as goal
 
 pub loop-i-init : goal.loop-i-init

@@ -1,7 +1,6 @@
-use Rattle.der.proofs.MeaningSteps.{Plain, plain-start, plain-times, plain-plus, plain_more, plain_end}
+use Rattle.der.proofs.MeaningSteps.{Plain}
 use Prim.Native.Nat.{◌-◌}
 use lib.ListN.{length}
-use borrow.Author.Rules.{rules}
 use Rattle.der.proofs.plain.Given as goal
 
 abbrev pub invariant-loop-i : goal.invariant-loop-i

@@ -1,5 +1,4 @@
 use Rattle.der.proofs.MeaningSteps.{truth-is}
-use borrow.Author.Rules.{rules}
 use Rattle.der.proofs.read_boolean.Goals as goal
 
 pub returns : goal.returns

@@ -1,5 +1,4 @@
 use Rattle.der.proofs.Steps.{header-none, header_31, header-misfit, header_is}
-use borrow.Author.Rules.{rules}
 use Rattle.der.proofs.read_header.Goals as goal
 
 pub returns-then-end-at : goal.returns-then-end-at

@@ -1,5 +1,4 @@
 use Rattle.der.proofs.MeaningSteps.{integer-fits, integer-minus, integer-plus}
-use borrow.Author.Rules.{rules}
 use Rattle.der.proofs.read_integer.Goals as goal
 
 pub returns-then-octet-lt128 : goal.returns-then-octet-lt128

@@ -1,5 +1,4 @@
 use Rattle.der.proofs.Steps.{length-no, length_none, length-one, length-short, length_two}
-use borrow.Author.Rules.{rules}
 use Rattle.der.proofs.read_length.Goals as goal
 
 pub returns-then-end-at : goal.returns-then-end-at

@@ -1,5 +1,4 @@
 use Rattle.der.proofs.Steps.{one-is, one-past}
-use borrow.Author.Rules.{rules}
 use Rattle.der.proofs.read_one.Goals as goal
 
 pub returns-then-end-at-lt2 : goal.returns-then-end-at-lt2

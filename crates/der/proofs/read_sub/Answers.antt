@@ -1,9 +1,4 @@
 use Rattle.der.proofs.SubSteps.{mask_fits, sub_80, sub_cut, sub-end, sub_more, sub-over, sub-start, sub-value}
-use Rattle.der.specs.Contents.{subs_from, subidentifiers}
-use mathlib.Core.Bool.{true}
-use mathlib.Core.Path.{◌≡◌}
-use Prim.Native.Nat.{◌-◌, ◌≤◌}
-use lib.ListN.{length, drop}
 use borrow.Author.Rules.{rules}
 use Rattle.der.proofs.read_sub.Goals as goal
 

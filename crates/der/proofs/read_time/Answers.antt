@@ -1,5 +1,4 @@
 use Rattle.der.proofs.TimeSteps.{says}
-use borrow.Author.Rules.{rules}
 use Rattle.der.proofs.read_time.Goals as goal
 
 pub returns : goal.returns

@@ -1,5 +1,4 @@
 use Rattle.der.proofs.Steps.{two_is, two_past}
-use borrow.Author.Rules.{rules}
 use Rattle.der.proofs.read_two.Goals as goal
 
 pub returns-then-end-at-lt3 : goal.returns-then-end-at-lt3

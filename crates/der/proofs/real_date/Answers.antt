@@ -1,7 +1,6 @@
 use Rattle.der.proofs.TimeSteps.{date_is}
 use Rattle.octets.proofs.Tests.{tests}
 use Rattle.der.specs.Time.{real_date}
-use borrow.Author.Rules.{rules}
 use Rattle.der.proofs.real_date.Goals as goal
 
 pub returns-then-month-lt1 : goal.returns-then-month-lt1

@@ -1,5 +1,4 @@
 use Rattle.der.proofs.TimeSteps.{moment_is, moment_none}
-use borrow.Author.Rules.{rules}
 use Rattle.der.proofs.real_moment.Goals as goal
 
 pub returns-then-not-real_date : goal.returns-then-not-real_date

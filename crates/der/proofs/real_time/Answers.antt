@@ -1,6 +1,5 @@
 use Rattle.octets.proofs.Tests.{tests}
 use Rattle.der.specs.Time.{real_time}
-use borrow.Author.Rules.{rules}
 use Rattle.der.proofs.real_time.Goals as goal
 
 pub returns-then-hour-gt23 : goal.returns-then-hour-gt23

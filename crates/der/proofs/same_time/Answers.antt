@@ -1,6 +1,5 @@
 use Rattle.octets.proofs.Tests.{tests}
 use Rattle.der.specs.Time.{same_time}
-use borrow.Author.Rules.{rules}
 use Rattle.der.proofs.same_time.Goals as goal
 
 pub returns-then-a-b : goal.returns-then-a-b

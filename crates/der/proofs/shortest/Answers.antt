@@ -1,6 +1,5 @@
 use Rattle.octets.proofs.Tests.{tests}
 use Rattle.der.specs.Contents.{shortest}
-use borrow.Author.Rules.{rules}
 use Rattle.der.proofs.shortest.Goals as goal
 
 pub returns-then-a-eq0 : goal.returns-then-a-eq0

@@ -1,7 +1,4 @@
-use Prim.Native.Nat.{◌-◌}
-use lib.ListN.{length}
-use Rattle.der.proofs.ContentsSteps.{Skipped, skip-none, skip-more, skipped_same}
-use borrow.Author.Rules.{rules}
+use Rattle.der.proofs.ContentsSteps.{skip-none, skip-more, skipped_same}
 use Rattle.der.proofs.skip_printable.Goals as goal
 
 pub loop-i-init : goal.loop-i-init

@@ -1,7 +1,6 @@
 use Prim.Native.Nat.{◌-◌}
 use lib.ListN.{length}
-use Rattle.der.proofs.ContentsSteps.{Skipped, skip-none, skip-more, skipped_same}
-use borrow.Author.Rules.{rules}
+use Rattle.der.proofs.ContentsSteps.{Skipped}
 use Rattle.der.proofs.skip_printable.Given as goal
 
 abbrev pub invariant-loop-i : goal.invariant-loop-i

@@ -1,5 +1,4 @@
 use Rattle.der.proofs.Steps.{split-is}
-use borrow.Author.Rules.{rules}
 use Rattle.der.proofs.split.Goals as goal
 
 pub returns : goal.returns

@@ -1,5 +1,4 @@
 use Rattle.der.proofs.Steps.{tag_context, tag_fits, tag_other, tag_universal}
-use borrow.Author.Rules.{rules}
 use Rattle.der.proofs.tag_of.Goals as goal
 
 pub returns-then-tag-eq0 : goal.returns-then-tag-eq0

@@ -1,5 +1,4 @@
 use Rattle.der.proofs.TimeSteps.{tail_fraction, tail_no_point, tail_none, tail_other}
-use borrow.Author.Rules.{rules}
 use Rattle.der.proofs.tail_formed.Goals as goal
 
 pub returns-then-c-last-ne90 : goal.returns-then-c-last-ne90

@@ -1,7 +1,6 @@
 use Rattle.der.proofs.Steps.{universal-text}
 use Rattle.octets.proofs.Tests.{tests}
 use Rattle.der.specs.Tag.{universal}
-use borrow.Author.Rules.{rules}
 use Rattle.der.proofs.universal.Goals as goal
 
 pub returns-then-kind-eq-BOOLEAN : goal.returns-then-kind-eq-BOOLEAN

@@ -1,6 +1,5 @@
 use Rattle.octets.proofs.Tests.{tests}
 use Rattle.der.specs.Tag.{universal_text}
-use borrow.Author.Rules.{rules}
 use Rattle.der.proofs.universal_text.Goals as goal
 
 pub returns-then-kind-eq-UTF8_STRING : goal.returns-then-kind-eq-UTF8_STRING

@@ -1,5 +1,4 @@
 use Rattle.der.proofs.ContentsSteps.{clear_divisor, clear_is}
-use borrow.Author.Rules.{rules}
 use Rattle.der.proofs.unused_clear.Goals as goal
 
 pub nonzero_rem-result : goal.nonzero_rem-result

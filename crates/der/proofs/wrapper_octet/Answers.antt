@@ -1,5 +1,4 @@
 use Rattle.der.proofs.MeaningSteps.{wrapper_is}
-use borrow.Author.Rules.{rules}
 use Rattle.der.proofs.wrapper_octet.Goals as goal
 
 pub returns : goal.returns

@@ -1,10 +1,5 @@
-use Prim.Native.Nat.{◌-◌}
-use Rattle.der.specs.Meaning.{bits_of}
 use Rattle.digits.proofs.NamedSteps.{mask_differ, mask_done, mask_last, mask_on}
-use Rattle.digits.specs.Inner.Alike.{alike_number}
-use lib.ListN.{drop}
-use mathlib.Core.Path.{◌≡◌, refl}
-use borrow.Author.Rules.{rules}
+use mathlib.Core.Path.{refl}
 use Rattle.digits.proofs.alike_mask.Goals as goal
 
 pub returns-then-bit_at-ne0 : goal.returns-then-bit_at-ne0

@@ -1,12 +1,5 @@
-use Prim.Native.Nat.{◌-◌}
-use Rattle.der.specs.Meaning.{bits_of}
 use Rattle.digits.proofs.NamedSteps.{alike-differ, alike-done, alike-on, alike-start}
 use Rattle.digits.proofs.SignificantLaws.{ends_some, digits-differ}
-use Rattle.digits.specs.Inner.Alike.{alike}
-use Rattle.digits.specs.Inner.Answers.{bits_in, rest_bits}
-use lib.ListN.{drop}
-use mathlib.Core.Path.{◌≡◌}
-use borrow.Author.Rules.{rules}
 use Rattle.digits.proofs.alike_text.Goals as goal
 
 pub overflow_sub-n : goal.overflow_sub-n

@@ -1,10 +1,8 @@
 use Prim.Native.Nat.{◌-◌}
 use Rattle.digits.specs.Asserted.{is_bit}
-use Rattle.octets.proofs.Laws.{every-bad, every-done, every_more}
 use Rattle.octets.specs.Octets.{every}
 use lib.ListN.{drop, length}
-use mathlib.Core.Path.{◌≡◌, refl}
-use borrow.Author.Rules.{rules}
+use mathlib.Core.Path.{◌≡◌}
 use Rattle.digits.proofs.all_bits.Given as goal
 
 abbrev pub invariant-loop-i : goal.invariant-loop-i

@@ -1,10 +1,5 @@
-use Prim.Native.Nat.{◌-◌}
-use Rattle.digits.specs.Asserted.{is_hex_digit}
 use Rattle.octets.proofs.Laws.{every-bad, every-done, every_more}
-use Rattle.octets.specs.Octets.{every}
-use lib.ListN.{drop, length}
-use mathlib.Core.Path.{◌≡◌, refl}
-use borrow.Author.Rules.{rules}
+use mathlib.Core.Path.{refl}
 use Rattle.digits.proofs.all_hex.Goals as goal
 
 pub loop-i-init : goal.loop-i-init

@@ -1,5 +1,4 @@
 use Rattle.digits.proofs.BitSteps.{bit_first, bit_fourth, bit_second, bit_third}
-use borrow.Author.Rules.{rules}
 use Rattle.digits.proofs.bit_in.Goals as goal
 
 pub returns-in-First : goal.returns-in-First

@@ -1,5 +1,4 @@
 use Rattle.digits.proofs.NamedSteps.{drawn_bit, drawn_end}
-use borrow.Author.Rules.{rules}
 use Rattle.digits.proofs.draw_bit.Goals as goal
 
 pub returns-in_default : goal.returns-in_default

@@ -1,5 +1,4 @@
 use Rattle.digits.proofs.NamedSteps.{ends-hex, ends-text}
-use borrow.Author.Rules.{rules}
 use Rattle.digits.proofs.ends_before.Goals as goal
 
 pub returns-then-hexed : goal.returns-then-hexed

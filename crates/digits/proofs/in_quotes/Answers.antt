@@ -1,6 +1,5 @@
 use Rattle.octets.proofs.Tests.{tests}
 use Rattle.digits.specs.Asserted.{in_quotes}
-use borrow.Author.Rules.{rules}
 use Rattle.digits.proofs.in_quotes.Goals as goal
 
 pub returns-then-t-lt3 : goal.returns-then-t-lt3

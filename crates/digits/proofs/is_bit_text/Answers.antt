@@ -1,5 +1,4 @@
 use Rattle.digits.proofs.Steps.{bit_digits, bit_unquoted}
-use borrow.Author.Rules.{rules}
 use Rattle.digits.proofs.is_bit_text.Goals as goal
 
 pub returns-then-not-in_quotes : goal.returns-then-not-in_quotes

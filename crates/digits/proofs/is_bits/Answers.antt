@@ -1,5 +1,4 @@
 use Rattle.digits.proofs.Steps.{bits-hex, bits-text}
-use borrow.Author.Rules.{rules}
 use Rattle.digits.proofs.is_bits.Goals as goal
 
 pub returns-then-is_bit_text : goal.returns-then-is_bit_text

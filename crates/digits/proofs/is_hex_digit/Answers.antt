@@ -1,5 +1,4 @@
 use Rattle.octets.proofs.Laws.{either_first, either_second}
-use borrow.Author.Rules.{rules}
 use Rattle.digits.proofs.is_hex_digit.Goals as goal
 
 pub returns-then-is_digit : goal.returns-then-is_digit

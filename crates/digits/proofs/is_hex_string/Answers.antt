@@ -1,5 +1,4 @@
 use Rattle.digits.proofs.Steps.{hex-digits, hex-unquoted}
-use borrow.Author.Rules.{rules}
 use Rattle.digits.proofs.is_hex_string.Goals as goal
 
 pub returns-then-not-in_quotes : goal.returns-then-not-in_quotes

@@ -1,5 +1,4 @@
 use Rattle.digits.proofs.Steps.{octets-bad, octets_even}
-use borrow.Author.Rules.{rules}
 use Rattle.digits.proofs.is_octets.Goals as goal
 
 pub returns-then-not-is_hex_string : goal.returns-then-not-is_hex_string

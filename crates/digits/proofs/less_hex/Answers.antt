@@ -1,5 +1,4 @@
 use Rattle.digits.proofs.Steps.{less_hex_is}
-use borrow.Author.Rules.{rules}
 use Rattle.digits.proofs.less_hex.Goals as goal
 
 pub returns : goal.returns

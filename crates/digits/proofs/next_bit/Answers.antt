@@ -1,5 +1,4 @@
 use Rattle.digits.proofs.BitSteps.{bit_end, bit_hex, bit_text}
-use borrow.Author.Rules.{rules}
 use Rattle.digits.proofs.next_bit.Goals as goal
 
 pub returns-then-h-at : goal.returns-then-h-at

@@ -1,5 +1,4 @@
 use Rattle.digits.proofs.Steps.{nibble_digit, nibble-letter, nibble-low}
-use borrow.Author.Rules.{rules}
 use Rattle.digits.proofs.nibble.Goals as goal
 
 pub returns-then-b-lt48 : goal.returns-then-b-lt48

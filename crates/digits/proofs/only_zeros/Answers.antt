@@ -1,5 +1,4 @@
 use Rattle.digits.proofs.NamedSteps.{zeros_none, zeros_last}
-use borrow.Author.Rules.{rules}
 use Rattle.digits.proofs.only_zeros.Goals as goal
 
 pub returns-then-h-from : goal.returns-then-h-from

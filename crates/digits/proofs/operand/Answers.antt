@@ -1,5 +1,4 @@
 use Rattle.digits.proofs.Steps.{digits-none}
-use borrow.Author.Rules.{rules}
 use Rattle.digits.proofs.operand.Goals as goal
 
 pub returns-then-t-le3 : goal.returns-then-t-le3

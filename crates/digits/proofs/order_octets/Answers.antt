@@ -1,10 +1,5 @@
-use Prim.Native.Nat.{◌-◌}
 use Rattle.digits.proofs.Steps.{order_above, order_less, order_more, order_on, order_same, order_shorter}
-use Rattle.digits.specs.Inner.Answers.{ordered}
-use Rattle.octets.specs.Octets.{paired}
-use lib.ListN.{drop, length}
-use mathlib.Core.Path.{◌≡◌, refl}
-use borrow.Author.Rules.{rules}
+use mathlib.Core.Path.{refl}
 use Rattle.digits.proofs.order_octets.Goals as goal
 
 pub loop-i-init : goal.loop-i-init

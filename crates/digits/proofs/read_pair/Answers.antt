@@ -1,5 +1,4 @@
 use Rattle.digits.proofs.Steps.{pair_is, pair-none, pair_one}
-use borrow.Author.Rules.{rules}
 use Rattle.digits.proofs.read_pair.Goals as goal
 
 pub returns-then-h-j : goal.returns-then-h-j

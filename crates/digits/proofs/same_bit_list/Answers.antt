@@ -1,11 +1,4 @@
-use Prim.Native.Nat.{◌-◌}
 use Rattle.digits.proofs.BitSteps.{bits-differ, bits-done, bits-on, bits-short, bits-start}
-use Rattle.digits.specs.Inner.Answers.{bits_in, rest_bits}
-use Rattle.der.specs.Meaning.{bits_of}
-use Rattle.octets.specs.Octets.{same}
-use lib.ListN.{drop}
-use mathlib.Core.Path.{◌≡◌}
-use borrow.Author.Rules.{rules}
 use Rattle.digits.proofs.same_bit_list.Goals as goal
 
 pub loop-i-init : goal.loop-i-init

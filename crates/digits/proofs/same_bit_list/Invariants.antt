@@ -1,11 +1,9 @@
 use Prim.Native.Nat.{◌-◌}
-use Rattle.digits.proofs.BitSteps.{bits-differ, bits-done, bits-on, bits-short, bits-start}
 use Rattle.digits.specs.Inner.Answers.{bits_in, rest_bits}
 use Rattle.der.specs.Meaning.{bits_of}
 use Rattle.octets.specs.Octets.{same}
 use lib.ListN.{drop}
 use mathlib.Core.Path.{◌≡◌}
-use borrow.Author.Rules.{rules}
 use Rattle.digits.proofs.same_bit_list.Given as goal
 
 abbrev pub invariant-loop-i : goal.invariant-loop-i

@@ -1,5 +1,4 @@
 use Rattle.digits.proofs.BitSteps.{bits_told, bits_too_long}
-use borrow.Author.Rules.{rules}
 use Rattle.digits.proofs.same_bits.Goals as goal
 
 pub returns-then-c-gt65536 : goal.returns-then-c-gt65536

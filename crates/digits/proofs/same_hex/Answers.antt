@@ -1,5 +1,4 @@
 use Rattle.digits.proofs.Steps.{same_hex_is}
-use borrow.Author.Rules.{rules}
 use Rattle.digits.proofs.same_hex.Goals as goal
 
 pub returns : goal.returns

@@ -1,6 +1,5 @@
 use Rattle.digits.proofs.BitSteps.{bits_too_long}
 use Rattle.digits.proofs.NamedSteps.{named_told}
-use borrow.Author.Rules.{rules}
 use Rattle.digits.proofs.same_named_bits.Goals as goal
 
 pub returns-then-c-gt65536 : goal.returns-then-c-gt65536

@@ -1,8 +1,4 @@
 use Rattle.digits.proofs.NamedSteps.{digit_counts, digit_zero, digits-none}
-use Rattle.digits.specs.Inner.Significant.{significant}
-use lib.ListN.{length}
-use mathlib.Core.Path.{◌≡◌}
-use Prim.Native.Nat.{◌≤◌}
 use borrow.Author.Rules.{rules}
 use Rattle.digits.proofs.significant.Goals as goal
 

@@ -1,10 +1,5 @@
 use Rattle.digits.proofs.NamedSteps.{zeros_end, zeros_fall, zeros_on, zeros_other}
-use Rattle.digits.specs.Inner.Alike.{alike}
-use Rattle.digits.specs.Inner.Answers.{rest_bits}
-use lib.ListN.{length}
-use mathlib.Core.List.{[]}
-use mathlib.Core.Path.{◌≡◌, refl}
-use borrow.Author.Rules.{rules}
+use mathlib.Core.Path.{refl}
 use Rattle.digits.proofs.zeros_from.Goals as goal
 
 pub loop-x-init : goal.loop-x-init

@@ -1,10 +1,8 @@
-use Rattle.digits.proofs.NamedSteps.{zeros_end, zeros_fall, zeros_on, zeros_other}
 use Rattle.digits.specs.Inner.Alike.{alike}
 use Rattle.digits.specs.Inner.Answers.{rest_bits}
 use lib.ListN.{length}
 use mathlib.Core.List.{[]}
-use mathlib.Core.Path.{◌≡◌, refl}
-use borrow.Author.Rules.{rules}
+use mathlib.Core.Path.{◌≡◌}
 use Rattle.digits.proofs.zeros_from.Given as goal
 
 abbrev pub invariant-loop-x : goal.invariant-loop-x

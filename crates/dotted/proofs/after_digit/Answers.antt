@@ -1,5 +1,4 @@
 use Rattle.dotted.proofs.ArcSteps.{after-broken, after-empty, after-number, after_zero}
-use borrow.Author.Rules.{rules}
 use Rattle.dotted.proofs.after_digit.Goals as goal
 
 pub returns-in-Empty : goal.returns-in-Empty

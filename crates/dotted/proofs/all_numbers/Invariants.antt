@@ -1,11 +1,9 @@
 use Rattle.der.specs.Dotted.{every_number}
-use Rattle.dotted.proofs.ArcSteps.{numbers-bad, numbers-done, numbers_longer, numbers_next, numbers-start}
 use Rattle.dotted.specs.Inner.Arcs.{numbers_after}
 use Rattle.octets.specs.Text.{pieces}
 use lib.ListN.{drop, length}
 use mathlib.Core.Path.{◌≡◌}
 use Prim.Native.Nat.{◌-◌}
-use borrow.Author.Rules.{rules}
 use Rattle.dotted.proofs.all_numbers.Given as goal
 
 abbrev pub invariant-loop-i : goal.invariant-loop-i

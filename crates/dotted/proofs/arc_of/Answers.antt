@@ -1,5 +1,4 @@
 use Rattle.dotted.proofs.ArcSteps.{arc_is}
-use borrow.Author.Rules.{rules}
 use Rattle.dotted.proofs.arc_of.Goals as goal
 
 pub returns : goal.returns

@@ -1,5 +1,4 @@
 use Rattle.dotted.proofs.Steps.{roots_beyond, roots_high, roots_is, roots_two}
-use borrow.Author.Rules.{rules}
 use Rattle.dotted.proofs.are_roots.Goals as goal
 
 pub returns-then-m-gt2 : goal.returns-then-m-gt2

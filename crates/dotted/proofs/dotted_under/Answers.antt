@@ -1,5 +1,4 @@
 use Rattle.dotted.proofs.Steps.{under-bad, under-end, under-is, under-wrong}
-use borrow.Author.Rules.{rules}
 use Rattle.dotted.proofs.dotted_under.Goals as goal
 
 pub returns-then-not-arc : goal.returns-then-not-arc

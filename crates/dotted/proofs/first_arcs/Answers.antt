@@ -1,5 +1,4 @@
 use Rattle.octets.proofs.Tests.{tests}
-use borrow.Author.Rules.{rules}
 use Rattle.dotted.proofs.first_arcs.Goals as goal
 
 pub returns-then-n-lt40 : goal.returns-then-n-lt40

@@ -1,5 +1,4 @@
 use Rattle.octets.proofs.Tests.{tests}
-use borrow.Author.Rules.{rules}
 use Rattle.dotted.proofs.first_digit.Goals as goal
 
 pub returns-then-b-eq48 : goal.returns-then-b-eq48

@@ -1,10 +1,4 @@
 use Rattle.dotted.proofs.StoredSteps.{fit-bad, fit-end, fit-more, fit_none, fit-start}
-use Rattle.dotted.specs.Inner.Stored.{fitting}
-use Rattle.dotted.specs.Inner.Held.{rest_arcs}
-use Rattle.dotted.specs.declared.Dots.{Dots}
-use Rattle.der.specs.Dotted.{dotted_arcs}
-use mathlib.Core.Path.{◌≡◌}
-use borrow.Author.Rules.{rules}
 use Rattle.dotted.proofs.fits_stored.Goals as goal
 
 pub loop-k-init : goal.loop-k-init

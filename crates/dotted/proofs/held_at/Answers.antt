@@ -1,5 +1,4 @@
 use Rattle.dotted.proofs.HeldSteps.{at-broken, at-end, at_next}
-use borrow.Author.Rules.{rules}
 use Rattle.dotted.proofs.held_at.Goals as goal
 
 pub returns-in-Value : goal.returns-in-Value

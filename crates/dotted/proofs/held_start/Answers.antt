@@ -1,5 +1,4 @@
 use Rattle.dotted.proofs.HeldSteps.{start-broken, start-end, start_first}
-use borrow.Author.Rules.{rules}
 use Rattle.dotted.proofs.held_start.Goals as goal
 
 pub returns-in-Value : goal.returns-in-Value

@@ -1,5 +1,4 @@
 use Rattle.dotted.proofs.Steps.{dotted-alone, dotted-bad, dotted-is, dotted_joint}
-use borrow.Author.Rules.{rules}
 use Rattle.dotted.proofs.is_dotted.Goals as goal
 
 pub returns-then-is_joint : goal.returns-then-is_joint

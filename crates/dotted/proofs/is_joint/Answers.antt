@@ -1,5 +1,4 @@
 use Rattle.dotted.proofs.Steps.{joint_is, joint_other, joint_short}
-use borrow.Author.Rules.{rules}
 use Rattle.dotted.proofs.is_joint.Goals as goal
 
 pub returns-then-t-lt2 : goal.returns-then-t-lt2

@@ -1,5 +1,4 @@
 use Rattle.octets.proofs.TextLaws.{pick_first, pick_second}
-use borrow.Author.Rules.{rules}
 use Rattle.dotted.proofs.more_digit.Goals as goal
 
 pub returns-then-is_digit : goal.returns-then-is_digit

@@ -1,5 +1,4 @@
 use Rattle.dotted.proofs.HeldSteps.{next_at, next_second, next_start}
-use borrow.Author.Rules.{rules}
 use Rattle.dotted.proofs.next_held.Goals as goal
 
 pub returns-in-Start : goal.returns-in-Start

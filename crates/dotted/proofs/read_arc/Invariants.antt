@@ -1,9 +1,7 @@
 use Prim.Native.Nat.{◌-◌}
-use Rattle.dotted.proofs.ArcSteps.{arc_done, arc_dot, arc_more, arc_start}
 use Rattle.dotted.specs.Inner.Arcs.{arc_at, arc_from}
 use lib.ListN.{drop, length}
 use mathlib.Core.Path.{◌≡◌}
-use borrow.Author.Rules.{rules}
 use Rattle.dotted.proofs.read_arc.Given as goal
 
 abbrev pub invariant-loop-i : goal.invariant-loop-i

@@ -1,12 +1,10 @@
 use Rattle.der.specs.Dotted.{dotted_arcs}
 use Rattle.der.specs.Meaning.{arcs_of}
-use Rattle.dotted.proofs.HeldSteps.{arcs-above, arcs-differ, arcs-ended, arcs_fall, arcs-more, arcs-over, arcs-start, wide_fits}
 use Rattle.dotted.specs.Inner.Arcs.{rest_pieces}
 use Rattle.dotted.specs.Inner.Held.{matches, rest_arcs, rest_held}
 use Rattle.octets.specs.Octets.{same}
 use lib.ListN.{length}
 use mathlib.Core.Path.{◌≡◌}
-use borrow.Author.Rules.{rules}
 use Rattle.dotted.proofs.same_arcs.Given as goal
 
 abbrev pub invariant-loop-a : goal.invariant-loop-a

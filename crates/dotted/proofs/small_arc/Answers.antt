@@ -1,7 +1,4 @@
-use Prim.Native.Nat.{◌-◌}
-use Rattle.dotted.proofs.SmallSteps.{Reading, small-start, small_dot, small-fits, tens_fit, small-above, small-more, small-done}
-use lib.ListN.{length}
-use borrow.Author.Rules.{rules}
+use Rattle.dotted.proofs.SmallSteps.{small-start, small_dot, small-fits, tens_fit, small-above, small-more, small-done}
 use Rattle.dotted.proofs.small_arc.Goals as goal
 
 pub loop-i-init : goal.loop-i-init

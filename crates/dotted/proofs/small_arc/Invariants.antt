@@ -1,7 +1,6 @@
 use Prim.Native.Nat.{◌-◌}
-use Rattle.dotted.proofs.SmallSteps.{Reading, small-start, small_dot, small-fits, tens_fit, small-above, small-more, small-done}
+use Rattle.dotted.proofs.SmallSteps.{Reading}
 use lib.ListN.{length}
-use borrow.Author.Rules.{rules}
 use Rattle.dotted.proofs.small_arc.Given as goal
 
 abbrev pub invariant-loop-i : goal.invariant-loop-i

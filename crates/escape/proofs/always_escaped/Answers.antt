@@ -1,6 +1,5 @@
 use Rattle.octets.proofs.Tests.{tests}
 use Rattle.escape.specs.Escape.{always_escaped}
-use borrow.Author.Rules.{rules}
 use Rattle.escape.proofs.always_escaped.Goals as goal
 
 pub returns-then-b-eq34 : goal.returns-then-b-eq34

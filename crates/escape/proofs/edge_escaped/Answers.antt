@@ -1,5 +1,4 @@
 use Rattle.escape.proofs.Steps.{edge-first, edge-last, edge_sharp, edge_other}
-use borrow.Author.Rules.{rules}
 use Rattle.escape.proofs.edge_escaped.Goals as goal
 
 pub returns-then-first : goal.returns-then-first

@@ -1,6 +1,5 @@
 use Rattle.escape.proofs.Steps.{escape_other, escape_text}
 use Rattle.escape.proofs.Reading.{reads_report}
-use borrow.Author.Rules.{rules}
 use Rattle.escape.proofs.escape.Goals as goal
 
 pub returns-then-not-utf8 : goal.returns-then-not-utf8

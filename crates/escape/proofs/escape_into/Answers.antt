@@ -1,5 +1,4 @@
 use Rattle.escape.proofs.Steps.{into_little, into_written, fits_all}
-use borrow.Author.Rules.{rules}
 use Rattle.escape.proofs.escape_into.Goals as goal
 
 pub returns-then-not-fits : goal.returns-then-not-fits

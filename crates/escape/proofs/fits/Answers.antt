@@ -1,10 +1,4 @@
-use Rattle.escape.specs.Escape.{escaped_text}
-use Rattle.escape.proofs.Laws.{to_come}
 use Rattle.escape.proofs.Steps.{fits-start, fits-done, fits_not, fits_more}
-use mathlib.Core.Path.{◌≡◌}
-use Prim.Native.Nat.{◌+◌, ◌-◌}
-use lib.ListN.{length}
-use borrow.Author.Rules.{rules}
 use Rattle.escape.proofs.fits.Goals as goal
 
 pub loop-i-init : goal.loop-i-init

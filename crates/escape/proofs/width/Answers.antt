@@ -1,5 +1,4 @@
 use Rattle.escape.proofs.Steps.{width-nul, width-always, width-edge, width-itself}
-use borrow.Author.Rules.{rules}
 use Rattle.escape.proofs.width.Goals as goal
 
 pub returns-then-b-eq0 : goal.returns-then-b-eq0

@@ -1,8 +1,5 @@
-use Rattle.escape.proofs.Steps.{Escapes, room-more, room-second, room-third}
+use Rattle.escape.proofs.Steps.{room-more, room-second, room-third}
 use Rattle.escape.proofs.Steps.{escapes_start, escapes_itself, escapes_pair, escapes_nul, escapes_end}
-use Prim.Native.Nat.{◌-◌}
-use lib.ListN.{length}
-use borrow.Author.Rules.{rules}
 use Rattle.escape.proofs.write.Goals as goal
 
 pub loop-i-init : goal.loop-i-init

@@ -1,8 +1,5 @@
-use Rattle.filter.proofs.Steps.{filter_shallow, filter_item, filter-empty, filter-list, filter-negation, filter_none, Listed, list_stop, list_again, list_falls, list-ends, list_lost}
+use Rattle.filter.proofs.Steps.{filter_shallow, filter_item, filter-empty, filter-list, filter-negation, filter_none, list_stop, list_again, list_falls, list-ends, list_lost}
 use mathlib.Core.Path.{refl}
-use Prim.Native.Nat.{ℕ, ◌<◌, ◌+◌, ◌-◌, ◌*◌}
-use lib.ListN.{length}
-use borrow.Author.Rules.{rules}
 use Rattle.filter.proofs.+read_filter_read_list.Goals as goal
 
 pub read_filter-returns-then-depth-eq0 : goal.read_filter-returns-then-depth-eq0

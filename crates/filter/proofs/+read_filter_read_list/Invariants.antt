@@ -1,9 +1,7 @@
 -- the depth that is left falls
-use Rattle.filter.proofs.Steps.{filter_shallow, filter_item, filter-empty, filter-list, filter-negation, filter_none, Listed, list_stop, list_again, list_falls, list-ends, list_lost}
-use mathlib.Core.Path.{refl}
-use Prim.Native.Nat.{ℕ, ◌<◌, ◌+◌, ◌-◌, ◌*◌}
+use Rattle.filter.proofs.Steps.{Listed}
+use Prim.Native.Nat.{◌+◌, ◌-◌, ◌*◌}
 use lib.ListN.{length}
-use borrow.Author.Rules.{rules}
 use Rattle.filter.proofs.+read_filter_read_list.Given as goal
 
 abbrev pub decreases-read_filter : goal.decreases-read_filter

@@ -1,5 +1,4 @@
 use Rattle.filter.proofs.Steps.{list-none, list-past, list-opens, list_closes}
-use borrow.Author.Rules.{rules}
 use Rattle.filter.proofs.list_head.Goals as goal
 
 pub returns-in_default : goal.returns-in_default

@@ -1,6 +1,5 @@
 use Rattle.filter.proofs.Steps.{read-other, read-bad, read_trailing, read_left, read_whole}
 use native.Mathlib.Omega.{arith}
-use borrow.Author.Rules.{rules}
 use Rattle.filter.proofs.read.Goals as goal
 
 pub returns-then-not-utf8 : goal.returns-then-not-utf8

@@ -1,5 +1,4 @@
 use Rattle.filter.proofs.Steps.{head_item, head_and, head-or, head_not, head_none}
-use borrow.Author.Rules.{rules}
 use Rattle.filter.proofs.read_head.Goals as goal
 
 pub returns-in-At : goal.returns-in-At

@@ -1,5 +1,4 @@
 use Rattle.filter.proofs.Steps.{item_full, item_bad, item_is}
-use borrow.Author.Rules.{rules}
 use Rattle.filter.proofs.read_item.Goals as goal
 
 pub returns-then-room-eq0 : goal.returns-then-room-eq0

@@ -1,5 +1,4 @@
 use Rattle.filter.proofs.Steps.{tail_another, tail_past, tail_other, tail_closed}
-use borrow.Author.Rules.{rules}
 use Rattle.filter.proofs.read_tail.Goals as goal
 
 pub returns-in-At : goal.returns-in-At

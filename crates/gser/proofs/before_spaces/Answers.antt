@@ -1,5 +1,4 @@
-use Rattle.gser.proofs.Steps.{Ending, ending-found, ending-none, ending-on, ending-start}
-use borrow.Author.Rules.{rules}
+use Rattle.gser.proofs.Steps.{ending-found, ending-none, ending-on, ending-start}
 use Rattle.gser.proofs.before_spaces.Goals as goal
 
 pub loop-n-init : goal.loop-n-init

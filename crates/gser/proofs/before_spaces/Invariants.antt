@@ -1,5 +1,4 @@
-use Rattle.gser.proofs.Steps.{Ending, ending-found, ending-none, ending-on, ending-start}
-use borrow.Author.Rules.{rules}
+use Rattle.gser.proofs.Steps.{Ending}
 use Rattle.gser.proofs.before_spaces.Given as goal
 
 abbrev pub invariant-loop-n : goal.invariant-loop-n

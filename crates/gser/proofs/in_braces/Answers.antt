@@ -1,6 +1,5 @@
 use Rattle.gser.specs.Listed.{in_braces}
 use Rattle.octets.proofs.Tests.{tests}
-use borrow.Author.Rules.{rules}
 use Rattle.gser.proofs.in_braces.Goals as goal
 
 pub returns-then-t-lt2 : goal.returns-then-t-lt2

@@ -1,5 +1,4 @@
 use Rattle.gser.proofs.Steps.{inside_is, inside-none}
-use borrow.Author.Rules.{rules}
 use Rattle.gser.proofs.inside.Goals as goal
 
 pub returns-then-t-le2 : goal.returns-then-t-le2

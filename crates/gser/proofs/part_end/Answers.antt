@@ -1,6 +1,4 @@
-use Prim.Native.Nat.{◌-◌}
-use Rattle.gser.proofs.Steps.{Parting, parting_ends, parting_found, parting_on, parting_start}
-use lib.ListN.{length}
+use Rattle.gser.proofs.Steps.{parting_ends, parting_found, parting_on, parting_start}
 use borrow.Author.Rules.{rules}
 use Rattle.gser.proofs.part_end.Goals as goal
 

@@ -1,7 +1,6 @@
 use Prim.Native.Nat.{◌-◌}
-use Rattle.gser.proofs.Steps.{Parting, parting_ends, parting_found, parting_on, parting_start}
+use Rattle.gser.proofs.Steps.{Parting}
 use lib.ListN.{length}
-use borrow.Author.Rules.{rules}
 use Rattle.gser.proofs.part_end.Given as goal
 
 abbrev pub invariant-loop-i : goal.invariant-loop-i

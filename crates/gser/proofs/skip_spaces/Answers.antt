@@ -1,5 +1,4 @@
-use Prim.Native.Nat.{◌-◌}
-use Rattle.gser.proofs.Steps.{Skipping, skipping_ends, skipping_found, skipping_on, skipping_start}
+use Rattle.gser.proofs.Steps.{skipping_ends, skipping_found, skipping_on, skipping_start}
 use borrow.Author.Rules.{rules}
 use Rattle.gser.proofs.skip_spaces.Goals as goal
 

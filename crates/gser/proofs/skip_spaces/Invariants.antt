@@ -1,6 +1,5 @@
 use Prim.Native.Nat.{◌-◌}
-use Rattle.gser.proofs.Steps.{Skipping, skipping_ends, skipping_found, skipping_on, skipping_start}
-use borrow.Author.Rules.{rules}
+use Rattle.gser.proofs.Steps.{Skipping}
 use Rattle.gser.proofs.skip_spaces.Given as goal
 
 abbrev pub invariant-loop-i : goal.invariant-loop-i

@@ -1,5 +1,4 @@
 use Rattle.integers.proofs.Steps.{after_first-is}
-use borrow.Author.Rules.{rules}
 use Rattle.integers.proofs.after_first.Goals as goal
 
 pub returns : goal.returns

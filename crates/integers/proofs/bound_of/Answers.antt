@@ -1,5 +1,4 @@
 use Rattle.integers.proofs.Steps.{bound_minus, bound_plus}
-use borrow.Author.Rules.{rules}
 use Rattle.integers.proofs.bound_of.Goals as goal
 
 pub returns-then-a : goal.returns-then-a

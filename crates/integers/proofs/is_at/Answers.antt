@@ -1,5 +1,4 @@
 use Rattle.integers.proofs.Steps.{at-is}
-use borrow.Author.Rules.{rules}
 use Rattle.integers.proofs.is_at.Goals as goal
 
 pub returns-in-At : goal.returns-in-At

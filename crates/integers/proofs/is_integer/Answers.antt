@@ -1,5 +1,4 @@
 use Rattle.integers.proofs.Steps.{integer_negative, integer-plain}
-use borrow.Author.Rules.{rules}
 use Rattle.integers.proofs.is_integer.Goals as goal
 
 pub returns-then-octet-eq45 : goal.returns-then-octet-eq45

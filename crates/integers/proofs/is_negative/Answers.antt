@@ -1,5 +1,4 @@
 use Rattle.integers.proofs.Steps.{negative_bad, negative_is}
-use borrow.Author.Rules.{rules}
 use Rattle.integers.proofs.is_negative.Goals as goal
 
 pub returns-then-not-is_number : goal.returns-then-not-is_number

@@ -1,5 +1,4 @@
 use Rattle.integers.proofs.Steps.{no-octets, too_long, short-is, none-fits, long-fits, short-fits, told_less}
-use borrow.Author.Rules.{rules}
 use Rattle.integers.proofs.less_contents.Goals as goal
 
 pub returns-then-c-eq0 : goal.returns-then-c-eq0

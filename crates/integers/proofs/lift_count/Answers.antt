@@ -1,5 +1,4 @@
 use Rattle.integers.proofs.Steps.{count-is}
-use borrow.Author.Rules.{rules}
 use Rattle.integers.proofs.lift_count.Goals as goal
 
 pub returns : goal.returns

@@ -1,5 +1,4 @@
 use Rattle.integers.proofs.Steps.{minus-under, minus-at}
-use borrow.Author.Rules.{rules}
 use Rattle.integers.proofs.minus_bound.Goals as goal
 
 pub returns-then-n-gt9223372036854775808 : goal.returns-then-n-gt9223372036854775808

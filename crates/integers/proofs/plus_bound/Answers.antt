@@ -1,5 +1,4 @@
 use Rattle.integers.proofs.Steps.{plus-at, plus-over}
-use borrow.Author.Rules.{rules}
 use Rattle.integers.proofs.plus_bound.Goals as goal
 
 pub returns-then-n-lt9223372036854775808 : goal.returns-then-n-lt9223372036854775808

@@ -1,5 +1,4 @@
 use Rattle.integers.proofs.Steps.{asserted_negative, asserted-plain}
-use borrow.Author.Rules.{rules}
 use Rattle.integers.proofs.read_asserted.Goals as goal
 
 pub returns-then-octet-eq45 : goal.returns-then-octet-eq45

@@ -1,5 +1,4 @@
 use Rattle.integers.proofs.Steps.{count-beyond, count-within, told_same}
-use borrow.Author.Rules.{rules}
 use Rattle.integers.proofs.same_count.Goals as goal
 
 pub returns-then-n-ge9223372036854775808 : goal.returns-then-n-ge9223372036854775808

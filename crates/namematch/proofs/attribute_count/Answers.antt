@@ -1,5 +1,4 @@
 use Rattle.namematch.proofs.Steps.{one-before}
-use borrow.Author.Rules.{rules}
 use Rattle.namematch.proofs.attribute_count.Goals as goal
 
 pub returns : goal.returns

@@ -1,8 +1,5 @@
-use Rattle.namematch.proofs.Steps.{Counting, count-start, count_full, count-misfit, count_falls, count-more, count-done}
+use Rattle.namematch.proofs.Steps.{count-start, count_full, count-misfit, count_falls, count-more, count-done}
 use Rattle.der.proofs.NameSteps.{contents-fit}
-use Prim.Native.Nat.{◌-◌}
-use lib.ListN.{length}
-use borrow.Author.Rules.{rules}
 use Rattle.namematch.proofs.count.Goals as goal
 
 pub loop-at-init : goal.loop-at-init

@@ -1,8 +1,6 @@
-use Rattle.namematch.proofs.Steps.{Counting, count-start, count_full, count-misfit, count_falls, count-more, count-done}
-use Rattle.der.proofs.NameSteps.{contents-fit}
+use Rattle.namematch.proofs.Steps.{Counting}
 use Prim.Native.Nat.{◌-◌}
 use lib.ListN.{length}
-use borrow.Author.Rules.{rules}
 use Rattle.namematch.proofs.count.Given as goal
 
 abbrev pub invariant-loop-at : goal.invariant-loop-at

@@ -1,5 +1,4 @@
 use Rattle.namematch.proofs.Steps.{two-before}
-use borrow.Author.Rules.{rules}
 use Rattle.namematch.proofs.length_before.Goals as goal
 
 pub returns : goal.returns

@@ -1,5 +1,4 @@
 use Rattle.namematch.proofs.Steps.{start_told}
-use borrow.Author.Rules.{rules}
 use Rattle.namematch.proofs.rdn_start.Goals as goal
 
 pub returns : goal.returns

@@ -1,7 +1,6 @@
-use Rattle.namematch.proofs.NameSteps.{Before, before-start, before-none, before-misfit, before-other, before_more, before-done}
+use Rattle.namematch.proofs.NameSteps.{before-start, before-none, before-misfit, before-other, before_more, before-done}
 use Rattle.der.proofs.NameLaws.{rdn_usable}
 use Rattle.der.proofs.NameSteps.{contents-fit}
-use Prim.Native.Nat.{◌-◌}
 use borrow.Author.Rules.{rules}
 use Rattle.namematch.proofs.same_before.Goals as goal
 

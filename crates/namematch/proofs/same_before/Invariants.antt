@@ -1,8 +1,5 @@
-use Rattle.namematch.proofs.NameSteps.{Before, before-start, before-none, before-misfit, before-other, before_more, before-done}
-use Rattle.der.proofs.NameLaws.{rdn_usable}
-use Rattle.der.proofs.NameSteps.{contents-fit}
+use Rattle.namematch.proofs.NameSteps.{Before}
 use Prim.Native.Nat.{◌-◌}
-use borrow.Author.Rules.{rules}
 use Rattle.namematch.proofs.same_before.Given as goal
 
 abbrev pub invariant-loop-i : goal.invariant-loop-i

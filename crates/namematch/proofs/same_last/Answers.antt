@@ -1,7 +1,6 @@
-use Rattle.namematch.proofs.NameSteps.{Reaching, reach-start, reach-none, reach-misfit, reach-more, reach-fewer, reach-last}
+use Rattle.namematch.proofs.NameSteps.{reach-start, reach-none, reach-misfit, reach-more, reach-fewer, reach-last}
 use Rattle.der.proofs.NameLaws.{rdn_usable}
 use Rattle.der.proofs.NameSteps.{contents-fit}
-use Prim.Native.Nat.{◌-◌}
 use borrow.Author.Rules.{rules}
 use Rattle.namematch.proofs.same_last.Goals as goal
 

@@ -1,8 +1,5 @@
-use Rattle.namematch.proofs.NameSteps.{Reaching, reach-start, reach-none, reach-misfit, reach-more, reach-fewer, reach-last}
-use Rattle.der.proofs.NameLaws.{rdn_usable}
-use Rattle.der.proofs.NameSteps.{contents-fit}
+use Rattle.namematch.proofs.NameSteps.{Reaching}
 use Prim.Native.Nat.{◌-◌}
-use borrow.Author.Rules.{rules}
 use Rattle.namematch.proofs.same_last.Given as goal
 
 abbrev pub invariant-loop-i : goal.invariant-loop-i

@@ -1,6 +1,5 @@
 use Rattle.namematch.proofs.NameSteps.{name-empty, name-other, name-last, name-within}
 use Rattle.der.proofs.NameLaws.{rdn_usable}
-use borrow.Author.Rules.{rules}
 use Rattle.namematch.proofs.same_name.Goals as goal
 
 pub count-n-requires : goal.count-n-requires

@@ -1,5 +1,4 @@
 use Rattle.namematch.proofs.Steps.{pair-other, pair_is}
-use borrow.Author.Rules.{rules}
 use Rattle.namematch.proofs.same_pair.Goals as goal
 
 pub returns-then-not-same_value : goal.returns-then-not-same_value

@@ -1,7 +1,6 @@
-use Rattle.namematch.proofs.Steps.{Matching, match_other, match_start, match_done, match_low, match_misfit, match_none, match_more}
+use Rattle.namematch.proofs.Steps.{match_other, match_start, match_done, match_low, match_misfit, match_none, match_more}
 use Rattle.der.proofs.NameLaws.{pair_usable}
 use Rattle.der.proofs.NameSteps.{contents-fit}
-use Prim.Native.Nat.{◌-◌}
 use borrow.Author.Rules.{rules}
 use Rattle.namematch.proofs.same_rdn.Goals as goal
 

@@ -1,5 +1,4 @@
 use Rattle.namematch.proofs.Steps.{rdn_back-is}
-use borrow.Author.Rules.{rules}
 use Rattle.namematch.proofs.same_rdn_back.Goals as goal
 
 pub returns : goal.returns

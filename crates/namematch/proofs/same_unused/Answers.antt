@@ -1,5 +1,4 @@
 use Rattle.namematch.proofs.Steps.{used_is, unused-is}
-use borrow.Author.Rules.{rules}
 use Rattle.namematch.proofs.same_unused.Goals as goal
 
 pub returns-then-rest-ne0 : goal.returns-then-rest-ne0

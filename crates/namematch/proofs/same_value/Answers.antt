@@ -1,5 +1,4 @@
 use Rattle.namematch.proofs.Steps.{values_told}
-use borrow.Author.Rules.{rules}
 use Rattle.namematch.proofs.same_value.Goals as goal
 
 pub returns : goal.returns

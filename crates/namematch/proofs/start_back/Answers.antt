@@ -1,7 +1,4 @@
 use Rattle.namematch.proofs.Steps.{back_done, back_more}
-use mathlib.Core.Path.{◌≡◌}
-use Rattle.names.specs.Inner.Operand.{start_back}
-use borrow.Author.Rules.{rules}
 use Rattle.namematch.proofs.start_back.Goals as goal
 
 pub loop-left-preserved : goal.loop-left-preserved

@@ -1,7 +1,5 @@
-use Rattle.namematch.proofs.Steps.{back_done, back_more}
 use mathlib.Core.Path.{◌≡◌}
 use Rattle.names.specs.Inner.Operand.{start_back}
-use borrow.Author.Rules.{rules}
 use Rattle.namematch.proofs.start_back.Given as goal
 
 abbrev pub invariant-loop-left : goal.invariant-loop-left

@@ -1,8 +1,4 @@
-use Rattle.namematch.proofs.Steps.{Using, use_start, use_none, use_near, use_fits, weight-fits, use_found, use_more}
-use Prim.Native.Nat.{◌-◌}
-use Rattle.der.specs.Names.{pair_of}
-use Rattle.names.specs.Compared.{stored}
-use borrow.Author.Rules.{rules}
+use Rattle.namematch.proofs.Steps.{use_start, use_none, use_near, use_fits, weight-fits, use_found, use_more}
 use Rattle.namematch.proofs.use_attribute.Goals as goal
 
 pub loop-j-init : goal.loop-j-init

@@ -1,6 +1,4 @@
-use Prim.Native.Nat.{◌-◌}
-use Rattle.nameoperand.proofs.Steps.{Copying, copy_start, copy_long, copy_room, copy_fits, copy_more, copy_done, copy_place}
-use borrow.Author.Rules.{rules}
+use Rattle.nameoperand.proofs.Steps.{copy_start, copy_long, copy_room, copy_fits, copy_more, copy_done, copy_place}
 use Rattle.nameoperand.proofs.copy.Goals as goal
 
 pub loop-i-init : goal.loop-i-init

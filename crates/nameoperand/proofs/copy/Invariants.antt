@@ -1,6 +1,5 @@
 use Prim.Native.Nat.{◌-◌}
-use Rattle.nameoperand.proofs.Steps.{Copying, copy_start, copy_long, copy_room, copy_fits, copy_more, copy_done, copy_place}
-use borrow.Author.Rules.{rules}
+use Rattle.nameoperand.proofs.Steps.{Copying}
 use Rattle.nameoperand.proofs.copy.Given as goal
 
 abbrev pub invariant-loop-i : goal.invariant-loop-i

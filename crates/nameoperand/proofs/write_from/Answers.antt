@@ -1,6 +1,4 @@
-use Prim.Native.Nat.{◌-◌}
-use lib.ListN.{length}
-use Rattle.nameoperand.proofs.WritingSteps.{type-long, Writing, writing_start, writing_none, writing_long, writing_behind, value-behind, value-within}
+use Rattle.nameoperand.proofs.WritingSteps.{type-long, writing_start, writing_none, writing_long, writing_behind, value-behind, value-within}
 use Rattle.nameoperand.proofs.WritingSteps.{count_fits, count_room, count_small, writing_done, writing_on, writing_falls, writing_more}
 use borrow.Author.Rules.{rules}
 use Rattle.nameoperand.proofs.write_from.Goals as goal

@@ -1,6 +1,4 @@
-use Prim.Native.Nat.{◌-◌}
-use lib.ListN.{length}
-use Rattle.nameoperand.proofs.WritingSteps.{Naming, naming_none, naming_start, naming_long, naming_behind, naming_read, naming_kept, naming_done}
+use Rattle.nameoperand.proofs.WritingSteps.{naming_none, naming_start, naming_long, naming_behind, naming_read, naming_kept, naming_done}
 use Rattle.nameoperand.proofs.WritingSteps.{naming_on, naming_falls, naming_more}
 use borrow.Author.Rules.{rules}
 use Rattle.nameoperand.proofs.write_name.Goals as goal

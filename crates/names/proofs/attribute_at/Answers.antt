@@ -1,6 +1,5 @@
 use Rattle.names.proofs.AttributeSteps.{attribute_typeless, attribute_undotted, attribute_valueless, attribute-is, attribute-places}
 use Rattle.names.proofs.AttributeSteps.{equals_within, equals_fits}
-use borrow.Author.Rules.{rules}
 use Rattle.names.proofs.attribute_at.Goals as goal
 
 pub returns-in_default : goal.returns-in_default

@@ -1,5 +1,4 @@
 use Rattle.names.proofs.ValueSteps.{close_trailing, close_broken, close_is}
-use borrow.Author.Rules.{rules}
 use Rattle.names.proofs.closed_value.Goals as goal
 
 pub returns-then-not-trailing : goal.returns-then-not-trailing

@@ -1,5 +1,4 @@
 use Rattle.octets.proofs.Tests.{tests}
-use borrow.Author.Rules.{rules}
 use Rattle.names.proofs.ends_value.Goals as goal
 
 pub returns-then-b-eq43 : goal.returns-then-b-eq43

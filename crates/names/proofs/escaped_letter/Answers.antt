@@ -1,5 +1,4 @@
 use Rattle.names.proofs.LetterSteps.{escape_end, escape_special, escape_wrong, escape_pair, escape_fits, escape_hex}
-use borrow.Author.Rules.{rules}
 use Rattle.names.proofs.escaped_letter.Goals as goal
 
 pub returns-then-p-at : goal.returns-then-p-at

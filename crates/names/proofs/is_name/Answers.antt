@@ -1,10 +1,4 @@
 use Rattle.names.proofs.NameSteps.{name-empty, name-start, name-over, name-none, name_done, name-more, comma-fits}
-use mathlib.Core.Path.{◌≡◌}
-use Rattle.octets.specs.Pick.{is_some}
-use Rattle.octets.specs.Quoted.{undoubled}
-use Rattle.names.specs.Rfc4514.{rdns_from, distinguished_name}
-use Rattle.names.specs.Inner.Reading.{letters_at}
-use borrow.Author.Rules.{rules}
 use Rattle.names.proofs.is_name.Goals as goal
 
 pub returns-then-p-eq0 : goal.returns-then-p-eq0

@@ -1,5 +1,4 @@
 use Rattle.names.proofs.NameSteps.{alone-none, alone-is}
-use borrow.Author.Rules.{rules}
 use Rattle.names.proofs.is_rdn.Goals as goal
 
 pub returns-in_default : goal.returns-in_default

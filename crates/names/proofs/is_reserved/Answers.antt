@@ -1,6 +1,5 @@
 use Rattle.names.specs.Rfc4514.{is_reserved}
 use Rattle.octets.proofs.Tests.{tests}
-use borrow.Author.Rules.{rules}
 use Rattle.names.proofs.is_reserved.Goals as goal
 
 pub returns-then-b-eq34 : goal.returns-then-b-eq34

@@ -1,6 +1,5 @@
 use Rattle.names.specs.Rfc4514.{is_special}
 use Rattle.octets.proofs.Tests.{tests}
-use borrow.Author.Rules.{rules}
 use Rattle.names.proofs.is_special.Goals as goal
 
 pub returns-then-b-eq32 : goal.returns-then-b-eq32

@@ -1,7 +1,6 @@
 use Rattle.names.proofs.ValueSteps.{char_is}
 use Rattle.octets.proofs.Tests.{tests}
 use Rattle.names.specs.Rfc4514.{is_string_char}
-use borrow.Author.Rules.{rules}
 use Rattle.names.proofs.is_string_char.Goals as goal
 
 pub returns-then-b-eq0 : goal.returns-then-b-eq0

@@ -1,5 +1,4 @@
 use Rattle.octets.proofs.Tests.{tests}
-use borrow.Author.Rules.{rules}
 use Rattle.names.proofs.is_type_octet.Goals as goal
 
 pub returns-then-b-eq46 : goal.returns-then-b-eq46

@@ -1,6 +1,5 @@
 use Rattle.names.proofs.ValueSteps.{lead_is}
 use Rattle.octets.proofs.Tests.{tests}
-use borrow.Author.Rules.{rules}
 use Rattle.names.proofs.may_lead.Goals as goal
 
 pub returns-then-b-eq32 : goal.returns-then-b-eq32

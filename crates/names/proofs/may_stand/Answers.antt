@@ -1,5 +1,4 @@
 use Rattle.names.proofs.ValueSteps.{stand-no, stand-later, stand-first}
-use borrow.Author.Rules.{rules}
 use Rattle.names.proofs.may_stand.Goals as goal
 
 pub returns-then-not-is_string_char : goal.returns-then-not-is_string_char

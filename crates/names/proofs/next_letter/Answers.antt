@@ -1,5 +1,4 @@
 use Rattle.names.proofs.LetterSteps.{letter-end, letter-bare, letter-stands, letter_escape, escape_stands}
-use borrow.Author.Rules.{rules}
 use Rattle.names.proofs.next_letter.Goals as goal
 
 pub returns-then-p-at : goal.returns-then-p-at

@@ -1,6 +1,5 @@
 use Rattle.names.proofs.Laws.{next_other, next_last, next_single, next_double}
 use mathlib.Core.Path.{sym}
-use borrow.Author.Rules.{rules}
 use Rattle.names.proofs.next_place.Goals as goal
 
 pub returns-then-p-at-ne34 : goal.returns-then-p-at-ne34

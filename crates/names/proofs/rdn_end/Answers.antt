@@ -1,9 +1,5 @@
 use Rattle.names.proofs.NameSteps.{rdn-over, rdn-none, rdn-done, rdn-more, plus-fits}
-use mathlib.Core.Path.{◌≡◌, refl}
-use Rattle.der.specs.Names.{most_pairs}
-use Rattle.names.specs.Rfc4514.{rdn_from}
-use Rattle.names.specs.Inner.Reading.{letters_at, rest_of}
-use borrow.Author.Rules.{rules}
+use mathlib.Core.Path.{refl}
 use Rattle.names.proofs.rdn_end.Goals as goal
 
 pub loop-left-init : goal.loop-left-init

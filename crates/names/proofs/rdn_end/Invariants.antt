@@ -1,9 +1,7 @@
-use Rattle.names.proofs.NameSteps.{rdn-over, rdn-none, rdn-done, rdn-more, plus-fits}
-use mathlib.Core.Path.{◌≡◌, refl}
+use mathlib.Core.Path.{◌≡◌}
 use Rattle.der.specs.Names.{most_pairs}
 use Rattle.names.specs.Rfc4514.{rdn_from}
 use Rattle.names.specs.Inner.Reading.{letters_at, rest_of}
-use borrow.Author.Rules.{rules}
 use Rattle.names.proofs.rdn_end.Given as goal
 
 abbrev pub invariant-loop-left : goal.invariant-loop-left

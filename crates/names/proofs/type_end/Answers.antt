@@ -1,7 +1,4 @@
-use Rattle.names.proofs.AttributeSteps.{Typed, typed-start, type-over, type-places, type-found, type-none, type-on}
-use Prim.Native.Nat.{◌-◌}
-use lib.ListN.{length}
-use borrow.Author.Rules.{rules}
+use Rattle.names.proofs.AttributeSteps.{typed-start, type-over, type-places, type-found, type-none, type-on}
 use Rattle.names.proofs.type_end.Goals as goal
 
 pub loop-i-init : goal.loop-i-init

@@ -1,7 +1,6 @@
-use Rattle.names.proofs.AttributeSteps.{Typed, typed-start, type-over, type-places, type-found, type-none, type-on}
+use Rattle.names.proofs.AttributeSteps.{Typed}
 use Prim.Native.Nat.{◌-◌}
 use lib.ListN.{length}
-use borrow.Author.Rules.{rules}
 use Rattle.names.proofs.type_end.Given as goal
 
 abbrev pub invariant-loop-i : goal.invariant-loop-i

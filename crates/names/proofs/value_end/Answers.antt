@@ -1,8 +1,5 @@
-use Rattle.names.proofs.ValueSteps.{Valued, valued_start, value-ended, value-places, value-wrong}
+use Rattle.names.proofs.ValueSteps.{valued_start, value-ended, value-places, value-wrong}
 use Rattle.names.proofs.ValueSteps.{value-escaped, value_stopped, value-bad, value-bare, escaped-less, bare-less}
-use Prim.Native.Nat.{◌-◌}
-use lib.ListN.{length}
-use borrow.Author.Rules.{rules}
 use Rattle.names.proofs.value_end.Goals as goal
 
 pub loop-b-init : goal.loop-b-init

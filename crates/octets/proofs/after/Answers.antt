@@ -1,5 +1,4 @@
 use Rattle.octets.proofs.Steps.{after-broken, after-new, after-low, after-high, after_tail}
-use borrow.Author.Rules.{rules}
 use Rattle.octets.proofs.after.Goals as goal
 
 pub returns-in_default : goal.returns-in_default

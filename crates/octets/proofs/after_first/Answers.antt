@@ -1,6 +1,5 @@
 use Rattle.octets.proofs.Tests.{tests}
 use Rattle.octets.specs.Utf8.{after_first}
-use borrow.Author.Rules.{rules}
 use Rattle.octets.proofs.after_first.Goals as goal
 
 pub returns-then-b-lt128 : goal.returns-then-b-lt128

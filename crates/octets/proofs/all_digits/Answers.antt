@@ -1,10 +1,5 @@
-use Rattle.octets.specs.Octets.{every}
-use Rattle.octets.specs.Text.{is_digit}
-use mathlib.Core.Path.{◌≡◌, refl}
-use Prim.Native.Nat.{◌-◌}
-use lib.ListN.{length, drop}
+use mathlib.Core.Path.{refl}
 use Rattle.octets.proofs.Laws.{every-done, every-bad, every_more}
-use borrow.Author.Rules.{rules}
 use Rattle.octets.proofs.all_digits.Goals as goal
 
 pub loop-i-init : goal.loop-i-init

@@ -1,10 +1,8 @@
 use Rattle.octets.specs.Octets.{every}
 use Rattle.octets.specs.Text.{is_digit}
-use mathlib.Core.Path.{◌≡◌, refl}
+use mathlib.Core.Path.{◌≡◌}
 use Prim.Native.Nat.{◌-◌}
 use lib.ListN.{length, drop}
-use Rattle.octets.proofs.Laws.{every-done, every-bad, every_more}
-use borrow.Author.Rules.{rules}
 use Rattle.octets.proofs.all_digits.Given as goal
 
 abbrev pub invariant-loop-i : goal.invariant-loop-i

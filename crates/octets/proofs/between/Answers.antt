@@ -1,5 +1,4 @@
 use Rattle.octets.proofs.Steps.{between_none}
-use borrow.Author.Rules.{rules}
 use Rattle.octets.proofs.between.Goals as goal
 
 pub returns-then-b-a : goal.returns-then-b-a

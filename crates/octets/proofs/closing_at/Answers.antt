@@ -1,5 +1,4 @@
 use Rattle.octets.proofs.Steps.{opening_past, opening_other, opening_is}
-use borrow.Author.Rules.{rules}
 use Rattle.octets.proofs.closing_at.Goals as goal
 
 pub returns-then-s-at : goal.returns-then-s-at

@@ -1,7 +1,4 @@
-use Prim.Native.Nat.{◌-◌}
-use lib.ListN.{length}
-use Rattle.octets.proofs.Steps.{Decimal, decimal-start, decimal-more, decimal-done}
-use borrow.Author.Rules.{rules}
+use Rattle.octets.proofs.Steps.{decimal-start, decimal-more, decimal-done}
 use Rattle.octets.proofs.decimal.Goals as goal
 
 pub loop-i-init : goal.loop-i-init

@@ -1,7 +1,6 @@
 use Prim.Native.Nat.{◌-◌}
 use lib.ListN.{length}
-use Rattle.octets.proofs.Steps.{Decimal, decimal-start, decimal-more, decimal-done}
-use borrow.Author.Rules.{rules}
+use Rattle.octets.proofs.Steps.{Decimal}
 use Rattle.octets.proofs.decimal.Given as goal
 
 abbrev pub invariant-loop-i : goal.invariant-loop-i

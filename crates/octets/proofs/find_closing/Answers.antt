@@ -1,9 +1,5 @@
-use Rattle.octets.specs.Quoted.{closing}
-use mathlib.Core.Path.{◌≡◌, refl}
-use Prim.Native.Nat.{◌-◌}
-use lib.ListN.{length, drop}
+use mathlib.Core.Path.{refl}
 use Rattle.octets.proofs.Steps.{closing-none, closing-on, closing-last, closing-found, closing-double}
-use borrow.Author.Rules.{rules}
 use Rattle.octets.proofs.find_closing.Goals as goal
 
 pub loop-i-init : goal.loop-i-init

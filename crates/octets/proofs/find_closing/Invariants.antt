@@ -1,9 +1,7 @@
 use Rattle.octets.specs.Quoted.{closing}
-use mathlib.Core.Path.{◌≡◌, refl}
+use mathlib.Core.Path.{◌≡◌}
 use Prim.Native.Nat.{◌-◌}
 use lib.ListN.{length, drop}
-use Rattle.octets.proofs.Steps.{closing-none, closing-on, closing-last, closing-found, closing-double}
-use borrow.Author.Rules.{rules}
 use Rattle.octets.proofs.find_closing.Given as goal
 
 abbrev pub invariant-loop-i : goal.invariant-loop-i

@@ -1,5 +1,4 @@
 use Rattle.octets.proofs.Steps.{grow_too_far, grow_too_much, grow_to}
-use borrow.Author.Rules.{rules}
 use Rattle.octets.proofs.grow.Goals as goal
 
 pub returns-then-n-gt1844674407370955161 : goal.returns-then-n-gt1844674407370955161

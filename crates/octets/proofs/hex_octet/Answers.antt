@@ -1,5 +1,4 @@
 use Rattle.octets.proofs.Steps.{pair-times, pair-plus}
-use borrow.Author.Rules.{rules}
 use Rattle.octets.proofs.hex_octet.Goals as goal
 
 pub overflow_mul-result : goal.overflow_mul-result

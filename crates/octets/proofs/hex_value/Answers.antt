@@ -1,7 +1,6 @@
 use Rattle.octets.proofs.Steps.{hex_value-low}
 use Rattle.octets.proofs.Tests.{tests}
 use Rattle.octets.specs.Text.{hex_value}
-use borrow.Author.Rules.{rules}
 use Rattle.octets.proofs.hex_value.Goals as goal
 
 pub returns-then-b-lt48 : goal.returns-then-b-lt48

@@ -1,9 +1,5 @@
 use Rattle.octets.proofs.Steps.{highest-more, highest-done}
-use Rattle.octets.specs.Inner.Answers.{highest_from, highest}
-use mathlib.Core.Path.{◌≡◌, refl}
-use Prim.Native.Nat.{◌-◌}
-use lib.ListN.{length, drop}
-use borrow.Author.Rules.{rules}
+use mathlib.Core.Path.{refl}
 use Rattle.octets.proofs.highest.Goals as goal
 
 pub loop-i-init : goal.loop-i-init

@@ -1,9 +1,7 @@
-use Rattle.octets.proofs.Steps.{highest-more, highest-done}
 use Rattle.octets.specs.Inner.Answers.{highest_from, highest}
-use mathlib.Core.Path.{◌≡◌, refl}
+use mathlib.Core.Path.{◌≡◌}
 use Prim.Native.Nat.{◌-◌}
 use lib.ListN.{length, drop}
-use borrow.Author.Rules.{rules}
 use Rattle.octets.proofs.highest.Given as goal
 
 abbrev pub invariant-loop-i : goal.invariant-loop-i

@@ -1,6 +1,5 @@
 use Rattle.octets.proofs.Laws.{either_first, either_second}
 use Rattle.octets.specs.Text.{is_alnum}
-use borrow.Author.Rules.{rules}
 use Rattle.octets.proofs.is_alnum.Goals as goal
 
 pub returns-then-is_letter : goal.returns-then-is_letter

@@ -1,5 +1,4 @@
 use Rattle.octets.proofs.Steps.{hex_digit, hex_upper, hex-lower}
-use borrow.Author.Rules.{rules}
 use Rattle.octets.proofs.is_hex.Goals as goal
 
 pub returns-then-is_digit : goal.returns-then-is_digit

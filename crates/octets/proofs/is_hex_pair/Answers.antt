@@ -1,5 +1,4 @@
 use Rattle.octets.proofs.Steps.{pair-no, pair_is}
-use borrow.Author.Rules.{rules}
 use Rattle.octets.proofs.is_hex_pair.Goals as goal
 
 pub returns-then-not-is_hex : goal.returns-then-not-is_hex

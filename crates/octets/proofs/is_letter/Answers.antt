@@ -1,6 +1,5 @@
 use Rattle.octets.proofs.Laws.{either_first, either_second}
 use Rattle.octets.specs.Text.{is_letter}
-use borrow.Author.Rules.{rules}
 use Rattle.octets.proofs.is_letter.Goals as goal
 
 pub returns-then-is_lower : goal.returns-then-is_lower

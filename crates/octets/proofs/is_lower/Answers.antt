@@ -1,6 +1,5 @@
 use Rattle.octets.proofs.Tests.{tests}
 use Rattle.octets.specs.Text.{is_lower}
-use borrow.Author.Rules.{rules}
 use Rattle.octets.proofs.is_lower.Goals as goal
 
 pub returns-then-b-lt97 : goal.returns-then-b-lt97

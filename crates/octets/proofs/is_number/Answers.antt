@@ -1,5 +1,4 @@
 use Rattle.octets.proofs.Steps.{number-none, number_nought, number-other}
-use borrow.Author.Rules.{rules}
 use Rattle.octets.proofs.is_number.Goals as goal
 
 pub returns-then-s-eq0 : goal.returns-then-s-eq0

@@ -1,6 +1,5 @@
 use Rattle.octets.proofs.Tests.{tests}
 use Rattle.octets.specs.Text.{lower, is_upper}
-use borrow.Author.Rules.{rules}
 use Rattle.octets.proofs.lower.Goals as goal
 
 pub returns-then-b-lt65 : goal.returns-then-b-lt65

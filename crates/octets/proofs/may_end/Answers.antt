@@ -1,5 +1,4 @@
 use Rattle.octets.proofs.Steps.{end_is}
-use borrow.Author.Rules.{rules}
 use Rattle.octets.proofs.may_end.Goals as goal
 
 pub returns : goal.returns

@@ -1,5 +1,4 @@
 use Rattle.octets.proofs.Steps.{follow_alnum, follow_other, follow_double, follow_hyphen}
-use borrow.Author.Rules.{rules}
 use Rattle.octets.proofs.may_follow.Goals as goal
 
 pub returns-then-is_alnum : goal.returns-then-is_alnum

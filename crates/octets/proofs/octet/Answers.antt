@@ -1,5 +1,4 @@
 use Rattle.octets.proofs.Laws.{octet-past}
-use borrow.Author.Rules.{rules}
 use Rattle.octets.proofs.octet.Goals as goal
 
 pub returns-then-s-i : goal.returns-then-s-i

@@ -1,5 +1,4 @@
 use Rattle.octets.proofs.Steps.{part_none, part-most, part-exact}
-use borrow.Author.Rules.{rules}
 use Rattle.octets.proofs.part.Goals as goal
 
 pub returns-then-s-at : goal.returns-then-s-at

@@ -1,7 +1,4 @@
-use Rattle.octets.specs.Octets.{same}
-use mathlib.Core.Path.{◌≡◌, refl}
-use Prim.Native.Nat.{◌-◌}
-use lib.ListN.{length, drop}
+use mathlib.Core.Path.{refl}
 use Rattle.octets.proofs.Steps.{same-other, same-on, same-done, same-lengths}
 use borrow.Author.Rules.{rules}
 use Rattle.octets.proofs.same.Goals as goal

@@ -1,9 +1,7 @@
 use Rattle.octets.specs.Octets.{same}
-use mathlib.Core.Path.{◌≡◌, refl}
+use mathlib.Core.Path.{◌≡◌}
 use Prim.Native.Nat.{◌-◌}
 use lib.ListN.{length, drop}
-use Rattle.octets.proofs.Steps.{same-other, same-on, same-done, same-lengths}
-use borrow.Author.Rules.{rules}
 use Rattle.octets.proofs.same.Given as goal
 
 abbrev pub invariant-loop-i : goal.invariant-loop-i

@@ -1,9 +1,5 @@
-use Rattle.octets.specs.Text.{skip}
-use mathlib.Core.Path.{◌≡◌, refl}
-use Prim.Native.Nat.{◌-◌}
-use lib.ListN.{length}
+use mathlib.Core.Path.{refl}
 use Rattle.octets.proofs.Steps.{skip-stops, skip-on, skip-ends}
-use borrow.Author.Rules.{rules}
 use Rattle.octets.proofs.skip.Goals as goal
 
 pub loop-i-init : goal.loop-i-init

@@ -1,9 +1,7 @@
 use Rattle.octets.specs.Text.{skip}
-use mathlib.Core.Path.{◌≡◌, refl}
+use mathlib.Core.Path.{◌≡◌}
 use Prim.Native.Nat.{◌-◌}
 use lib.ListN.{length}
-use Rattle.octets.proofs.Steps.{skip-stops, skip-on, skip-ends}
-use borrow.Author.Rules.{rules}
 use Rattle.octets.proofs.skip.Given as goal
 
 abbrev pub invariant-loop-i : goal.invariant-loop-i

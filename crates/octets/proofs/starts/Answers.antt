@@ -1,9 +1,5 @@
-use Rattle.octets.specs.Text.{starts}
-use mathlib.Core.Path.{◌≡◌, refl}
-use Prim.Native.Nat.{◌-◌}
-use lib.ListN.{length, drop}
+use mathlib.Core.Path.{refl}
 use Rattle.octets.proofs.Steps.{starts-past, starts_other, starts-on, starts-whole}
-use borrow.Author.Rules.{rules}
 use Rattle.octets.proofs.starts.Goals as goal
 
 pub loop-i-init : goal.loop-i-init

@@ -1,9 +1,7 @@
 use Rattle.octets.specs.Text.{starts}
-use mathlib.Core.Path.{◌≡◌, refl}
+use mathlib.Core.Path.{◌≡◌}
 use Prim.Native.Nat.{◌-◌}
 use lib.ListN.{length, drop}
-use Rattle.octets.proofs.Steps.{starts-past, starts_other, starts-on, starts-whole}
-use borrow.Author.Rules.{rules}
 use Rattle.octets.proofs.starts.Given as goal
 
 abbrev pub invariant-loop-i : goal.invariant-loop-i

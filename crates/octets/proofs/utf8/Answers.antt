@@ -1,9 +1,4 @@
 use Rattle.octets.proofs.Steps.{utf8_ascii, utf8-start, utf8-more, utf8-done}
-use Rattle.octets.specs.Utf8.{utf8_from, utf8}
-use mathlib.Core.Path.{◌≡◌}
-use Prim.Native.Nat.{◌-◌}
-use lib.ListN.{length, drop}
-use borrow.Author.Rules.{rules}
 use Rattle.octets.proofs.utf8.Goals as goal
 
 pub returns-then-highest-lt128 : goal.returns-then-highest-lt128

@@ -1,9 +1,7 @@
-use Rattle.octets.proofs.Steps.{utf8_ascii, utf8-start, utf8-more, utf8-done}
 use Rattle.octets.specs.Utf8.{utf8_from, utf8}
 use mathlib.Core.Path.{◌≡◌}
 use Prim.Native.Nat.{◌-◌}
 use lib.ListN.{length, drop}
-use borrow.Author.Rules.{rules}
 use Rattle.octets.proofs.utf8.Given as goal
 
 abbrev pub invariant-loop-i : goal.invariant-loop-i

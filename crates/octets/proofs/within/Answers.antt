@@ -1,5 +1,4 @@
 use Rattle.octets.proofs.Tests.{tests}
-use borrow.Author.Rules.{rules}
 use Rattle.octets.proofs.within.Goals as goal
 
 pub returns-then-b-least : goal.returns-then-b-least

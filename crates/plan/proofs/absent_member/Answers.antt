@@ -1,5 +1,4 @@
 use Rattle.plan.proofs.Resolving.{absent_none, absent_passes, absent_fails}
-use borrow.Author.Rules.{rules}
 use Rattle.plan.proofs.absent_member.Goals as goal
 
 pub returns-then-presence-ne2 : goal.returns-then-presence-ne2

@@ -1,5 +1,4 @@
 use Rattle.plan.proofs.PassSteps.{accepts-less, accepts-plain, accepts-same, accepts-whole}
-use borrow.Author.Rules.{rules}
 use Rattle.plan.proofs.accepts.Goals as goal
 
 pub returns-then-comparison-lt-SAME_INTEGER : goal.returns-then-comparison-lt-SAME_INTEGER

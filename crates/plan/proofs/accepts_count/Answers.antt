@@ -1,5 +1,4 @@
 use Rattle.plan.proofs.PassSteps.{count_less, count-other, count-plain, count_same}
-use borrow.Author.Rules.{rules}
 use Rattle.plan.proofs.accepts_count.Goals as goal
 
 pub returns-then-comparison-lt-SAME_INTEGER : goal.returns-then-comparison-lt-SAME_INTEGER

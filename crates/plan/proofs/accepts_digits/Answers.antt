@@ -1,5 +1,4 @@
 use Rattle.plan.proofs.PassSteps.{digits-arcs, digits-bits, digits-less, digits-octets}
-use borrow.Author.Rules.{rules}
 use Rattle.plan.proofs.accepts_digits.Goals as goal
 
 pub returns-then-comparison-eq-ARCS : goal.returns-then-comparison-eq-ARCS

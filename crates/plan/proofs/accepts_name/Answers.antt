@@ -1,5 +1,4 @@
 use Rattle.plan.proofs.PassSteps.{name-whole, name-single}
-use borrow.Author.Rules.{rules}
 use Rattle.plan.proofs.accepts_name.Goals as goal
 
 pub returns-then-comparison-eq-NAME : goal.returns-then-comparison-eq-NAME

@@ -1,5 +1,4 @@
 use Rattle.plan.proofs.PassSteps.{named-listed, named-digits}
-use borrow.Author.Rules.{rules}
 use Rattle.plan.proofs.accepts_named.Goals as goal
 
 pub returns-then-comparison-eq-LISTED : goal.returns-then-comparison-eq-LISTED

@@ -1,5 +1,4 @@
 use Rattle.plan.proofs.PassSteps.{octets-digits, octets-text, octets-named, octets-name}
-use borrow.Author.Rules.{rules}
 use Rattle.plan.proofs.accepts_octets.Goals as goal
 
 pub returns-then-comparison-lt-FOLDED : goal.returns-then-comparison-lt-FOLDED

@@ -1,5 +1,4 @@
 use Rattle.plan.proofs.PassSteps.{plain_any, plain_false, plain-none, plain_true}
-use borrow.Author.Rules.{rules}
 use Rattle.plan.proofs.accepts_plain.Goals as goal
 
 pub returns-then-comparison-eq-ANY : goal.returns-then-comparison-eq-ANY

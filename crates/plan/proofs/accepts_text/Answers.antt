@@ -1,5 +1,4 @@
 use Rattle.plan.proofs.PassSteps.{text-earlier, text-string, text-time}
-use borrow.Author.Rules.{rules}
 use Rattle.plan.proofs.accepts_text.Goals as goal
 
 pub returns-then-comparison-eq-TIME : goal.returns-then-comparison-eq-TIME

@@ -1,5 +1,4 @@
 use Rattle.plan.proofs.TestSteps.{arcs-fit, arcs_unfit}
-use borrow.Author.Rules.{rules}
 use Rattle.plan.proofs.arcs_test.Goals as goal
 
 pub returns-then-fits_stored : goal.returns-then-fits_stored

@@ -1,5 +1,4 @@
 use Rattle.plan.proofs.TestSteps.{bits_binary, bits_hexadecimal}
-use borrow.Author.Rules.{rules}
 use Rattle.plan.proofs.bits_test.Goals as goal
 
 pub returns-then-is_bit_text : goal.returns-then-is_bit_text

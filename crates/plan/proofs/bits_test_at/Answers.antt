@@ -1,5 +1,4 @@
 use Rattle.plan.proofs.BitsSteps.{at_unsuited, at_names, at-digits}
-use borrow.Author.Rules.{rules}
 use Rattle.plan.proofs.bits_test_at.Goals as goal
 
 pub returns-then-not-suits : goal.returns-then-not-suits

@@ -1,5 +1,4 @@
 use Rattle.plan.proofs.BitsSteps.{digits-none, digits_some}
-use borrow.Author.Rules.{rules}
 use Rattle.plan.proofs.digits_test.Goals as goal
 
 pub returns-then-not-is_bits : goal.returns-then-not-is_bits

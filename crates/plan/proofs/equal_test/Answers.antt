@@ -1,6 +1,5 @@
 use Rattle.plan.proofs.TestSteps.{equal-arcs, equal-bits, equal-booleans, equal-integers, equal-octets, equal-strings, equal-times}
 use Rattle.plan.proofs.TestSteps.{equal-names, equal-rdns}
-use borrow.Author.Rules.{rules}
 use Rattle.plan.proofs.equal_test.Goals as goal
 
 pub returns-in-Booleans : goal.returns-in-Booleans

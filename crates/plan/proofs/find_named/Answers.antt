@@ -1,11 +1,4 @@
-use Rattle.reference.specs.Inner.Work.{named_of}
-use Rattle.value.specs.Inner.Work.{first}
-use Rattle.table.specs.Inner.Rows.{table_rows, place_at}
-use Rattle.rows.specs.Row.{members_at}
-use Rattle.octets.specs.Octets.{part}
 use native.Mathlib.Omega.{arith}
-use Prim.Native.Nat.{◌≤◌, ◌-◌}
-use mathlib.Core.Path.{◌≡◌}
 use Rattle.reference.proofs.TargetSteps.{find_start, find_found, find_again, find_done}
 use Rattle.plan.proofs.RowLaws.{row_fits_lem}
 use Rattle.plan.proofs.PlanSteps.{find_here, find_fits}

@@ -1,7 +1,6 @@
 use lib.ListN.{length}
 use Prim.Native.Nat.{◌+◌, ◌-◌}
-use Rattle.plan.proofs.Resolving.{Steps, steps_start, steps_resolving, steps_long, steps_fits, steps_step, steps_again, steps_less, follow_count, follow_counted, follow_no, follow_task, follow_row, follow_within, follow_done, follow_kept, follow_long, follow_nothing}
-use borrow.Author.Rules.{rules}
+use Rattle.plan.proofs.Resolving.{Steps}
 use Rattle.plan.proofs.follow.Given as goal
 
 abbrev pub invariant-loop-place : goal.invariant-loop-place

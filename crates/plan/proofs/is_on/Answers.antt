@@ -1,5 +1,4 @@
 use Rattle.plan.proofs.Resolving.{on-is, off_is}
-use borrow.Author.Rules.{rules}
 use Rattle.plan.proofs.is_on.Goals as goal
 
 pub returns-then-defaults : goal.returns-then-defaults

@@ -1,5 +1,4 @@
 use Rattle.plan.proofs.TestSteps.{stands-quoted, stands-prepared, stands-whole, stands-name, stands-rdn}
-use borrow.Author.Rules.{rules}
 use Rattle.plan.proofs.is_operand.Goals as goal
 
 pub returns-in-Whole : goal.returns-in-Whole

@@ -1,5 +1,4 @@
 use Rattle.plan.proofs.TestSteps.{less-at, less-over, less-under}
-use borrow.Author.Rules.{rules}
 use Rattle.plan.proofs.less_test.Goals as goal
 
 pub returns-in-At : goal.returns-in-At

@@ -1,5 +1,4 @@
 use Rattle.plan.proofs.BitsSteps.{named-present, named-equal, named-less}
-use borrow.Author.Rules.{rules}
 use Rattle.plan.proofs.named_test.Goals as goal
 
 pub returns-in-Present : goal.returns-in-Present

@@ -1,5 +1,4 @@
 use Rattle.plan.proofs.BitsSteps.{names_binary, names_hexadecimal, names-listed, names-none}
-use borrow.Author.Rules.{rules}
 use Rattle.plan.proofs.names_test.Goals as goal
 
 pub returns-then-is_bit_text : goal.returns-then-is_bit_text

@@ -1,5 +1,4 @@
 use Rattle.plan.proofs.PassSteps.{bound_at, bound_over, bound_under}
-use borrow.Author.Rules.{rules}
 use Rattle.plan.proofs.numbered_bound.Goals as goal
 
 pub returns-then-k-eq0 : goal.returns-then-k-eq0

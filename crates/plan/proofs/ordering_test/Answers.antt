@@ -1,6 +1,5 @@
 use Rattle.plan.proofs.TestSteps.{less-arcs, less-bits, less-booleans, less-integers, less-octets, less-strings, less-times}
 use Rattle.plan.proofs.TestSteps.{less-names, less-rdns}
-use borrow.Author.Rules.{rules}
 use Rattle.plan.proofs.ordering_test.Goals as goal
 
 pub returns-in-Booleans : goal.returns-in-Booleans

@@ -1,5 +1,4 @@
 use Rattle.plan.proofs.PassSteps.{contents_pass, contents-tested}
-use borrow.Author.Rules.{rules}
 use Rattle.plan.proofs.passes_contents.Goals as goal
 
 pub returns-then-task-lt2 : goal.returns-then-task-lt2

@@ -1,5 +1,4 @@
 use Rattle.plan.proofs.PlanSteps.{count_none, count-last, count-more}
-use borrow.Author.Rules.{rules}
 use Rattle.plan.proofs.plan_count.Goals as goal
 
 pub returns-then-not-is_list : goal.returns-then-not-is_list

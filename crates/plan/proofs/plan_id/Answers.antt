@@ -1,5 +1,4 @@
 use Rattle.plan.proofs.Identifying.{name-plans, position-plans, last-plans, count-plans, all-plans, end-plans, bad-plans}
-use borrow.Author.Rules.{rules}
 use Rattle.plan.proofs.plan_id.Goals as goal
 
 pub returns-in-Name : goal.returns-in-Name

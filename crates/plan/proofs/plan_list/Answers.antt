@@ -1,5 +1,4 @@
 use Rattle.plan.proofs.PlanSteps.{list-none, list_some}
-use borrow.Author.Rules.{rules}
 use Rattle.plan.proofs.plan_list.Goals as goal
 
 pub returns-then-not-is_list : goal.returns-then-not-is_list

@@ -1,5 +1,4 @@
 use Rattle.plan.proofs.TaskLaws.{listing-is, relisted}
-use borrow.Author.Rules.{rules}
 use Rattle.plan.proofs.plan_listing.Goals as goal
 
 pub returns : goal.returns

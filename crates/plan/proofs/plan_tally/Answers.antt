@@ -1,5 +1,4 @@
 use Rattle.plan.proofs.TaskLaws.{counting-is, two-long}
-use borrow.Author.Rules.{rules}
 use Rattle.plan.proofs.plan_tally.Goals as goal
 
 pub returns : goal.returns

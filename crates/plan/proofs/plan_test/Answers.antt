@@ -1,5 +1,4 @@
 use Rattle.plan.proofs.TaskLaws.{filled-long, testing-is}
-use borrow.Author.Rules.{rules}
 use Rattle.plan.proofs.plan_test.Goals as goal
 
 pub returns : goal.returns

@@ -1,5 +1,4 @@
 use Rattle.plan.proofs.TestSteps.{same_at, same_over, same-under}
-use borrow.Author.Rules.{rules}
 use Rattle.plan.proofs.same_test.Goals as goal
 
 pub returns-in-At : goal.returns-in-At

@@ -1,5 +1,4 @@
 use Rattle.plan.proofs.TaskLaws.{test_set, steps_kept}
-use borrow.Author.Rules.{rules}
 use Rattle.plan.proofs.set_test.Goals as goal
 
 pub returns : goal.returns

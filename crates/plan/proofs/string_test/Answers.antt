@@ -1,5 +1,4 @@
 use Rattle.plan.proofs.TestSteps.{string-exact, string-folded}
-use borrow.Author.Rules.{rules}
 use Rattle.plan.proofs.string_test.Goals as goal
 
 pub returns-then-fold : goal.returns-then-fold

@@ -1,5 +1,4 @@
 use Rattle.plan.proofs.TestSteps.{form-strings}
-use borrow.Author.Rules.{rules}
 use Rattle.plan.proofs.syntax_form.Goals as goal
 
 pub returns-in-Strings : goal.returns-in-Strings

@@ -1,5 +1,4 @@
 use Rattle.plan.proofs.TestSteps.{test-equal, test-less, test-present}
-use borrow.Author.Rules.{rules}
 use Rattle.plan.proofs.test_for.Goals as goal
 
 pub returns-in-Present : goal.returns-in-Present

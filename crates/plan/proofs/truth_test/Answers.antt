@@ -1,5 +1,4 @@
 use Rattle.plan.proofs.TestSteps.{truth_false, truth_true}
-use borrow.Author.Rules.{rules}
 use Rattle.plan.proofs.truth_test.Goals as goal
 
 pub returns-then-same : goal.returns-then-same

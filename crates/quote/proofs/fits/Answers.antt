@@ -1,9 +1,4 @@
-use Rattle.quote.specs.Quote.{doubled, quoted}
 use Rattle.quote.proofs.Steps.{fits-small, fits-start, fits-done, fits_not, fits_more}
-use mathlib.Core.Path.{◌≡◌}
-use Prim.Native.Nat.{◌+◌, ◌-◌}
-use lib.ListN.{length, drop}
-use borrow.Author.Rules.{rules}
 use Rattle.quote.proofs.fits.Goals as goal
 
 pub returns-then-size-lt2 : goal.returns-then-size-lt2

@@ -1,6 +1,5 @@
 use Rattle.quote.proofs.Steps.{quote_empty, quote_other, quote_text}
 use Rattle.quote.proofs.Reading.{reads_report}
-use borrow.Author.Rules.{rules}
 use Rattle.quote.proofs.quote.Goals as goal
 
 pub returns-then-text-eq0 : goal.returns-then-text-eq0

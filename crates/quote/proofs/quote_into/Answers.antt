@@ -1,5 +1,4 @@
 use Rattle.quote.proofs.Steps.{into_little, into_written, fits_all}
-use borrow.Author.Rules.{rules}
 use Rattle.quote.proofs.quote_into.Goals as goal
 
 pub returns-then-not-fits : goal.returns-then-not-fits

@@ -1,5 +1,4 @@
 use Rattle.octets.proofs.Tests.{tests}
-use borrow.Author.Rules.{rules}
 use Rattle.quote.proofs.width.Goals as goal
 
 pub returns-then-b-eq34 : goal.returns-then-b-eq34

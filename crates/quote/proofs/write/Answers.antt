@@ -1,7 +1,4 @@
-use Rattle.quote.proofs.Steps.{Quotes, room-first, room-more, room_next, quotes_start, quotes_double, quotes_on, quotes_same, quotes_end}
-use Prim.Native.Nat.{◌-◌}
-use lib.ListN.{length}
-use borrow.Author.Rules.{rules}
+use Rattle.quote.proofs.Steps.{room-first, room-more, room_next, quotes_start, quotes_double, quotes_on, quotes_same, quotes_end}
 use Rattle.quote.proofs.write.Goals as goal
 
 pub bounds-room-0 : goal.bounds-room-0

@@ -1,7 +1,6 @@
-use Rattle.quote.proofs.Steps.{Quotes, room-first, room-more, room_next, quotes_start, quotes_double, quotes_on, quotes_same, quotes_end}
+use Rattle.quote.proofs.Steps.{Quotes}
 use Prim.Native.Nat.{◌-◌}
 use lib.ListN.{length}
-use borrow.Author.Rules.{rules}
 use Rattle.quote.proofs.write.Given as goal
 
 abbrev pub invariant-loop-i : goal.invariant-loop-i

@@ -1,5 +1,4 @@
 use Rattle.reader.proofs.Steps.{size_none, sum_fits, long, size_is}
-use borrow.Author.Rules.{rules}
 use Rattle.reader.proofs.size_at.Goals as goal
 
 pub returns-in_default : goal.returns-in_default

@@ -1,7 +1,4 @@
-use Rattle.reference.specs.Inner.Work.{end_at}
-use lib.ListN.{length}
-use Prim.Native.Nat.{◌≤◌, ◌-◌}
-use mathlib.Core.Path.{◌≡◌, refl}
+use mathlib.Core.Path.{refl}
 use Rattle.reference.proofs.IdSteps.{end_dot, end_on, end-done}
 use borrow.Author.Rules.{rules}
 use Rattle.reference.proofs.end_at.Goals as goal

@@ -1,9 +1,7 @@
 use Rattle.reference.specs.Inner.Work.{end_at}
 use lib.ListN.{length}
 use Prim.Native.Nat.{◌≤◌, ◌-◌}
-use mathlib.Core.Path.{◌≡◌, refl}
-use Rattle.reference.proofs.IdSteps.{end_dot, end_on, end-done}
-use borrow.Author.Rules.{rules}
+use mathlib.Core.Path.{◌≡◌}
 use Rattle.reference.proofs.end_at.Given as goal
 
 abbrev pub invariant-loop-i : goal.invariant-loop-i

@@ -1,9 +1,5 @@
 use Rattle.reference.proofs.NameSteps.{name-short, name_longer, name-other, name-fill, name-on, name_done}
-use Rattle.octets.specs.Octets.{same}
-use Rattle.rows.specs.Row.{unfilled}
-use mathlib.Core.Path.{◌≡◌, refl}
-use Prim.Native.Nat.{◌-◌, ◌≤◌}
-use lib.ListN.{length, drop}
+use mathlib.Core.Path.{refl}
 use borrow.Author.Rules.{rules}
 use Rattle.reference.proofs.has_name.Goals as goal
 

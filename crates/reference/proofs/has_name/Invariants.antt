@@ -1,10 +1,8 @@
-use Rattle.reference.proofs.NameSteps.{name-short, name_longer, name-other, name-fill, name-on, name_done}
 use Rattle.octets.specs.Octets.{same}
 use Rattle.rows.specs.Row.{unfilled}
-use mathlib.Core.Path.{◌≡◌, refl}
+use mathlib.Core.Path.{◌≡◌}
 use Prim.Native.Nat.{◌-◌, ◌≤◌}
 use lib.ListN.{length, drop}
-use borrow.Author.Rules.{rules}
 use Rattle.reference.proofs.has_name.Given as goal
 
 abbrev pub invariant-loop-i : goal.invariant-loop-i

@@ -1,9 +1,4 @@
-use Rattle.octets.specs.Text.{name_from, is_name}
-use lib.ListN.{length, drop}
-use Prim.Native.Nat.{◌-◌}
-use mathlib.Core.Path.{◌≡◌}
 use Rattle.reference.proofs.IdSteps.{name-other, name-start, name-bad, name-more, name_hyphen, name-whole}
-use borrow.Author.Rules.{rules}
 use Rattle.reference.proofs.is_name.Goals as goal
 
 pub returns-then-not-is_lower : goal.returns-then-not-is_lower

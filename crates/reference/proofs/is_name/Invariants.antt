@@ -2,8 +2,6 @@ use Rattle.octets.specs.Text.{name_from, is_name}
 use lib.ListN.{length, drop}
 use Prim.Native.Nat.{◌-◌}
 use mathlib.Core.Path.{◌≡◌}
-use Rattle.reference.proofs.IdSteps.{name-other, name-start, name-bad, name-more, name_hyphen, name-whole}
-use borrow.Author.Rules.{rules}
 use Rattle.reference.proofs.is_name.Given as goal
 
 abbrev pub invariant-loop-i : goal.invariant-loop-i

@@ -1,5 +1,4 @@
 use Rattle.reference.proofs.NameSteps.{named_other, named-is}
-use borrow.Author.Rules.{rules}
 use Rattle.reference.proofs.is_named.Goals as goal
 
 pub returns-then-name_start-octet : goal.returns-then-name_start-octet

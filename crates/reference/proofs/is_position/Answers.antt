@@ -1,5 +1,4 @@
 use Rattle.reference.proofs.IdSteps.{position-none, position_nought, position-is}
-use borrow.Author.Rules.{rules}
 use Rattle.reference.proofs.is_position.Goals as goal
 
 pub returns-then-p-lt1 : goal.returns-then-p-lt1

@@ -1,6 +1,5 @@
 use mathlib.Core.Path.{refl}
 use Rattle.reference.proofs.IdSteps.{next-end, next_is, next_advances}
-use borrow.Author.Rules.{rules}
 use Rattle.reference.proofs.next_id.Goals as goal
 
 pub returns-then-r-k : goal.returns-then-r-k

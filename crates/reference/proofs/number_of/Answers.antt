@@ -1,5 +1,4 @@
 use Rattle.reference.proofs.IdSteps.{number_far, number_is}
-use borrow.Author.Rules.{rules}
 use Rattle.reference.proofs.number_of.Goals as goal
 
 pub returns-in_default : goal.returns-in_default

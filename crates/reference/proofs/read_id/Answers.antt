@@ -1,5 +1,4 @@
 use Rattle.reference.proofs.IdSteps.{id_all, id_count, id_other}
-use borrow.Author.Rules.{rules}
 use Rattle.reference.proofs.read_id.Goals as goal
 
 pub returns-then-same : goal.returns-then-same

@@ -1,5 +1,4 @@
 use Rattle.reference.proofs.IdSteps.{number-position, number-other}
-use borrow.Author.Rules.{rules}
 use Rattle.reference.proofs.read_number.Goals as goal
 
 pub returns-then-is_position : goal.returns-then-is_position

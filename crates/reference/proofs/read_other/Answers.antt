@@ -1,5 +1,4 @@
 use Rattle.reference.proofs.IdSteps.{other_word, other-end, other_name}
-use borrow.Author.Rules.{rules}
 use Rattle.reference.proofs.read_other.Goals as goal
 
 pub returns-then-octet-ne45 : goal.returns-then-octet-ne45

@@ -1,5 +1,4 @@
 use Rattle.reference.proofs.IdSteps.{word_is, word_bad}
-use borrow.Author.Rules.{rules}
 use Rattle.reference.proofs.read_word.Goals as goal
 
 pub returns-then-is_name : goal.returns-then-is_name

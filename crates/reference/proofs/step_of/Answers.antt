@@ -1,5 +1,4 @@
 use Rattle.reference.proofs.IdSteps.{step-name, step-position, step-from_end, step_count, step-all, step-bad}
-use borrow.Author.Rules.{rules}
 use Rattle.reference.proofs.step_of.Goals as goal
 
 pub returns-in-Name : goal.returns-in-Name

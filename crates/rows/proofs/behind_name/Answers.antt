@@ -1,5 +1,4 @@
 use Rattle.rows.proofs.Steps.{behind-is}
-use borrow.Author.Rules.{rules}
 use Rattle.rows.proofs.behind_name.Goals as goal
 
 pub returns : goal.returns

@@ -1,5 +1,4 @@
 use Rattle.rows.proofs.Steps.{names-count, names-none}
-use borrow.Author.Rules.{rules}
 use Rattle.rows.proofs.bit_names_at.Goals as goal
 
 pub returns-then-kind_at-eq-NAMED_BIT_STRING : goal.returns-then-kind_at-eq-NAMED_BIT_STRING

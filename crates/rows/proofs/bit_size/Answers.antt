@@ -1,5 +1,4 @@
 use Rattle.rows.proofs.FollowerSteps.{bit_hyphen, bit_high, bit_sized}
-use borrow.Author.Rules.{rules}
 use Rattle.rows.proofs.bit_size.Goals as goal
 
 pub returns-then-t-p-eq45 : goal.returns-then-t-p-eq45

@@ -1,5 +1,4 @@
 use Rattle.rows.proofs.Steps.{count-choice, count-named, count-other, count-sequence}
-use borrow.Author.Rules.{rules}
 use Rattle.rows.proofs.count_formed.Goals as goal
 
 pub returns-then-kind-eq-SEQUENCE : goal.returns-then-kind-eq-SEQUENCE

@@ -1,5 +1,4 @@
 use Rattle.rows.proofs.Steps.{default-is}
-use borrow.Author.Rules.{rules}
 use Rattle.rows.proofs.default_at.Goals as goal
 
 pub returns : goal.returns

@@ -1,5 +1,4 @@
 use Rattle.rows.proofs.Steps.{filled-here, filled-long}
-use borrow.Author.Rules.{rules}
 use Rattle.rows.proofs.default_filled.Goals as goal
 
 pub returns-then-n-gt8 : goal.returns-then-n-gt8

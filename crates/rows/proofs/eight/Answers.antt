@@ -1,5 +1,4 @@
 use Rattle.rows.proofs.NumberSteps.{eight_is}
-use borrow.Author.Rules.{rules}
 use Rattle.rows.proofs.eight.Goals as goal
 
 pub returns : goal.returns

@@ -1,5 +1,4 @@
 use Rattle.rows.proofs.Steps.{element-named}
-use borrow.Author.Rules.{rules}
 use Rattle.rows.proofs.element_at.Goals as goal
 
 pub returns : goal.returns

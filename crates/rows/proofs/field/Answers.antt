@@ -1,5 +1,4 @@
 use Rattle.rows.proofs.Steps.{field_is}
-use borrow.Author.Rules.{rules}
 use Rattle.rows.proofs.field.Goals as goal
 
 pub returns : goal.returns

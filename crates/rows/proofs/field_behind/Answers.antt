@@ -1,5 +1,4 @@
 use Rattle.rows.proofs.Steps.{field_behind}
-use borrow.Author.Rules.{rules}
 use Rattle.rows.proofs.field_behind.Goals as goal
 
 pub returns : goal.returns

@@ -1,5 +1,4 @@
 use Rattle.rows.proofs.Steps.{fields_are}
-use borrow.Author.Rules.{rules}
 use Rattle.rows.proofs.fields.Goals as goal
 
 pub returns : goal.returns

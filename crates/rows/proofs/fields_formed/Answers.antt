@@ -1,5 +1,4 @@
 use Rattle.rows.proofs.Steps.{member_tag, member-presence, member-filled}
-use borrow.Author.Rules.{rules}
 use Rattle.rows.proofs.fields_formed.Goals as goal
 
 pub returns-then-not-tag_formed : goal.returns-then-not-tag_formed

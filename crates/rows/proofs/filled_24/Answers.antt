@@ -1,5 +1,4 @@
 use Rattle.rows.proofs.NumberSteps.{filled-later, filled_not, filled-both}
-use borrow.Author.Rules.{rules}
 use Rattle.rows.proofs.filled_24.Goals as goal
 
 pub returns-then-n-ge8 : goal.returns-then-n-ge8

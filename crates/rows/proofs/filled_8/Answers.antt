@@ -1,5 +1,4 @@
 use Rattle.rows.proofs.NumberSteps.{filled_none, filled_eight}
-use borrow.Author.Rules.{rules}
 use Rattle.rows.proofs.filled_8.Goals as goal
 
 pub returns-then-n-eq8 : goal.returns-then-n-eq8

@@ -1,5 +1,4 @@
 use Rattle.rows.proofs.Steps.{follower-low, follower_group, follower_bit, follower-none}
-use borrow.Author.Rules.{rules}
 use Rattle.rows.proofs.follower_kind.Goals as goal
 
 pub returns-then-kind-lt-SEQUENCE : goal.returns-then-kind-lt-SEQUENCE

@@ -1,5 +1,4 @@
 use Rattle.rows.proofs.Steps.{followers_none, followers_count}
-use borrow.Author.Rules.{rules}
 use Rattle.rows.proofs.followers_at.Goals as goal
 
 pub returns-then-follower-eq0 : goal.returns-then-follower-eq0

@@ -1,5 +1,4 @@
 use Rattle.rows.proofs.Steps.{follows-end, follows-fill, follows-name}
-use borrow.Author.Rules.{rules}
 use Rattle.rows.proofs.follows.Goals as goal
 
 pub returns-then-a-eq0 : goal.returns-then-a-eq0

@@ -1,5 +1,4 @@
 use Rattle.rows.proofs.Steps.{from_past, from-inside}
-use borrow.Author.Rules.{rules}
 use Rattle.rows.proofs.from.Goals as goal
 
 pub returns-then-t-p : goal.returns-then-t-p

@@ -1,6 +1,5 @@
 use Rattle.octets.proofs.Tests.{tests}
 use Rattle.rows.specs.Row.{is_group}
-use borrow.Author.Rules.{rules}
 use Rattle.rows.proofs.is_group.Goals as goal
 
 pub returns-then-kind-eq-SEQUENCE : goal.returns-then-kind-eq-SEQUENCE

@@ -1,6 +1,5 @@
 use Rattle.octets.proofs.Tests.{tests}
 use Rattle.rows.specs.Row.{is_list}
-use borrow.Author.Rules.{rules}
 use Rattle.rows.proofs.is_list.Goals as goal
 
 pub returns-then-kind-eq-SEQUENCE_OF : goal.returns-then-kind-eq-SEQUENCE_OF

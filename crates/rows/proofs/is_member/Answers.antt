@@ -1,6 +1,5 @@
 use Rattle.octets.proofs.Tests.{tests}
 use Rattle.rows.specs.Row.{is_member}
-use borrow.Author.Rules.{rules}
 use Rattle.rows.proofs.is_member.Goals as goal
 
 pub returns-then-kind-eq-MEMBER : goal.returns-then-kind-eq-MEMBER

@@ -1,5 +1,4 @@
 use Rattle.rows.proofs.Steps.{type-plain, type-named, type-name}
-use borrow.Author.Rules.{rules}
 use Rattle.rows.proofs.is_type_kind.Goals as goal
 
 pub returns-then-within : goal.returns-then-within

@@ -1,5 +1,4 @@
 use Rattle.rows.proofs.FollowerSteps.{long-behind, long-whole, long_cut, long_unnamed, long_unformed, long-sized}
-use borrow.Author.Rules.{rules}
 use Rattle.rows.proofs.long_member_size.Goals as goal
 
 pub returns-then-t-p-lt-LONG_MEMBER_BYTES : goal.returns-then-t-p-lt-LONG_MEMBER_BYTES

@@ -1,5 +1,4 @@
 use Rattle.rows.proofs.Steps.{default-whole}
-use borrow.Author.Rules.{rules}
 use Rattle.rows.proofs.member_default.Goals as goal
 
 pub returns : goal.returns

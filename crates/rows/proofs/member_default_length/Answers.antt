@@ -1,5 +1,4 @@
 use Rattle.rows.proofs.Steps.{field_whole}
-use borrow.Author.Rules.{rules}
 use Rattle.rows.proofs.member_default_length.Goals as goal
 
 pub returns : goal.returns

@@ -1,5 +1,4 @@
 use Rattle.rows.proofs.FollowerSteps.{member-behind, member-whole, member_cut, member_hyphen, member_unformed, member-sized}
-use borrow.Author.Rules.{rules}
 use Rattle.rows.proofs.member_size.Goals as goal
 
 pub returns-then-t-p-lt-MEMBER_BYTES : goal.returns-then-t-p-lt-MEMBER_BYTES

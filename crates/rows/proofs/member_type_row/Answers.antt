@@ -1,5 +1,4 @@
 use Rattle.rows.proofs.Steps.{type_row_whole}
-use borrow.Author.Rules.{rules}
 use Rattle.rows.proofs.member_type_row.Goals as goal
 
 pub returns : goal.returns

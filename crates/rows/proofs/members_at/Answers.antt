@@ -1,5 +1,4 @@
 use Rattle.rows.proofs.Steps.{members_group, members-none}
-use borrow.Author.Rules.{rules}
 use Rattle.rows.proofs.members_at.Goals as goal
 
 pub returns-then-is_group : goal.returns-then-is_group

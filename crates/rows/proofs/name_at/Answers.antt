@@ -1,5 +1,4 @@
 use Rattle.rows.proofs.Steps.{name-is}
-use borrow.Author.Rules.{rules}
 use Rattle.rows.proofs.name_at.Goals as goal
 
 pub returns : goal.returns

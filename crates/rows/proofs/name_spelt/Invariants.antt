@@ -1,13 +1,9 @@
 use Prim.Native.Nat.{◌-◌, ◌≤◌, ◌<◌}
 use mathlib.Core.Path.{◌≡◌}
 use mathlib.Core.Bool.{true}
-use native.Mathlib.Omega.{arith}
 use Rattle.octets.specs.Pick.{all}
-use Rattle.octets.proofs.Laws.{all_none}
 use Rattle.rows.specs.Body.{followed}
 use Rattle.rows.specs.Row.{short_width, name_octet_at}
-use Rattle.rows.proofs.Steps.{some_octet, lower_next, named-lower, named-bad, named_more, named-fill, named-done}
-use borrow.Author.Rules.{rules}
 use Rattle.rows.proofs.name_spelt.Given as goal
 
 abbrev pub invariant-loop-j : goal.invariant-loop-j

@@ -1,5 +1,4 @@
 use Rattle.rows.proofs.Steps.{number_is}
-use borrow.Author.Rules.{rules}
 use Rattle.rows.proofs.number_after.Goals as goal
 
 pub returns : goal.returns

@@ -1,5 +1,4 @@
 use Rattle.rows.proofs.NameSteps.{eights_first, eights_second, eights_third}
-use borrow.Author.Rules.{rules}
 use Rattle.rows.proofs.same_24.Goals as goal
 
 pub returns-then-not-same_eight : goal.returns-then-not-same_eight

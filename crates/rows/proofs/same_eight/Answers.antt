@@ -1,5 +1,4 @@
 use Rattle.rows.proofs.NumberSteps.{eight_same}
-use borrow.Author.Rules.{rules}
 use Rattle.rows.proofs.same_eight.Goals as goal
 
 pub returns : goal.returns

@@ -1,5 +1,4 @@
 use Rattle.rows.proofs.NameSteps.{long-inside, name-first, name-short, name_longer, name-rest}
-use borrow.Author.Rules.{rules}
 use Rattle.rows.proofs.same_name.Goals as goal
 
 pub returns-then-not-same_24 : goal.returns-then-not-same_24

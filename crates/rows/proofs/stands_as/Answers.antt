@@ -1,5 +1,4 @@
 use Rattle.rows.proofs.Steps.{stands_same, stands_not, stands-long}
-use borrow.Author.Rules.{rules}
 use Rattle.rows.proofs.stands_as.Goals as goal
 
 pub returns-then-kind-follower : goal.returns-then-kind-follower

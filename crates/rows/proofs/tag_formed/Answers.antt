@@ -1,6 +1,5 @@
 use Rattle.octets.proofs.Tests.{tests}
 use Rattle.rows.specs.Body.{tagging_formed}
-use borrow.Author.Rules.{rules}
 use Rattle.rows.proofs.tag_formed.Goals as goal
 
 pub returns-then-mode-gt2 : goal.returns-then-mode-gt2

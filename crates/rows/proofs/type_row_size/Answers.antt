@@ -1,5 +1,4 @@
 use Rattle.rows.proofs.Steps.{size_basic, size_group, size-list, size-named, size-name, size_none}
-use borrow.Author.Rules.{rules}
 use Rattle.rows.proofs.type_row_size.Goals as goal
 
 pub returns-then-within : goal.returns-then-within

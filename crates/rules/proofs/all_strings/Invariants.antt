@@ -1,11 +1,8 @@
 use Prim.Native.Nat.{◌-◌, ◌≤◌}
-use Rattle.octets.proofs.Laws.{all-bad, all_done, all_more, all_none}
 use Rattle.octets.specs.Pick.{all}
 use Rattle.rules.specs.Inner.Answers.{string_row}
 use mathlib.Core.Bool.{true}
 use mathlib.Core.Path.{◌≡◌}
-use native.Mathlib.Omega.{arith}
-use borrow.Author.Rules.{rules}
 use Rattle.rules.proofs.all_strings.Given as goal
 
 abbrev pub invariant-loop-j : goal.invariant-loop-j

@@ -1,5 +1,4 @@
 use Rattle.rules.proofs.Steps.{conform-equal, conform-less, conform-present}
-use borrow.Author.Rules.{rules}
 use Rattle.rules.proofs.conforms.Goals as goal
 
 pub returns-in-Present : goal.returns-in-Present

@@ -1,6 +1,5 @@
 use Rattle.rules.proofs.Steps.{conform-bits, conform-booleans, conform-integers, conform-octets, conform_oids, conform-strings, conform-times}
 use Rattle.rules.proofs.Steps.{conform-names, conform-rdns}
-use borrow.Author.Rules.{rules}
 use Rattle.rules.proofs.conforms_to.Goals as goal
 
 pub returns-in-Booleans : goal.returns-in-Booleans

@@ -1,5 +1,4 @@
 use Rattle.octets.proofs.Tests.{tests}
-use borrow.Author.Rules.{rules}
 use Rattle.rules.proofs.is_bit_kind.Goals as goal
 
 pub returns-then-k-eq-BIT_STRING : goal.returns-then-k-eq-BIT_STRING

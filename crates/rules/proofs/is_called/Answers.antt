@@ -1,5 +1,4 @@
 use Rattle.rules.proofs.NameSteps.{called-name, called-oid}
-use borrow.Author.Rules.{rules}
 use Rattle.rules.proofs.is_called.Goals as goal
 
 pub returns-then-same_name : goal.returns-then-same_name

@@ -1,5 +1,4 @@
 use Rattle.rules.proofs.Steps.{name-unquoted, name-is}
-use borrow.Author.Rules.{rules}
 use Rattle.rules.proofs.is_name.Goals as goal
 
 pub returns-then-not-is_quoted : goal.returns-then-not-is_quoted

@@ -1,5 +1,4 @@
 use Rattle.rules.proofs.Steps.{name-unquoted, rdn-is}
-use borrow.Author.Rules.{rules}
 use Rattle.rules.proofs.is_rdn.Goals as goal
 
 pub returns-then-not-is_quoted : goal.returns-then-not-is_quoted

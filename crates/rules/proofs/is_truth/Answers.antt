@@ -1,5 +1,4 @@
 use Rattle.rules.proofs.Steps.{truth_false, truth_true}
-use borrow.Author.Rules.{rules}
 use Rattle.rules.proofs.is_truth.Goals as goal
 
 pub returns-then-same : goal.returns-then-same

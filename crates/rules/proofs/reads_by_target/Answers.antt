@@ -1,5 +1,4 @@
 use Rattle.rules.proofs.Steps.{target-equal, target-less, target-present}
-use borrow.Author.Rules.{rules}
 use Rattle.rules.proofs.reads_by_target.Goals as goal
 
 pub returns-in-Present : goal.returns-in-Present

@@ -1,5 +1,4 @@
 use Rattle.rules.proofs.NameSteps.{letter-same, letter-is}
-use borrow.Author.Rules.{rules}
 use Rattle.rules.proofs.same_letter.Goals as goal
 
 pub returns-then-a-b : goal.returns-then-a-b

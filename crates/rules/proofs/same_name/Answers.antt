@@ -1,11 +1,4 @@
-use Prim.Native.Nat.{◌-◌}
-use Rattle.octets.specs.Octets.{same}
-use Rattle.octets.specs.Text.{lower}
 use Rattle.rules.proofs.NameSteps.{name_differs, name_done, name-length, name-more, name-start}
-use Rattle.rules.specs.Rule.{same_name}
-use lib.ListN.{drop, length}
-use mathlib.Core.List.{map}
-use mathlib.Core.Path.{◌≡◌}
 use borrow.Author.Rules.{rules}
 use Rattle.rules.proofs.same_name.Goals as goal
 

@@ -1,12 +1,10 @@
 use Prim.Native.Nat.{◌-◌}
 use Rattle.octets.specs.Octets.{same}
 use Rattle.octets.specs.Text.{lower}
-use Rattle.rules.proofs.NameSteps.{name_differs, name_done, name-length, name-more, name-start}
 use Rattle.rules.specs.Rule.{same_name}
 use lib.ListN.{drop, length}
 use mathlib.Core.List.{map}
 use mathlib.Core.Path.{◌≡◌}
-use borrow.Author.Rules.{rules}
 use Rattle.rules.proofs.same_name.Given as goal
 
 abbrev pub invariant-loop-i : goal.invariant-loop-i

@@ -1,5 +1,4 @@
 use Rattle.rules.proofs.Steps.{rule-equal, rule-less, rule-present}
-use borrow.Author.Rules.{rules}
 use Rattle.rules.proofs.suits.Goals as goal
 
 pub returns-in-Present : goal.returns-in-Present

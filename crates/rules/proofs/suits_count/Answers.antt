@@ -1,5 +1,4 @@
 use Rattle.rules.proofs.Steps.{counted-equal, counted-less, counted-present}
-use borrow.Author.Rules.{rules}
 use Rattle.rules.proofs.suits_count.Goals as goal
 
 pub returns-in-Present : goal.returns-in-Present

@@ -1,5 +1,4 @@
 use Rattle.rules.proofs.Steps.{kind-bits, kind-booleans, kind-integers, kind-octets, kind_oids, kind-strings, kind-times, kind-names, kind-rdns}
-use borrow.Author.Rules.{rules}
 use Rattle.rules.proofs.suits_kind.Goals as goal
 
 pub returns-in-Booleans : goal.returns-in-Booleans

@@ -1,5 +1,4 @@
 use Rattle.rules.proofs.Steps.{suits_basic, suits-choice, suits-other}
-use borrow.Author.Rules.{rules}
 use Rattle.rules.proofs.suits_row.Goals as goal
 
 pub returns-then-k-ne-CHOICE : goal.returns-then-k-ne-CHOICE

@@ -1,6 +1,5 @@
 use Rattle.rules.proofs.NameSteps.{rule-here, rule-after}
 use Rattle.rules.specs.Rule.{known_rules}
-use borrow.Author.Rules.{rules}
 use Rattle.rules.proofs.text_rule.Goals as goal
 
 pub returns-then-is_called : goal.returns-then-is_called

@@ -1,5 +1,4 @@
 use Rattle.strings.proofs.Comparing.{after-end, after-other, after_same}
-use borrow.Author.Rules.{rules}
 use Rattle.strings.proofs.after_octet.Goals as goal
 
 pub returns-then-x-i : goal.returns-then-x-i

@@ -1,5 +1,4 @@
 use Rattle.strings.proofs.Comparing.{before-first, before-other}
-use borrow.Author.Rules.{rules}
 use Rattle.strings.proofs.before_at.Goals as goal
 
 pub returns-then-i-eq0 : goal.returns-then-i-eq0

@@ -1,5 +1,4 @@
 use Rattle.strings.proofs.ShapeSteps.{control_blank, control_none}
-use borrow.Author.Rules.{rules}
 use Rattle.strings.proofs.control_shape.Goals as goal
 
 pub returns-then-within : goal.returns-then-within

@@ -1,5 +1,4 @@
 use Rattle.strings.proofs.Steps.{escaped-other, escaped-last, escaped-one}
-use borrow.Author.Rules.{rules}
 use Rattle.strings.proofs.escaped_octet.Goals as goal
 
 pub returns-then-s-at-ne92 : goal.returns-then-s-at-ne92

@@ -1,5 +1,4 @@
 use Rattle.strings.proofs.Steps.{fold_exact, fold_lower}
-use borrow.Author.Rules.{rules}
 use Rattle.strings.proofs.fold_octet.Goals as goal
 
 pub returns-then-fold : goal.returns-then-fold

@@ -1,5 +1,4 @@
 use Rattle.strings.proofs.ShapeSteps.{high-exact, high_extended, high_latin, high_middle}
-use borrow.Author.Rules.{rules}
 use Rattle.strings.proofs.high_shape.Goals as goal
 
 pub returns-then-c-lt192 : goal.returns-then-c-lt192

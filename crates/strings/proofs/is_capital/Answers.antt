@@ -1,6 +1,5 @@
 use Rattle.octets.proofs.Tests.{tests}
 use Rattle.strings.specs.Inner.Shapes.{is_capital}
-use borrow.Author.Rules.{rules}
 use Rattle.strings.proofs.is_capital.Goals as goal
 
 pub returns-then-c-lt312 : goal.returns-then-c-lt312

@@ -1,5 +1,4 @@
 use Rattle.strings.proofs.Steps.{itself-stored, itself-quoted, itself-escaped}
-use borrow.Author.Rules.{rules}
 use Rattle.strings.proofs.is_itself.Goals as goal
 
 pub returns-in-Stored : goal.returns-in-Stored

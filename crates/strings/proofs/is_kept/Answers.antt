@@ -1,5 +1,4 @@
 use Rattle.strings.proofs.Comparing.{kept_graphic, kept-other, kept-first, kept-last, kept-space}
-use borrow.Author.Rules.{rules}
 use Rattle.strings.proofs.is_kept.Goals as goal
 
 pub returns-then-within : goal.returns-then-within

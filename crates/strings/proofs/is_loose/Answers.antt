@@ -1,5 +1,4 @@
 use Rattle.strings.proofs.Preparing.{loose_quote, loose_space, loose_other}
-use borrow.Author.Rules.{rules}
 use Rattle.strings.proofs.is_loose.Goals as goal
 
 pub returns-then-b-eq34 : goal.returns-then-b-eq34

@@ -1,5 +1,4 @@
 use Rattle.strings.proofs.ShapeSteps.{pair_is, pair_not}
-use borrow.Author.Rules.{rules}
 use Rattle.strings.proofs.is_pair.Goals as goal
 
 pub returns-then-not-within : goal.returns-then-not-within

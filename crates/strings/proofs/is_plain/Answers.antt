@@ -1,10 +1,5 @@
 use Rattle.strings.proofs.Preparing.{plain_end, plain_loose, plain-on}
-use Rattle.strings.specs.Inner.Comparing.{is_plain}
-use lib.ListN.{drop, length}
-use mathlib.Core.Bool.{true}
-use mathlib.Core.Path.{◌≡◌, refl}
-use Prim.Native.Nat.{◌-◌}
-use borrow.Author.Rules.{rules}
+use mathlib.Core.Path.{refl}
 use Rattle.strings.proofs.is_plain.Goals as goal
 
 pub loop-i-init : goal.loop-i-init

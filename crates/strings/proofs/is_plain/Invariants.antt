@@ -1,10 +1,8 @@
-use Rattle.strings.proofs.Preparing.{plain_end, plain_loose, plain-on}
 use Rattle.strings.specs.Inner.Comparing.{is_plain}
 use lib.ListN.{drop, length}
 use mathlib.Core.Bool.{true}
-use mathlib.Core.Path.{◌≡◌, refl}
+use mathlib.Core.Path.{◌≡◌}
 use Prim.Native.Nat.{◌-◌}
-use borrow.Author.Rules.{rules}
 use Rattle.strings.proofs.is_plain.Given as goal
 
 abbrev pub invariant-loop-i : goal.invariant-loop-i

@@ -1,5 +1,4 @@
 use Rattle.strings.proofs.Steps.{is_unclosed, is-past, is_whole}
-use borrow.Author.Rules.{rules}
 use Rattle.strings.proofs.is_quoted.Goals as goal
 
 pub returns-in_default : goal.returns-in_default

@@ -1,5 +1,4 @@
 use Rattle.strings.proofs.Laws.{text-is}
-use borrow.Author.Rules.{rules}
 use Rattle.strings.proofs.is_text.Goals as goal
 
 pub returns : goal.returns

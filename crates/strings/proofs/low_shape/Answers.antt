@@ -1,5 +1,4 @@
 use Rattle.strings.proofs.ShapeSteps.{low_control, low_delete, low-letter, low-space}
-use borrow.Author.Rules.{rules}
 use Rattle.strings.proofs.low_shape.Goals as goal
 
 pub returns-then-b-eq32 : goal.returns-then-b-eq32

@@ -1,6 +1,5 @@
 use Rattle.octets.proofs.Tests.{tests}
 use Rattle.strings.specs.Inner.Shapes.{mark_shape}
-use borrow.Author.Rules.{rules}
 use Rattle.strings.proofs.mark_shape.Goals as goal
 
 pub returns-then-c-eq168 : goal.returns-then-c-eq168

@@ -1,5 +1,4 @@
-use Rattle.strings.proofs.ImageSteps.{Seeking, seek_start, seek_end, seek_falls, seek_further, seek_blank, seek_nothing, seek_shown}
-use Rattle.strings.specs.Inner.Comparing.{left}
+use Rattle.strings.proofs.ImageSteps.{seek_start, seek_end, seek_falls, seek_further, seek_blank, seek_nothing, seek_shown}
 use borrow.Author.Rules.{rules}
 use Rattle.strings.proofs.next_image.Goals as goal
 

@@ -1,6 +1,5 @@
-use Rattle.strings.proofs.ImageSteps.{Seeking, seek_start, seek_end, seek_falls, seek_further, seek_blank, seek_nothing, seek_shown}
+use Rattle.strings.proofs.ImageSteps.{Seeking}
 use Rattle.strings.specs.Inner.Comparing.{left}
-use borrow.Author.Rules.{rules}
 use Rattle.strings.proofs.next_image.Given as goal
 
 abbrev pub invariant-loop-b : goal.invariant-loop-b

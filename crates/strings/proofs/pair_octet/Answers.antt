@@ -1,5 +1,4 @@
 use Rattle.strings.proofs.Steps.{pair_quotes, pair_quote, pair_told, pair-hex, pair-other}
-use borrow.Author.Rules.{rules}
 use Rattle.strings.proofs.pair_octet.Goals as goal
 
 pub returns-then-d-eq34 : goal.returns-then-d-eq34

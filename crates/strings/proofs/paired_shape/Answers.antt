@@ -1,5 +1,4 @@
 use Rattle.strings.proofs.ShapeSteps.{paired-itself, paired_next}
-use borrow.Author.Rules.{rules}
 use Rattle.strings.proofs.paired_shape.Goals as goal
 
 pub returns-then-is_capital : goal.returns-then-is_capital

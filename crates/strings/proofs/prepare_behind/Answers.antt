@@ -1,6 +1,5 @@
-use Rattle.strings.proofs.Preparing.{Preparing, prepare_long, prepare_start, prepare_end, prepare_place, prepare_most, prepare_space, prepare_octets}
+use Rattle.strings.proofs.Preparing.{prepare_long, prepare_start, prepare_end, prepare_place, prepare_most, prepare_space, prepare_octets}
 use Rattle.strings.proofs.Preparing.{prepare_falls, prepare_more}
-use Rattle.strings.specs.Inner.Comparing.{left}
 use borrow.Author.Rules.{rules}
 use Rattle.strings.proofs.prepare_behind.Goals as goal
 

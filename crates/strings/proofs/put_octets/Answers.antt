@@ -1,5 +1,4 @@
-use Rattle.strings.proofs.Preparing.{Putting, put-start, put-long, put-place, put-end, put-room, put-more}
-use borrow.Author.Rules.{rules}
+use Rattle.strings.proofs.Preparing.{put-start, put-long, put-place, put-end, put-room, put-more}
 use Rattle.strings.proofs.put_octets.Goals as goal
 
 pub loop-left-init : goal.loop-left-init

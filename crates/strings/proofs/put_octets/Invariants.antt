@@ -1,5 +1,4 @@
-use Rattle.strings.proofs.Preparing.{Putting, put-start, put-long, put-place, put-end, put-room, put-more}
-use borrow.Author.Rules.{rules}
+use Rattle.strings.proofs.Preparing.{Putting}
 use Rattle.strings.proofs.put_octets.Given as goal
 
 abbrev pub invariant-loop-left : goal.invariant-loop-left

@@ -1,5 +1,4 @@
 use Rattle.strings.proofs.Steps.{quoted-other, quoted-last, quoted-single, quoted-double}
-use borrow.Author.Rules.{rules}
 use Rattle.strings.proofs.quoted_octet.Goals as goal
 
 pub returns-then-s-at-ne34 : goal.returns-then-s-at-ne34

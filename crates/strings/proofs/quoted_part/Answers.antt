@@ -1,5 +1,4 @@
 use Rattle.strings.proofs.Steps.{part-empty, part-is, part_longer, part-past, part-short, part_unclosed}
-use borrow.Author.Rules.{rules}
 use Rattle.strings.proofs.quoted_part.Goals as goal
 
 pub returns-in_default : goal.returns-in_default

@@ -1,5 +1,4 @@
 use Rattle.strings.proofs.ImageSteps.{high-last, high-single, high_first_least, high_second_least, high-number, high-pair, high-on, high-stays}
-use borrow.Author.Rules.{rules}
 use Rattle.strings.proofs.read_high.Goals as goal
 
 pub returns-in_default : goal.returns-in_default

@@ -1,5 +1,4 @@
 use Rattle.strings.proofs.Steps.{octet-end, octet-itself}
-use borrow.Author.Rules.{rules}
 use Rattle.strings.proofs.read_letter.Goals as goal
 
 pub returns-then-s-at : goal.returns-then-s-at

@@ -1,5 +1,4 @@
 use Rattle.strings.proofs.Steps.{octet-end, octet-stored, octet-quoted, octet-escaped}
-use borrow.Author.Rules.{rules}
 use Rattle.strings.proofs.read_octet.Goals as goal
 
 pub returns-then-s-at : goal.returns-then-s-at

@@ -1,7 +1,4 @@
 use Rattle.strings.proofs.Comparing.{sides_start, sides_end, sides_on, sides_less}
-use Rattle.strings.specs.Inner.Comparing.{beside, same_from, weight}
-use mathlib.Core.Path.{◌≡◌}
-use borrow.Author.Rules.{rules}
 use Rattle.strings.proofs.same_from.Goals as goal
 
 pub loop-r-init : goal.loop-r-init

@@ -1,7 +1,5 @@
-use Rattle.strings.proofs.Comparing.{sides_start, sides_end, sides_on, sides_less}
 use Rattle.strings.specs.Inner.Comparing.{beside, same_from, weight}
 use mathlib.Core.Path.{◌≡◌}
-use borrow.Author.Rules.{rules}
 use Rattle.strings.proofs.same_from.Given as goal
 
 abbrev pub invariant-loop-r : goal.invariant-loop-r

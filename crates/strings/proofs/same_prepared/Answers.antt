@@ -1,11 +1,4 @@
-use Rattle.octets.specs.Octets.{same}
 use Rattle.strings.proofs.Comparing.{from_start, from-there, from_differs, from_more, from_falls, from_end}
-use Rattle.strings.specs.Prepared.{prepared}
-use Rattle.strings.specs.Inner.Comparing.{folded, same_from}
-use lib.ListN.{length}
-use mathlib.Core.Path.{◌≡◌}
-use Prim.Native.Nat.{◌-◌}
-use borrow.Author.Rules.{rules}
 use Rattle.strings.proofs.same_prepared.Goals as goal
 
 pub loop-i-init : goal.loop-i-init

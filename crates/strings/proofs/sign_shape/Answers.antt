@@ -1,6 +1,5 @@
 use Rattle.octets.proofs.Tests.{tests}
 use Rattle.strings.specs.Inner.Shapes.{sign_shape}
-use borrow.Author.Rules.{rules}
 use Rattle.strings.proofs.sign_shape.Goals as goal
 
 pub returns-then-c-eq170 : goal.returns-then-c-eq170

@@ -1,5 +1,4 @@
 use Rattle.strings.proofs.ShapeSteps.{single-octet, single_wide}
-use borrow.Author.Rules.{rules}
 use Rattle.strings.proofs.single.Goals as goal
 
 pub returns : goal.returns

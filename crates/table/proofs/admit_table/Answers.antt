@@ -1,5 +1,4 @@
 use Rattle.table.proofs.Writing.{admit_none, admit_count, admit_start, admit_not, admit_is, leaves_none, leaves}
-use borrow.Author.Rules.{rules}
 use Rattle.table.proofs.admit_table.Goals as goal
 
 pub returns-then-n-eq0 : goal.returns-then-n-eq0

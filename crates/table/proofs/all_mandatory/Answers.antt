@@ -1,11 +1,7 @@
 use Rattle.table.proofs.PassSteps.{mandatory-bad, mandatory-more}
 use Rattle.octets.proofs.Laws.{all_none, all_done}
 use Rattle.table.specs.Inner.Pass.{mandatory_after}
-use Rattle.octets.specs.Pick.{all}
 use native.Mathlib.Omega.{arith}
-use mathlib.Core.Bool.{true}
-use mathlib.Core.Path.{◌≡◌}
-use Prim.Native.Nat.{◌-◌, ◌≤◌}
 use borrow.Author.Rules.{rules}
 use Rattle.table.proofs.all_mandatory.Goals as goal
 

@@ -1,5 +1,4 @@
 use Rattle.table.proofs.Writing.{check_size, check_not, check_is}
-use borrow.Author.Rules.{rules}
 use Rattle.table.proofs.check_table.Goals as goal
 
 pub returns-then-not-fits : goal.returns-then-not-fits

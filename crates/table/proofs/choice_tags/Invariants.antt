@@ -1,7 +1,6 @@
-use Rattle.table.proofs.PassSteps.{Gathers, Joins, gather_start, join_start, choice-bad, choice_again, join_again, choice-done}
+use Rattle.table.proofs.PassSteps.{Gathers, Joins}
 use Rattle.types.specs.Inner.Work.{never}
 use Prim.Native.Nat.{◌-◌}
-use borrow.Author.Rules.{rules}
 use Rattle.table.proofs.choice_tags.Given as goal
 
 abbrev pub invariant-loop-j : goal.invariant-loop-j

@@ -1,5 +1,4 @@
 use Rattle.table.proofs.Reading.{row_small, read_number}
-use borrow.Author.Rules.{rules}
 use Rattle.table.proofs.default_number.Goals as goal
 
 pub second_word-requires : goal.second_word-requires

@@ -1,5 +1,4 @@
 use Rattle.table.proofs.PassSteps.{first_past}
-use borrow.Author.Rules.{rules}
 use Rattle.table.proofs.first_at.Goals as goal
 
 pub returns-then-j-ge-MAX_ROWS : goal.returns-then-j-ge-MAX_ROWS

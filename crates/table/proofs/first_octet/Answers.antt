@@ -1,5 +1,4 @@
 use Rattle.table.proofs.Steps.{octet-explicit, octet-implicit, octet-none, octet-own}
-use borrow.Author.Rules.{rules}
 use Rattle.table.proofs.first_octet.Goals as goal
 
 pub returns-then-mode-eq1 : goal.returns-then-mode-eq1

@@ -1,5 +1,4 @@
 use Rattle.table.proofs.PassSteps.{gathered_none, gathered_more}
-use borrow.Author.Rules.{rules}
 use Rattle.table.proofs.gathered.Goals as goal
 
 pub returns-then-is_mandatory : goal.returns-then-is_mandatory

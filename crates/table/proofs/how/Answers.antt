@@ -1,5 +1,4 @@
 use Rattle.table.proofs.Steps.{how_wrapped, how-plain, how-other}
-use borrow.Author.Rules.{rules}
 use Rattle.table.proofs.how.Goals as goal
 
 pub returns-then-mode-eq1 : goal.returns-then-mode-eq1

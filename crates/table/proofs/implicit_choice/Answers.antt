@@ -1,5 +1,4 @@
 use Rattle.table.proofs.PassSteps.{implicit-is, implicit_not}
-use borrow.Author.Rules.{rules}
 use Rattle.table.proofs.implicit_choice.Goals as goal
 
 pub returns-then-member_mode-eq2 : goal.returns-then-member_mode-eq2

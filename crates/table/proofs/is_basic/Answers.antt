@@ -1,7 +1,6 @@
 use Rattle.table.specs.Inner.Words.{is_basic}
 use Rattle.octets.proofs.Tests.{tests}
 use Rattle.table.proofs.Steps.{basic_name}
-use borrow.Author.Rules.{rules}
 use Rattle.table.proofs.is_basic.Goals as goal
 
 pub returns-then-kind-le-GENERALIZED_TIME : goal.returns-then-kind-le-GENERALIZED_TIME

@@ -1,5 +1,4 @@
 use Rattle.table.proofs.PassSteps.{mandatory-is}
-use borrow.Author.Rules.{rules}
 use Rattle.table.proofs.is_mandatory.Goals as goal
 
 pub returns : goal.returns

@@ -1,5 +1,4 @@
 use Rattle.table.proofs.Reading.{row_small, read-type_kind}
-use borrow.Author.Rules.{rules}
 use Rattle.table.proofs.kind_of_type.Goals as goal
 
 pub first_word-requires : goal.first_word-requires

@@ -1,6 +1,5 @@
 use Rattle.octets.proofs.Tests.{tests}
 use Rattle.octets.specs.Octets.{larger}
-use borrow.Author.Rules.{rules}
 use Rattle.table.proofs.larger.Goals as goal
 
 pub returns-then-a-b : goal.returns-then-a-b

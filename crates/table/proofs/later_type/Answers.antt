@@ -1,5 +1,4 @@
 use Rattle.table.proofs.PassSteps.{later-before, later-past, later-is}
-use borrow.Author.Rules.{rules}
 use Rattle.table.proofs.later_type.Goals as goal
 
 pub returns-then-j-i : goal.returns-then-j-i

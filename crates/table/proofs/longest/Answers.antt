@@ -1,10 +1,7 @@
 use Rattle.table.proofs.PassSteps.{longest_more}
 use Rattle.clauses.proofs.ChainSteps.{tallest-none, tallest-done}
-use Rattle.clauses.specs.Inner.Work.{tallest}
 use Rattle.table.specs.Inner.Pass.{chain_after}
 use native.Mathlib.Omega.{arith}
-use mathlib.Core.Path.{◌≡◌}
-use Prim.Native.Nat.{◌-◌, ◌≤◌}
 use borrow.Author.Rules.{rules}
 use Rattle.table.proofs.longest.Goals as goal
 

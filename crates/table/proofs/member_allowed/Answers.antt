@@ -1,5 +1,4 @@
 use Rattle.table.proofs.PassSteps.{allowed_not, allowed-default, allowed-none}
-use borrow.Author.Rules.{rules}
 use Rattle.table.proofs.member_allowed.Goals as goal
 
 pub returns-then-implicit_choice : goal.returns-then-implicit_choice

@@ -1,5 +1,4 @@
 use Rattle.table.proofs.PassSteps.{next_whole, member_unnamed, member_unallowed, member-number, member-target, member-size, member-presence, next_place_lem, member-made}
-use borrow.Author.Rules.{rules}
 use Rattle.table.proofs.member_row.Goals as goal
 
 pub member_type_row-j-requires : goal.member_type_row-j-requires

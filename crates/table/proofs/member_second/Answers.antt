@@ -1,5 +1,4 @@
 use Rattle.table.proofs.PassSteps.{default-short, second-default, second_set}
-use borrow.Author.Rules.{rules}
 use Rattle.table.proofs.member_second.Goals as goal
 
 pub plain-requires : goal.plain-requires

@@ -1,5 +1,4 @@
 use Rattle.table.proofs.Reading.{row_small, read-members}
-use borrow.Author.Rules.{rules}
 use Rattle.table.proofs.members.Goals as goal
 
 pub first_word-requires : goal.first_word-requires

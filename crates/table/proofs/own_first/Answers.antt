@@ -1,5 +1,4 @@
 use Rattle.table.proofs.Reading.{row_small, read-own}
-use borrow.Author.Rules.{rules}
 use Rattle.table.proofs.own_first.Goals as goal
 
 pub first_word-requires : goal.first_word-requires

@@ -1,6 +1,5 @@
 use Rattle.table.proofs.PassSteps.{own_is}
 use Rattle.types.proofs.TagLaws.{universal-fits}
-use borrow.Author.Rules.{rules}
 use Rattle.table.proofs.own_set.Goals as goal
 
 pub bit-requires : goal.bit-requires

@@ -1,7 +1,4 @@
-use Rattle.table.proofs.PassSteps.{Gathers, gather_start, runs_bad, runs_again, runs_done}
-use Rattle.table.specs.Inner.Pass.{mandatory_in}
-use Prim.Native.Nat.{◌-◌}
-use borrow.Author.Rules.{rules}
+use Rattle.table.proofs.PassSteps.{gather_start, runs_bad, runs_again, runs_done}
 use Rattle.table.proofs.runs_differ.Goals as goal
 
 pub loop-j-init : goal.loop-j-init

@@ -1,7 +1,6 @@
-use Rattle.table.proofs.PassSteps.{Gathers, gather_start, runs_bad, runs_again, runs_done}
+use Rattle.table.proofs.PassSteps.{Gathers}
 use Rattle.table.specs.Inner.Pass.{mandatory_in}
 use Prim.Native.Nat.{◌-◌}
-use borrow.Author.Rules.{rules}
 use Rattle.table.proofs.runs_differ.Given as goal
 
 abbrev pub invariant-loop-j : goal.invariant-loop-j

@@ -1,5 +1,4 @@
 use Rattle.table.proofs.PassSteps.{set_own, set_context}
-use borrow.Author.Rules.{rules}
 use Rattle.table.proofs.set_at.Goals as goal
 
 pub returns-then-first-lt128 : goal.returns-then-first-lt128

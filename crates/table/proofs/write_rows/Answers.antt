@@ -1,6 +1,4 @@
 use Rattle.table.proofs.Writing.{going-few, going_next, going-bad, going_again, going_done, going-worded, not_worded}
-use Rattle.table.specs.Inner.Pass.{Going}
-use Prim.Native.Nat.{◌≤◌}
 use borrow.Author.Rules.{rules}
 use Rattle.table.proofs.write_rows.Goals as goal
 

@@ -1,5 +1,4 @@
 use Rattle.types.proofs.TagSteps.{context-high, context-low}
-use borrow.Author.Rules.{rules}
 use Rattle.types.proofs.context_bit.Goals as goal
 
 pub returns-then-n-lt32 : goal.returns-then-n-lt32

@@ -1,5 +1,4 @@
 use Rattle.types.proofs.SoundLaws.{tag_fits, tag_bit}
-use borrow.Author.Rules.{rules}
 use Rattle.types.proofs.has_tag.Goals as goal
 
 pub overflow_shr-result : goal.overflow_shr-result

@@ -1,6 +1,5 @@
-use Prim.Native.Nat.{◌*◌, ◌+◌, ◌-◌, ◌<◌, ℕ}
 use Rattle.value.proofs.LeafSteps.{inside-fits, inside-ends}
-use Rattle.value.proofs.MemberSteps.{row_fits_lem, member-fits, Fielded, field_falls, field_here, field_member, fields_again, fields_bad}
+use Rattle.value.proofs.MemberSteps.{row_fits_lem, member-fits, field_falls, field_here, field_member, fields_again, fields_bad}
 use Rattle.value.proofs.MemberSteps.{fields_done, fields_short, fields-start, member_absent, member-default, member_is}
 use Rattle.value.proofs.ModeSteps.{is_plain, is-other}
 use Rattle.value.proofs.TagSteps.{own_usable, first_usable}
@@ -8,13 +7,9 @@ use Rattle.value.proofs.CheckSteps.{falls_body, falls_tagged, falls_wrapped, fal
 use Rattle.value.proofs.CheckSteps.{answer-fields, answer_elements, answer_basic, wraps_misfit, wraps_inner, wraps_surplus, wraps_filled, target-here}
 use Rattle.value.proofs.CheckSteps.{target-typed, tagged-explicit, tagged-other}
 use Rattle.value.proofs.NestedSteps.{missing_is, row_here, row-member, row_falls, row_is}
-use Rattle.value.proofs.ElementSteps.{Listed, leaves_basic, element-here, element-typed, element_falls, elements_bad, element-after, element-ends}
+use Rattle.value.proofs.ElementSteps.{leaves_basic, element-here, element-typed, element_falls, elements_bad, element-after, element-ends}
 use Rattle.value.proofs.ElementSteps.{element-less, elements_disorder}
 use Rattle.value.proofs.ElementSteps.{elements_again, elements_done, elements_start, listed-low}
-use lib.ListN.{length}
-use Rattle.rows.specs.Paper.{table_limits}
-use Rattle.rows.specs.Row.{row_at, named_at}
-use Rattle.table.specs.Inner.Rows.{table_rows}
 use borrow.Author.Rules.{rules}
 use Rattle.value.proofs.+check_check_choice_check_elements_check_fields_check_member_check_tagged_check_wrapped.Goals as goal
 

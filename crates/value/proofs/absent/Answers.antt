@@ -1,5 +1,4 @@
 use Rattle.value.proofs.LeafSteps.{absent_bad, absent_is}
-use borrow.Author.Rules.{rules}
 use Rattle.value.proofs.absent.Goals as goal
 
 pub returns-then-presence-eq0 : goal.returns-then-presence-eq0

@@ -1,6 +1,5 @@
 use Rattle.table.proofs.Reading.{row_small}
 use Rattle.value.proofs.TagSteps.{begins_as}
-use borrow.Author.Rules.{rules}
 use Rattle.value.proofs.begins_with.Goals as goal
 
 pub second_word-requires : goal.second_word-requires

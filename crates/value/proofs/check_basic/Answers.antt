@@ -1,5 +1,4 @@
 use Rattle.value.proofs.LeafSteps.{up_checked, up_not}
-use borrow.Author.Rules.{rules}
 use Rattle.value.proofs.check_basic.Goals as goal
 
 pub returns-then-legal : goal.returns-then-legal

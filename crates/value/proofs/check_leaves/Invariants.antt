@@ -1,10 +1,7 @@
 use Prim.Native.Nat.{◌-◌}
 use Rattle.rows.specs.Paper.{table_limits}
 use Rattle.table.specs.Inner.Rows.{table_rows}
-use Rattle.value.proofs.ElementSteps.{Listed, element-here, element-typed, element_basic, elements_bad, element-after, element-ends, element-less}
-use Rattle.value.proofs.ElementSteps.{elements_disorder, elements_again, elements_done, elements_start, listed-low}
-use Rattle.value.proofs.TagSteps.{own_usable}
-use borrow.Author.Rules.{rules}
+use Rattle.value.proofs.ElementSteps.{Listed}
 use Rattle.value.proofs.check_leaves.Given as goal
 
 abbrev pub invariant-loop-i : goal.invariant-loop-i

@@ -1,5 +1,4 @@
 use Rattle.value.proofs.EntrySteps.{storage_not, worded-here, storage-bad, storage-good}
-use borrow.Author.Rules.{rules}
 use Rattle.value.proofs.check_storage.Goals as goal
 
 pub returns-then-admit_table-eq0 : goal.returns-then-admit_table-eq0

@@ -1,5 +1,4 @@
 use Rattle.value.proofs.EntrySteps.{sizes-table, sizes-value, sizes-fit}
-use borrow.Author.Rules.{rules}
 use Rattle.value.proofs.check_value.Goals as goal
 
 pub returns-then-not-fits : goal.returns-then-not-fits

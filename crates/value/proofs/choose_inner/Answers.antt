@@ -1,7 +1,4 @@
-use Prim.Native.Nat.{◌-◌}
-use lib.ListN.{length}
-use Rattle.table.specs.Inner.Rows.{table_rows}
-use Rattle.value.proofs.NestedSteps.{row_here, row-member, Descends, descends_start, inner_none, inner_this, inner_less, inner_again}
+use Rattle.value.proofs.NestedSteps.{row_here, row-member, descends_start, inner_none, inner_this, inner_less, inner_again}
 use borrow.Author.Rules.{rules}
 use Rattle.value.proofs.choose_inner.Goals as goal
 

@@ -1,8 +1,7 @@
 use Prim.Native.Nat.{◌-◌}
 use lib.ListN.{length}
 use Rattle.table.specs.Inner.Rows.{table_rows}
-use Rattle.value.proofs.NestedSteps.{row_here, row-member, Descends, descends_start, inner_none, inner_this, inner_less, inner_again}
-use borrow.Author.Rules.{rules}
+use Rattle.value.proofs.NestedSteps.{Descends}
 use Rattle.value.proofs.choose_inner.Given as goal
 
 abbrev pub invariant-loop-member : goal.invariant-loop-member

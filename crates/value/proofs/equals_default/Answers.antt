@@ -1,5 +1,4 @@
 use Rattle.value.proofs.DefaultSteps.{default_longer, default-short, default-same}
-use borrow.Author.Rules.{rules}
 use Rattle.value.proofs.equals_default.Goals as goal
 
 pub returns-then-c-default_length : goal.returns-then-c-default_length

@@ -2,12 +2,8 @@ use Rattle.value.specs.Inner.Work.{starts_of}
 use Rattle.value.specs.Inner.Work.{first}
 use Rattle.rows.specs.Paper.{table_limits}
 use Rattle.table.specs.Inner.Rows.{table_rows}
-use native.Mathlib.Omega.{arith}
 use mathlib.Core.Path.{◌≡◌}
 use Prim.Native.Nat.{◌-◌, ◌≤◌}
-use Rattle.value.proofs.LeafSteps.{first-start, first_found, first_again, first_done, starts-here}
-use Rattle.value.proofs.MemberSteps.{row_fits_lem, alternative-here, alternative-member, alternative-fits}
-use borrow.Author.Rules.{rules}
 use Rattle.value.proofs.first_alternative.Given as goal
 
 abbrev pub invariant-loop-j : goal.invariant-loop-j

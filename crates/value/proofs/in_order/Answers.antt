@@ -1,5 +1,4 @@
 use Rattle.value.proofs.LeafSteps.{order_any, order_is}
-use borrow.Author.Rules.{rules}
 use Rattle.value.proofs.in_order.Goals as goal
 
 pub returns-then-kind-eq-SEQUENCE_OF : goal.returns-then-kind-eq-SEQUENCE_OF

@@ -1,5 +1,4 @@
 use Rattle.value.proofs.NestedSteps.{nested-other, nested-choice}
-use borrow.Author.Rules.{rules}
 use Rattle.value.proofs.is_nested.Goals as goal
 
 pub returns-then-kind_of_type-ne-CHOICE : goal.returns-then-kind_of_type-ne-CHOICE

@@ -1,5 +1,4 @@
 use Rattle.value.proofs.TagSteps.{starts-past, starts_is}
-use borrow.Author.Rules.{rules}
 use Rattle.value.proofs.member_starts.Goals as goal
 
 pub returns-then-stop-i : goal.returns-then-stop-i

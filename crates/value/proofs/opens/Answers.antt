@@ -1,5 +1,4 @@
 use Rattle.value.proofs.TagSteps.{opens_set, opens-octet}
-use borrow.Author.Rules.{rules}
 use Rattle.value.proofs.opens.Goals as goal
 
 pub returns-then-first-eq0 : goal.returns-then-first-eq0

@@ -1,5 +1,4 @@
 use Rattle.value.proofs.PartSteps.{octets-there, octets-none}
-use borrow.Author.Rules.{rules}
 use Rattle.value.proofs.part_octets.Goals as goal
 
 pub returns-then-refusal-eq0 : goal.returns-then-refusal-eq0

@@ -1,5 +1,4 @@
 use Rattle.value.proofs.PartSteps.{refused-size, refused-place, refused_end, not_refused}
-use borrow.Author.Rules.{rules}
 use Rattle.value.proofs.part_refusal.Goals as goal
 
 pub returns-then-not-fits : goal.returns-then-not-fits

@@ -1,5 +1,4 @@
 use Rattle.value.proofs.TagSteps.{tags-apart, tags-class}
-use borrow.Author.Rules.{rules}
 use Rattle.value.proofs.same_tag.Goals as goal
 
 pub returns-then-a-b : goal.returns-then-a-b

@@ -1,6 +1,5 @@
 use Rattle.filter.specs.Parse.{filter_fits}
 use Rattle.octets.proofs.Tests.{tests}
-use borrow.Author.Rules.{rules}
 use Rattle.filter.proofs.Filter.fits.Goals as goal
 
 pub returns-then-text-lt-MIN_BYTES : goal.returns-then-text-lt-MIN_BYTES

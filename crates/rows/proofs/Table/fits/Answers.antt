@@ -1,6 +1,5 @@
 use Rattle.octets.proofs.Tests.{tests}
 use Rattle.rows.specs.Limits.{table_fits}
-use borrow.Author.Rules.{rules}
 use Rattle.rows.proofs.Table.fits.Goals as goal
 
 pub returns-then-table-lt-MIN_BYTES : goal.returns-then-table-lt-MIN_BYTES

@@ -1,6 +1,5 @@
 use Rattle.octets.proofs.Tests.{tests}
 use Rattle.value.specs.Check.{value_fits}
-use borrow.Author.Rules.{rules}
 use Rattle.value.proofs.Value.fits.Goals as goal
 
 pub returns-then-value-lt-MIN_BYTES : goal.returns-then-value-lt-MIN_BYTES
