@@ -471,7 +471,7 @@ fn next_turn(f: &[u8], join: Join, p: Progress, w: Judging) -> Turn
 }
 
 // The filter at a place, read, and judged or passed over.
-#[cycle(judge_filter_judge_list)]
+#[cycle(judge)]
 fn judge_filter(
     t: &[u8],
     w: &[u64; 256],
@@ -506,7 +506,7 @@ fn judge_filter(
 }
 
 // The filters of a list, from one of them on.
-#[cycle(judge_filter_judge_list)]
+#[cycle(judge)]
 fn judge_list(
     t: &[u8],
     w: &[u64; 256],

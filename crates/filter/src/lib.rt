@@ -149,7 +149,7 @@ fn read_item(s: &[u8], at: usize, room: usize) -> Span
 }
 
 // The filter at a place, within so much depth and so many items.
-#[cycle(read_filter_read_list)]
+#[cycle(read)]
 fn read_filter(s: &[u8], at: usize, depth: usize, room: usize) -> Span
     ensures { result ≡ answers.bounded depth room (parsing.filter_at s.now at) }
 {
@@ -166,7 +166,7 @@ fn read_filter(s: &[u8], at: usize, depth: usize, room: usize) -> Span
 }
 
 // The filters of a list, from one of them on, within so much depth and so many items.
-#[cycle(read_filter_read_list)]
+#[cycle(read)]
 fn read_list(s: &[u8], at: usize, depth: usize, room: usize) -> Span
     ensures { result ≡ answers.bounded_in depth room (answers.filters_at s.now at) }
 {

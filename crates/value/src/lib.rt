@@ -436,7 +436,7 @@ fn check_leaves(
 
 // ---- "a nested value is checked as its row says, one level deeper"
 // The elements of the list of a row, from start up to stop.
-#[cycle(check_check_choice_check_elements_check_fields_check_member_check_tagged_check_wrapped)]
+#[cycle(check)]
 fn check_elements(
     t: &[u8],
     w: &[u64; 256],
@@ -476,7 +476,7 @@ fn check_elements(
 }
 
 // The members of the SEQUENCE of a row, from start up to stop.
-#[cycle(check_check_choice_check_elements_check_fields_check_member_check_tagged_check_wrapped)]
+#[cycle(check)]
 fn check_fields(
     t: &[u8],
     w: &[u64; 256],
@@ -507,7 +507,7 @@ fn check_fields(
 }
 
 // The member of a row at a place, before stop: where it is there it has to be a value of its type, and not its default.
-#[cycle(check_check_choice_check_elements_check_fields_check_member_check_tagged_check_wrapped)]
+#[cycle(check)]
 fn check_member(t: &[u8], w: &[u64; 256], v: &[u8], row: usize, i: usize, stop: usize) -> Checked
     requires worded { Worded t.now w.now }
     requires here { row < length (table_rows t.now) }
@@ -528,7 +528,7 @@ fn check_member(t: &[u8], w: &[u64; 256], v: &[u8], row: usize, i: usize, stop: 
 }
 
 // A value of the type of a member row, under its tag mode.
-#[cycle(check_check_choice_check_elements_check_fields_check_member_check_tagged_check_wrapped)]
+#[cycle(check)]
 fn check_tagged(t: &[u8], w: &[u64; 256], v: &[u8], row: usize, at: usize, end: usize) -> Checked
     requires worded { Worded t.now w.now }
     requires here { row < length (table_rows t.now) }
@@ -545,7 +545,7 @@ fn check_tagged(t: &[u8], w: &[u64; 256], v: &[u8], row: usize, at: usize, end: 
 }
 
 // A value of the type of a row in the wrapper of a tag octet, which it fills.
-#[cycle(check_check_choice_check_elements_check_fields_check_member_check_tagged_check_wrapped)]
+#[cycle(check)]
 fn check_wrapped(
     t: &[u8],
     w: &[u64; 256],
@@ -577,7 +577,7 @@ fn check_wrapped(
 }
 
 // The value of the CHOICE of a row: that of its alternative.
-#[cycle(check_check_choice_check_elements_check_fields_check_member_check_tagged_check_wrapped)]
+#[cycle(check)]
 fn check_choice(t: &[u8], w: &[u64; 256], v: &[u8], row: usize, at: usize, end: usize) -> Checked
     requires worded { Worded t.now w.now }
     requires here { row < length (table_rows t.now) }
@@ -591,7 +591,7 @@ fn check_choice(t: &[u8], w: &[u64; 256], v: &[u8], row: usize, at: usize, end: 
 }
 
 // The value of the type of a row at a place, before an end, behind a tag octet.
-#[cycle(check_check_choice_check_elements_check_fields_check_member_check_tagged_check_wrapped)]
+#[cycle(check)]
 fn check(
     t: &[u8],
     w: &[u64; 256],

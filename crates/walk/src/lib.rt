@@ -438,7 +438,7 @@ fn reach(t: &[u8], w: &[u64; 256], q: &[usize; 72], v: &[u8], here: Place) -> Re
 }
 
 // From a value where the plan ends, counts, or goes on with all elements.
-#[cycle(walk_each_walk_on_walk_one)]
+#[cycle(walk)]
 fn walk_on(
     t: &[u8],
     w: &[u64; 256],
@@ -472,7 +472,7 @@ fn walk_on(
 }
 
 // From a value, along the steps of a plan, after n components.
-#[cycle(walk_each_walk_on_walk_one)]
+#[cycle(walk)]
 fn walk_one(
     t: &[u8],
     w: &[u64; 256],
@@ -496,7 +496,7 @@ fn walk_one(
 }
 
 // From each of the values at some places.
-#[cycle(walk_each_walk_on_walk_one)]
+#[cycle(walk)]
 fn walk_each(
     t: &[u8],
     w: &[u64; 256],

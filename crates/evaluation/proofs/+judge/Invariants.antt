@@ -6,7 +6,7 @@ use Rattle.table.specs.Inner.Rows.{type_at}
 use Rattle.filter.specs.Inner.Answers.{report_join}
 use Rattle.evaluation.specs.Inner.Work.{stored_outcome}
 use borrow.Author.Rules.{rules}
-use Rattle.evaluation.proofs.+judge_filter_judge_list.Given as goal
+use Rattle.evaluation.proofs.+judge.Given as goal
 
 abbrev pub decreases-judge_filter : goal.decreases-judge_filter
 decreases-judge_filter l = 2 * (length l.f.now - l.at)

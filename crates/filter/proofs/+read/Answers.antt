@@ -1,6 +1,6 @@
 use Rattle.filter.proofs.Steps.{filter_shallow, filter_item, filter-empty, filter-list, filter-negation, filter_none, list_stop, list_again, list_falls, list-ends, list_lost}
 use mathlib.Core.Path.{refl}
-use Rattle.filter.proofs.+read_filter_read_list.Goals as goal
+use Rattle.filter.proofs.+read.Goals as goal
 
 pub read_filter-returns-then-depth-eq0 : goal.read_filter-returns-then-depth-eq0
 read_filter-returns-then-depth-eq0 t c = search filter_shallow

@@ -5,7 +5,7 @@ use Rattle.table.specs.Inner.Rows.{type_at}
 use Rattle.filter.specs.Inner.Answers.{report_join}
 use Rattle.evaluation.specs.Inner.Work.{stored_outcome}
 use borrow.Author.Rules.{rules}
-use Rattle.evaluation.proofs.+judge_filter_judge_list.Goals as goal
+use Rattle.evaluation.proofs.+judge.Goals as goal
 
 pub judge_filter-returns-then-left-eq0 : goal.judge_filter-returns-then-left-eq0
 judge_filter-returns-then-left-eq0 t c = search filter_shallow

@@ -11,7 +11,7 @@ use Rattle.value.proofs.ElementSteps.{leaves_basic, element-here, element-typed,
 use Rattle.value.proofs.ElementSteps.{element-less, elements_disorder}
 use Rattle.value.proofs.ElementSteps.{elements_again, elements_done, elements_start, listed-low}
 use borrow.Author.Rules.{rules}
-use Rattle.value.proofs.+check_check_choice_check_elements_check_fields_check_member_check_tagged_check_wrapped.Goals as goal
+use Rattle.value.proofs.+check.Goals as goal
 
 pub check-check_choice-requires : goal.check-check_choice-requires
 check-check_choice-requires t c = (search falls_body, (search rules, (search rules, search rules)))

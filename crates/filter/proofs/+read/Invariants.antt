@@ -2,7 +2,7 @@
 use Rattle.filter.proofs.Steps.{Listed}
 use Prim.Native.Nat.{◌+◌, ◌-◌, ◌*◌}
 use lib.ListN.{length}
-use Rattle.filter.proofs.+read_filter_read_list.Given as goal
+use Rattle.filter.proofs.+read.Given as goal
 
 abbrev pub decreases-read_filter : goal.decreases-read_filter
 decreases-read_filter l = 2 * l.depth

@@ -6,7 +6,7 @@ use lib.ListN.{length}
 use Rattle.rows.specs.Paper.{table_limits}
 use Rattle.rows.specs.Row.{row_at, named_at}
 use Rattle.table.specs.Inner.Rows.{table_rows}
-use Rattle.value.proofs.+check_check_choice_check_elements_check_fields_check_member_check_tagged_check_wrapped.Given as goal
+use Rattle.value.proofs.+check.Given as goal
 
 abbrev pub decreases-check : goal.decreases-check
 decreases-check l = 5 * (length (table_rows l.t.now) - l.row) + 3
