@@ -1,6 +1,6 @@
 -- Q-3: distinguishedNameMatch and rdnMatch accept a stored name exactly if its RDNs are those asserted, one by one, and the pairs of each can be put into the
 -- order of the other's: one to one, none left over.
-use mathlib.Core.Path.{◌≡◌, refl, ◌∙◌, subst}
+use mathlib.Core.Path.{◌≡◌, refl, subst}
 use mathlib.Core.Bool.{true, false≢true}
 use mathlib.Core.Option.{Option, none, some}
 use mathlib.Core.List.{List, [], ◌∷◌}

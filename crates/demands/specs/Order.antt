@@ -1,5 +1,4 @@
 -- The order of a list's filters, as a relation: one list is another in some order.
-use Rattle.std.specs.Prelude.{[], ◌∷◌}
 use Rattle.filter.specs.Filter.{Filter, Filters, end_filters, next}
 
 pub data Reordered {A : Type 0} : Filters A → Filters A → Type 0 where

@@ -1,6 +1,5 @@
 use Rattle.demands.proofs.Demand2.{answered_truly}
 use Rattle.demands.proofs.Demand1.{refuses_filter}
-use borrow.Author.Rules.{rules}
 use Rattle.demands.proofs.ask.Goals as goal
 
 pub returns : goal.returns

@@ -1,5 +1,4 @@
 use Rattle.demands.proofs.Demand1.{refuses_value}
-use borrow.Author.Rules.{rules}
 use Rattle.demands.proofs.check_value.Goals as goal
 
 pub returns : goal.returns

@@ -1,5 +1,4 @@
 use Rattle.demands.proofs.Demand1.{refuses_listing}
-use borrow.Author.Rules.{rules}
 use Rattle.demands.proofs.list.Goals as goal
 
 pub returns : goal.returns

@@ -1,5 +1,4 @@
 use Rattle.demands.proofs.Demand3.{demanded}
-use borrow.Author.Rules.{rules}
 use Rattle.demands.proofs.list_and_ask.Goals as goal
 
 pub returns : goal.returns

@@ -1,5 +1,4 @@
 use Rattle.demands.proofs.Demand1.{empties_part}
-use borrow.Author.Rules.{rules}
 use Rattle.demands.proofs.part_bytes.Goals as goal
 
 pub returns : goal.returns

@@ -1,5 +1,4 @@
 use Rattle.engine.proofs.AskSteps.{sizes_not, short-here, brief-here, sizes_are}
-use borrow.Author.Rules.{rules}
 use Rattle.engine.proofs.ask.Goals as goal
 
 pub returns-then-not-question_fits : goal.returns-then-not-question_fits

@@ -1,5 +1,4 @@
 use Rattle.engine.proofs.AskSteps.{stored_malformed, stored_of, stored-over}
-use borrow.Author.Rules.{rules}
 use Rattle.engine.proofs.ask_stored.Goals as goal
 
 pub returns-in-Of : goal.returns-in-Of

@@ -1,5 +1,4 @@
 use Rattle.engine.proofs.AskSteps.{typed-bad, typed-ready}
-use borrow.Author.Rules.{rules}
 use Rattle.engine.proofs.ask_typed.Goals as goal
 
 pub returns-then-not-is_stored : goal.returns-then-not-is_stored

@@ -1,5 +1,4 @@
 use Rattle.engine.proofs.ListSteps.{sizes_not, sizes_are}
-use borrow.Author.Rules.{rules}
 use Rattle.engine.proofs.list.Goals as goal
 
 pub returns-then-not-listing_fits : goal.returns-then-not-listing_fits

@@ -1,6 +1,5 @@
 use Rattle.engine.proofs.ListSteps.{admitted_not, admitted-typed}
 use Rattle.value.proofs.EntrySteps.{worded-here, is-admitted}
-use borrow.Author.Rules.{rules}
 use Rattle.engine.proofs.list_admitted.Goals as goal
 
 pub returns-then-admit_table-eq0 : goal.returns-then-admit_table-eq0

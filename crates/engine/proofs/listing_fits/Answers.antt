@@ -1,5 +1,4 @@
 use Rattle.engine.proofs.ListSteps.{fits-table, fits-value, fits-reference}
-use borrow.Author.Rules.{rules}
 use Rattle.engine.proofs.listing_fits.Goals as goal
 
 pub returns-then-not-fits : goal.returns-then-not-fits

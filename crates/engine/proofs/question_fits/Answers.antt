@@ -1,5 +1,4 @@
 use Rattle.engine.proofs.AskSteps.{asks-table, asks-value, asks-filter, asks-budget}
-use borrow.Author.Rules.{rules}
 use Rattle.engine.proofs.question_fits.Goals as goal
 
 pub returns-then-not-fits : goal.returns-then-not-fits

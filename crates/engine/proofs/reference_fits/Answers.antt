@@ -1,5 +1,4 @@
 use Rattle.engine.proofs.ListSteps.{reference-none, reference-given}
-use borrow.Author.Rules.{rules}
 use Rattle.engine.proofs.reference_fits.Goals as goal
 
 pub returns-then-not-given : goal.returns-then-not-given

@@ -1,5 +1,4 @@
 use Rattle.engine.proofs.AskSteps.{refuse_good, refuse_malformed}
-use borrow.Author.Rules.{rules}
 use Rattle.engine.proofs.refuse_filter.Goals as goal
 
 pub returns-in_default : goal.returns-in_default

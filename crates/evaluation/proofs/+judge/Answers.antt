@@ -1,9 +1,4 @@
-use Rattle.evaluation.proofs.FilterSteps.{filter_shallow, filter_item, filter-empty, filter-list, filter_not, filter_none, list-less, not-less, Listing, list-begins, list-lower, list-within, list-ends, list_falls, list_again}
-use Prim.Native.Nat.{ℕ, ◌<◌, ◌+◌, ◌-◌, ◌*◌}
-use lib.ListN.{length}
-use Rattle.table.specs.Inner.Rows.{type_at}
-use Rattle.filter.specs.Inner.Answers.{report_join}
-use Rattle.evaluation.specs.Inner.Work.{stored_outcome}
+use Rattle.evaluation.proofs.FilterSteps.{filter_shallow, filter_item, filter-empty, filter-list, filter_not, filter_none, list-less, not-less, list-begins, list-lower, list-within, list-ends, list_falls, list_again}
 use borrow.Author.Rules.{rules}
 use Rattle.evaluation.proofs.+judge.Goals as goal
 

@@ -1,11 +1,10 @@
 -- the text that is left falls
-use Rattle.evaluation.proofs.FilterSteps.{filter_shallow, filter_item, filter-empty, filter-list, filter_not, filter_none, list-less, not-less, Listing, list-begins, list-lower, list-within, list-ends, list_falls, list_again}
-use Prim.Native.Nat.{ℕ, ◌<◌, ◌+◌, ◌-◌, ◌*◌}
+use Rattle.evaluation.proofs.FilterSteps.{Listing}
+use Prim.Native.Nat.{◌+◌, ◌-◌, ◌*◌}
 use lib.ListN.{length}
 use Rattle.table.specs.Inner.Rows.{type_at}
 use Rattle.filter.specs.Inner.Answers.{report_join}
 use Rattle.evaluation.specs.Inner.Work.{stored_outcome}
-use borrow.Author.Rules.{rules}
 use Rattle.evaluation.proofs.+judge.Given as goal
 
 abbrev pub decreases-judge_filter : goal.decreases-judge_filter

@@ -1,5 +1,4 @@
 use Rattle.evaluation.proofs.FilterSteps.{empty-at}
-use borrow.Author.Rules.{rules}
 use Rattle.evaluation.proofs.empty_list.Goals as goal
 
 pub returns : goal.returns

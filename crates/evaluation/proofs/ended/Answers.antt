@@ -1,5 +1,4 @@
 use Rattle.evaluation.proofs.ItemSteps.{ended-going, ended-accepted}
-use borrow.Author.Rules.{rules}
 use Rattle.evaluation.proofs.ended.Goals as goal
 
 pub returns-in-Going : goal.returns-in-Going

@@ -1,5 +1,4 @@
 use Rattle.evaluation.proofs.FilterSteps.{follow_goes, follow_closed, follow_lost}
-use borrow.Author.Rules.{rules}
 use Rattle.evaluation.proofs.follow.Goals as goal
 
 pub returns-in-Another : goal.returns-in-Another

@@ -1,5 +1,4 @@
 use Rattle.evaluation.proofs.ItemSteps.{inverse-at}
-use borrow.Author.Rules.{rules}
 use Rattle.evaluation.proofs.inverted.Goals as goal
 
 pub returns-in-At : goal.returns-in-At

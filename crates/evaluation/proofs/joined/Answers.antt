@@ -1,5 +1,4 @@
 use Rattle.evaluation.proofs.FilterSteps.{joined-over, joined-stops, joined-on}
-use borrow.Author.Rules.{rules}
 use Rattle.evaluation.proofs.joined.Goals as goal
 
 pub returns-then-not-goes_on : goal.returns-then-not-goes_on

@@ -1,5 +1,4 @@
 use Rattle.evaluation.proofs.FilterSteps.{text_at, text-bad, text-other, text-over, text_trailing}
-use borrow.Author.Rules.{rules}
 use Rattle.evaluation.proofs.judge.Goals as goal
 
 pub returns-then-not-utf8 : goal.returns-then-not-utf8

@@ -1,5 +1,4 @@
 use Rattle.evaluation.proofs.FilterSteps.{assertion-bad, assertion_full, assertion_judged, assertion-passed}
-use borrow.Author.Rules.{rules}
 use Rattle.evaluation.proofs.judge_assertion.Goals as goal
 
 pub returns-then-left-eq0 : goal.returns-then-left-eq0

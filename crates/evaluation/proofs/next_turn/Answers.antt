@@ -1,5 +1,4 @@
 use Rattle.evaluation.proofs.FilterSteps.{turn_at, turn-bad, turn-over}
-use borrow.Author.Rules.{rules}
 use Rattle.evaluation.proofs.next_turn.Goals as goal
 
 pub returns-in-At : goal.returns-in-At

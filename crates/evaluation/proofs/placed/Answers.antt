@@ -1,5 +1,4 @@
 use Rattle.evaluation.proofs.ItemSteps.{placed_of}
-use borrow.Author.Rules.{rules}
 use Rattle.evaluation.proofs.placed.Goals as goal
 
 pub returns-in-Of : goal.returns-in-Of

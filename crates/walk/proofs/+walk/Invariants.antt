@@ -1,8 +1,5 @@
-use Prim.Native.Nat.{ℕ, ◌<◌, ◌+◌, ◌-◌, ◌*◌}
-use Rattle.walk.proofs.Leaves.{turn-less}
-use Rattle.walk.proofs.WalkSteps.{AllEach, goes-within, goes-low, goes_steps, walk_visit, all-each, all_walked, one-goes, one-stops, one_at, one-low, one-fits, one_absent, one-nothing, each_falls, one_falls, one_less}
-use Rattle.walk.proofs.WalkSteps.{each_start, each-length, each_goes, each_within, each_again, each-accepted, each_over, each-done}
-use borrow.Author.Rules.{rules}
+use Prim.Native.Nat.{◌+◌, ◌-◌, ◌*◌}
+use Rattle.walk.proofs.WalkSteps.{AllEach}
 use Rattle.walk.proofs.+walk.Given as goal
 
 abbrev pub decreases-walk_each : goal.decreases-walk_each

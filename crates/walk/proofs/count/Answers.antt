@@ -1,6 +1,4 @@
-use Prim.Native.Nat.{◌-◌}
-use Rattle.walk.proofs.Leaves.{AllCounting, turn-less, count-start, count-within, count_fits, count_again, count-done}
-use borrow.Author.Rules.{rules}
+use Rattle.walk.proofs.Leaves.{turn-less, count-start, count-within, count_fits, count_again, count-done}
 use Rattle.walk.proofs.count.Goals as goal
 
 pub loop-i-init : goal.loop-i-init

@@ -1,6 +1,5 @@
 use Prim.Native.Nat.{◌-◌}
-use Rattle.walk.proofs.Leaves.{AllCounting, turn-less, count-start, count-within, count_fits, count_again, count-done}
-use borrow.Author.Rules.{rules}
+use Rattle.walk.proofs.Leaves.{AllCounting}
 use Rattle.walk.proofs.count.Given as goal
 
 abbrev pub invariant-loop-i : goal.invariant-loop-i

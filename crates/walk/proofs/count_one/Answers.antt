@@ -1,5 +1,4 @@
 use Rattle.walk.proofs.VisitSteps.{count-more, count_full}
-use borrow.Author.Rules.{rules}
 use Rattle.walk.proofs.count_one.Goals as goal
 
 pub returns-then-n-limit : goal.returns-then-n-limit

@@ -1,5 +1,4 @@
 use Rattle.walk.proofs.Members.{alternative-none, alternative-to}
-use borrow.Author.Rules.{rules}
 use Rattle.walk.proofs.find_alternative.Goals as goal
 
 pub returns-then-not-member_starts : goal.returns-then-not-member_starts

@@ -1,5 +1,4 @@
 use Rattle.walk.proofs.Members.{inside_wrapped, inside-bare}
-use borrow.Author.Rules.{rules}
 use Rattle.walk.proofs.inside.Goals as goal
 
 pub returns-then-tagged-eq1 : goal.returns-then-tagged-eq1

@@ -1,5 +1,4 @@
 use Rattle.walk.proofs.VisitSteps.{list_over, room_2, room_3, list_written}
-use borrow.Author.Rules.{rules}
 use Rattle.walk.proofs.list_one.Goals as goal
 
 pub returns-then-out-n : goal.returns-then-out-n

@@ -1,5 +1,4 @@
 use Rattle.walk.proofs.VisitSteps.{note_count, note_list, note_test}
-use borrow.Author.Rules.{rules}
 use Rattle.walk.proofs.note.Goals as goal
 
 pub returns-then-task-eq0 : goal.returns-then-task-eq0

@@ -1,6 +1,4 @@
-use Prim.Native.Nat.{◌-◌}
-use Rattle.walk.proofs.Leaves.{AllSeeking, turn-less, nth_start, nth_within, nth_found, nth_again, nth_done}
-use borrow.Author.Rules.{rules}
+use Rattle.walk.proofs.Leaves.{turn-less, nth_start, nth_within, nth_found, nth_again, nth_done}
 use Rattle.walk.proofs.nth.Goals as goal
 
 pub loop-i-init : goal.loop-i-init

@@ -1,6 +1,5 @@
 use Prim.Native.Nat.{◌-◌}
-use Rattle.walk.proofs.Leaves.{AllSeeking, turn-less, nth_start, nth_within, nth_found, nth_again, nth_done}
-use borrow.Author.Rules.{rules}
+use Rattle.walk.proofs.Leaves.{AllSeeking}
 use Rattle.walk.proofs.nth.Given as goal
 
 abbrev pub invariant-loop-i : goal.invariant-loop-i

@@ -1,5 +1,4 @@
 use Rattle.walk.proofs.Leaves.{last_none, last_fits, last_nth}
-use borrow.Author.Rules.{rules}
 use Rattle.walk.proofs.nth_last.Goals as goal
 
 pub returns-then-size-n : goal.returns-then-size-n

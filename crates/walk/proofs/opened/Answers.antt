@@ -1,5 +1,4 @@
 use Rattle.walk.proofs.RawLaws.{first_in, first_fits, second_fits, short-fits, one-fits, one_sum_fits, two_fits, third-fits, third_in, two_in, two_sum_fits, short-start, one-start, two-start, short_next, one_next, one_in, two_next_is}
-use borrow.Author.Rules.{rules}
 use Rattle.walk.proofs.opened.Goals as goal
 
 pub overflow_add-at : goal.overflow_add-at

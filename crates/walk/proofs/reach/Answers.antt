@@ -1,5 +1,4 @@
-use Prim.Native.Nat.{◌-◌}
-use Rattle.walk.proofs.WalkSteps.{On, is_move, reach_absent, reach-all, reach-count, reach-end, reach_falls, reach-fits, reach-low, reach-nothing, reach-on, reach-start, reach_steps}
+use Rattle.walk.proofs.WalkSteps.{is_move, reach_absent, reach-all, reach-count, reach-end, reach_falls, reach-fits, reach-low, reach-nothing, reach-on, reach-start, reach_steps}
 use borrow.Author.Rules.{rules}
 use Rattle.walk.proofs.reach.Goals as goal
 

@@ -1,5 +1,4 @@
 use Rattle.walk.proofs.RawLaws.{first_in, first_fits, second_fits, one-fits, two_fits, short-start, one-start, two-start}
-use borrow.Author.Rules.{rules}
 use Rattle.walk.proofs.start_of.Goals as goal
 
 pub overflow_add-at : goal.overflow_add-at

@@ -1,5 +1,4 @@
 use Rattle.walk.proofs.WalkSteps.{tally_is, tally_accepted, tally_over}
-use borrow.Author.Rules.{rules}
 use Rattle.walk.proofs.tally.Goals as goal
 
 pub returns-in-Going : goal.returns-in-Going

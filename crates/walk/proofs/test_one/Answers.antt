@@ -1,5 +1,4 @@
 use Rattle.walk.proofs.VisitSteps.{test-over, test-accepted, test-other}
-use borrow.Author.Rules.{rules}
 use Rattle.walk.proofs.test_one.Goals as goal
 
 pub returns-then-budget-n : goal.returns-then-budget-n

@@ -1,5 +1,4 @@
 use Rattle.walk.proofs.WalkSteps.{steps_low, steps_within, end_in, end_moves}
-use borrow.Author.Rules.{rules}
 use Rattle.walk.proofs.to_last.Goals as goal
 
 pub opened-o-requires : goal.opened-o-requires

@@ -1,5 +1,4 @@
 use Rattle.walk.proofs.WalkSteps.{steps_low, steps_within, position_in, position_moves}
-use borrow.Author.Rules.{rules}
 use Rattle.walk.proofs.to_position.Goals as goal
 
 pub opened-o-requires : goal.opened-o-requires

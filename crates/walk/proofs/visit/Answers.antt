@@ -1,5 +1,4 @@
 use Rattle.walk.proofs.VisitSteps.{visit_span, visit_size, visit_is}
-use borrow.Author.Rules.{rules}
 use Rattle.walk.proofs.visit.Goals as goal
 
 pub overflow_sub-o : goal.overflow_sub-o

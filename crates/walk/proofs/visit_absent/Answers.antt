@@ -1,5 +1,4 @@
 use Rattle.walk.proofs.VisitSteps.{absent_none, absent_noted}
-use borrow.Author.Rules.{rules}
 use Rattle.walk.proofs.visit_absent.Goals as goal
 
 pub returns-then-absent-eq0 : goal.returns-then-absent-eq0

@@ -1,5 +1,4 @@
 use Rattle.walk.proofs.VisitSteps.{visit_count_is}
-use borrow.Author.Rules.{rules}
 use Rattle.walk.proofs.visit_count.Goals as goal
 
 pub returns : goal.returns

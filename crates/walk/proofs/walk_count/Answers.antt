@@ -1,5 +1,4 @@
 use Rattle.walk.proofs.WalkSteps.{goes-within, count-list, walk_counted}
-use borrow.Author.Rules.{rules}
 use Rattle.walk.proofs.walk_count.Goals as goal
 
 pub opened-o-requires : goal.opened-o-requires

@@ -1,5 +1,4 @@
 use Rattle.engine.proofs.AskSteps.{settled_true, settled_false, settled-undefined}
-use borrow.Author.Rules.{rules}
 use Rattle.engine.proofs.Answer.of.Goals as goal
 
 pub returns-in-True : goal.returns-in-True
