@@ -42,8 +42,8 @@ def engine_archive(given):
         return pathlib.Path(given).resolve()
     if not ARCHIVE.exists():
         need("rt")
-        print("bench: rt staticlib capi (proves what is not proved yet)", flush=True)
-        run(["rt", "staticlib", "capi"], cwd=ROOT)
+        print("bench: bindings/archive (proves what is not proved yet)", flush=True)
+        run([ROOT / "bindings" / "archive"])
     return ARCHIVE
 
 

@@ -1,7 +1,7 @@
 /*
  * Tezqulom: component filters (RFC 3687) over DER records whose types are given by a table.
  *
- * Link with -ltezqulom, which `bindings/install` installs, or with the archive libcapi.a, which `rt staticlib capi` writes, and bindings/c/text.c
+ * Link with -ltezqulom, which `bindings/install` installs, or with the archive libcapi.a, which `bindings/archive` writes, and bindings/c/text.c
  * (docs/BINDINGS.md).
  *
  * Every function takes any octets and any numbers, and answers for all of them: nothing has to be checked first. As for every C function, a pointer

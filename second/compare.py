@@ -3,7 +3,7 @@
     python3 second/compare.py --seed N --cases M [--written] [--per-file K] [--keep]
 
 The cases are written as computed examples into a copy of the repository in a temporary folder,
-and `rt check demands` is run there. Cases that fail are found, taken out and printed.
+and `rt check` is run there in crates/demands. Cases that fail are found, taken out and printed.
 """
 
 import argparse
@@ -22,16 +22,14 @@ import draw
 import written
 
 HERE = pathlib.Path(__file__).resolve().parent
-SPECS = pathlib.Path("crates", "demands", "specs")
+CRATE = pathlib.Path("crates", "demands")
+SPECS = CRATE / "specs"
 HEAD = ["-- Drawn cases.",
-        "use mathlib.Core.Path.{_≡_, refl}",
-        "use mathlib.Core.Bool.{Bool, true, false}",
-        "use mathlib.Core.List.{List, [], _∷_}",
-        "use Prim.Native.Nat.{ℕ}",
-        "use Rattle·demands·specs.specs.Shown."
-        "{shownTable, shownValue, shownPart, shownAsk, shownList, hex}"]
-SHOWN = {"table": "shownTable", "value": "shownValue", "part": "shownPart", "ask": "shownAsk",
-         "list": "shownList"}
+        "use Rattle.std.specs.Prelude.{◌≡◌, refl, true, false, [], ◌∷◌}",
+        "use Rattle.demands.specs.Shown."
+        "{shown_table, shown_value, shown_part, shown_ask, shown_list, hex}"]
+SHOWN = {"table": "shown_table", "value": "shown_value", "part": "shown_part", "ask": "shown_ask",
+         "list": "shown_list"}
 TRUTHS = {"FALSE": 0, "TRUE": 1, "UNDEFINED": 2}
 PLACE = re.compile(r"(Drawn[0-9]+)\.antt[^0-9\n]{1,12}([0-9]+)")
 ERROR = re.compile(PLACE.pattern + r"(?::[0-9]+)?: error")
@@ -114,7 +112,7 @@ class Checker:
         spans = write_files(self.copy, self.lib, numbered, self.per_file)
         self.runs += 1
         try:
-            done = subprocess.run(self.command, cwd=self.copy, capture_output=True, text=True,
+            done = subprocess.run(self.command, cwd=self.copy / CRATE, capture_output=True, text=True,
                                   errors="replace", timeout=self.limit or None, check=False,
                                   env={**os.environ, "RT_CUT": "0"})
         except subprocess.TimeoutExpired:
@@ -219,7 +217,7 @@ def main():
     parser.add_argument("--only", choices=sorted(SHOWN), help="cases of this entry only")
     parser.add_argument("--large", action="store_true", help="draw large inputs")
     parser.add_argument("--limit", type=float, default=0, help="seconds for one run, 0 for none")
-    parser.add_argument("--command", default="rt check demands")
+    parser.add_argument("--command", default="rt check")
     given = parser.parse_args()
     drawer = draw.CaseDrawer(given.seed, draw.LARGER if given.large else draw.SMALL, longer=True)
     cases = written.cases(given.longest) if given.written else []
@@ -230,7 +228,8 @@ def main():
     copy = folder / "copy"
     try:
         shutil.copytree(HERE.parent, copy, symlinks=True, ignore=lambda path, _: (
-            {"target", ".git"} if pathlib.Path(path) == HERE.parent else set()))
+            {"target", ".git"} if pathlib.Path(path) == HERE.parent else
+            {"out"} if pathlib.Path(path).parent == HERE.parent / "crates" else set()))
         lib = (copy / SPECS / "Lib.antt").read_text(encoding="utf-8")
         checker = Checker(copy, lib, max(1, given.per_file), shlex.split(given.command), given.limit)
         failing = checker.failing(cases)

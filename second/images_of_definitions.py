@@ -14,8 +14,8 @@ NUMBER = r"(0x[0-9A-F]{4})"
 ROWS = {
     "run": re.compile(rf"run {NUMBER} {NUMBER} ()(.*)"),
     "one": re.compile(rf"one {NUMBER}()() (.*)"),
-    "foldedRun": re.compile(rf"foldedRun {NUMBER} {NUMBER} (\d) (.*)"),
-    "foldedOne": re.compile(rf"foldedOne {NUMBER}()() (.*)"),
+    "folded_run": re.compile(rf"folded_run {NUMBER} {NUMBER} (\d) (.*)"),
+    "folded_one": re.compile(rf"folded_one {NUMBER}()() (.*)"),
 }
 TWOFOLD = re.compile(rf"twofold {NUMBER} \((.*?)\) \((.*?)\)")
 

@@ -202,7 +202,7 @@ class Drawn(unittest.TestCase):
     def test_text_of_a_case(self):
         case = draw.Case("part", (b"\5\0", 0, 2), engine.part(b"\5\0", 0, 2))
         self.assertEqual(compare.case_lines("case1", case, ["x", "y"])[:3], [
-            'case1 : shownPart (hex "0500") 0 2 ≡ 0 ∷ 5 ∷ 0 ∷ []', "unfolding x y", "case1 = refl"])
+            'case1 : shown_part (hex "0500") 0 2 ≡ 0 ∷ 5 ∷ 0 ∷ []', "unfolding x y", "case1 = refl"])
         self.assertEqual(compare.shown_answer(("listed", [(1, 8, 9)])), [0, 1, 1, 8, 9])
 
 

@@ -1,5 +1,5 @@
 //! Links the engine's archive: from the folder in `TEZQULOM_LIB_DIR`, else from the repository's `target/staticlib`. It
-//! is `libcapi.a`, as `rt staticlib capi` writes it, or `libtezqulom.a`, as `bindings/install` installs it. Where the
+//! is `libcapi.a`, as `bindings/archive` writes it, or `libtezqulom.a`, as `bindings/install` installs it. Where the
 //! archive has `tezqulom_quote` or `tezqulom_escape`, a flag of that name is set for the crate's code.
 
 use std::env;
@@ -25,7 +25,7 @@ fn main() {
         }
     }
     eprintln!("there is no libcapi.a or libtezqulom.a that can be read in {}", folder.display());
-    eprintln!("build it at the root of the repository by `rt staticlib capi`, or set {FOLDER} to its folder");
+    eprintln!("build it by `bindings/archive` of the repository, or set {FOLDER} to its folder");
     std::process::exit(1);
 }
 

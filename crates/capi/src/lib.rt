@@ -1,5 +1,6 @@
 // The five entries, `quote` and `escape` for programs in other languages, as include/tezqulom.h declares them. A slice is a pointer and a length.
 #![tactic(auto)]
+
 ghost use Rattle.std.specs.Prelude.{◌≡◌};
 ghost use Rattle.types.specs.Check as tables;
 ghost use Rattle.table.specs.Check as check;

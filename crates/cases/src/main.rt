@@ -1,11 +1,13 @@
 // Answers the cases of standard input, a line for each. docs/CASES.md describes both formats.
 #![tactic(auto)]
+
 ghost use Rattle.std.specs.Prelude.{◌≤◌};
 
 use engine::{Answer, Listed};
 use filter::Filter;
-use libc::{STDIN_FILENO, STDOUT_FILENO};
 use rows::Table;
+use std::io;
+use std::io::{Read, Write};
 use table::TableCheck;
 use value::{Value, ValueCheck};
 
@@ -22,125 +24,124 @@ fn wide(b: u8) -> usize
     b as usize
 }
 
-fn print_word(word: &[u8]) {
-    io::write_all(STDOUT_FILENO, word);
+fn print_word<W: Write>(out: &mut W, word: &[u8]) -> io::Result<()> {
+    out.write_all(word)
 }
 
-fn print_count(word: &[u8], n: u64) {
-    io::write_all(STDOUT_FILENO, word);
-    io::print_decimal(STDOUT_FILENO, n);
+fn print_count<W: Write>(out: &mut W, word: &[u8], n: u64) -> io::Result<()> {
+    print_word(out, word)?;
+    write!(out, "{n}")
 }
 
-fn print_line(word: &[u8], n: u64) {
-    print_count(word, n);
-    print_word(b"\n");
+fn print_line<W: Write>(out: &mut W, word: &[u8], n: u64) -> io::Result<()> {
+    print_count(out, word, n)?;
+    print_word(out, b"\n")
 }
 
 // ---- last lines: of an input that isn't as docs/CASES.md has it
-fn truncated() -> bool {
-    print_word(b"TRUNCATED\n");
-    false
+fn truncated<W: Write>(out: &mut W) -> io::Result<bool> {
+    print_word(out, b"TRUNCATED\n")?;
+    Ok(false)
 }
 
-fn too_long(n: usize) -> bool {
-    print_line(b"TOO LONG ", n as u64);
-    false
+fn too_long<W: Write>(out: &mut W, n: usize) -> io::Result<bool> {
+    print_line(out, b"TOO LONG ", n as u64)?;
+    Ok(false)
 }
 
-fn unknown(kind: u8) -> bool {
-    print_line(b"UNKNOWN ", kind as u64);
-    false
+fn unknown<W: Write>(out: &mut W, kind: u8) -> io::Result<bool> {
+    print_line(out, b"UNKNOWN ", kind as u64)?;
+    Ok(false)
 }
 
 // ---- reading; with false or None a last line was printed
 // Fills buf.
-fn read_whole(buf: &mut [u8]) -> bool {
-    if io::read_full(STDIN_FILENO, buf) < buf.len() {
-        return truncated();
+fn read_whole<R: Read, W: Write>(input: &mut R, out: &mut W, buf: &mut [u8]) -> io::Result<bool> {
+    if reading::read_full(input, buf)? < buf.len() {
+        return truncated(out);
     }
-    true
+    Ok(true)
 }
 
 // One octet.
-fn read_octet() -> Number {
+fn read_octet<R: Read, W: Write>(input: &mut R, out: &mut W) -> io::Result<Number> {
     let mut head = [0u8; 1];
-    if !read_whole(&mut head) {
-        return Number::None;
+    if !read_whole(input, out, &mut head)? {
+        return Ok(Number::None);
     }
-    Number::Of(wide(head[0]))
+    Ok(Number::Of(wide(head[0])))
 }
 
 // A length: two octets, most significant first.
-fn read_length() -> Number {
+fn read_length<R: Read, W: Write>(input: &mut R, out: &mut W) -> io::Result<Number> {
     let mut head = [0u8; 2];
-    if !read_whole(&mut head) {
-        return Number::None;
+    if !read_whole(input, out, &mut head)? {
+        return Ok(Number::None);
     }
-    Number::Of(wide(head[0]) * 256 + wide(head[1]))
+    Ok(Number::Of(wide(head[0]) * 256 + wide(head[1])))
 }
 
 // A number: eight octets, most significant first.
-fn read_number() -> Number {
+fn read_number<R: Read, W: Write>(input: &mut R, out: &mut W) -> io::Result<Number> {
     let mut head = [0u8; 8];
-    if !read_whole(&mut head) {
-        return Number::None;
+    if !read_whole(input, out, &mut head)? {
+        return Ok(Number::None);
     }
-    let mut n = 0u64;
-    let mut i = 0;
-    while i < 8 {
-        n = (n << 8) | octets::wide64(head[i]);
-        i += 1;
-    }
-    Number::Of(n as usize)
+    Ok(Number::Of(u64::from_be_bytes(head) as usize))
 }
 
 // So many octets to the start of buf.
-fn read_part(buf: &mut [u8], n: usize) -> Number {
+fn read_part<R: Read, W: Write>(
+    input: &mut R,
+    out: &mut W,
+    buf: &mut [u8],
+    n: usize,
+) -> io::Result<Number> {
     if buf.len() < n {
-        too_long(n);
-        return Number::None;
+        too_long(out, n)?;
+        return Ok(Number::None);
     }
-    if !read_whole(&mut buf[..n]) {
-        return Number::None;
+    if !read_whole(input, out, &mut buf[..n])? {
+        return Ok(Number::None);
     }
-    Number::Of(n)
+    Ok(Number::Of(n))
 }
 
 // An input of octets: a length, and so many octets.
-fn read_input(buf: &mut [u8]) -> Number {
-    let Number::Of(n) = read_length() else {
-        return Number::None;
+fn read_input<R: Read, W: Write>(input: &mut R, out: &mut W, buf: &mut [u8]) -> io::Result<Number> {
+    let Number::Of(n) = read_length(input, out)? else {
+        return Ok(Number::None);
     };
-    read_part(buf, n)
+    read_part(input, out, buf, n)
 }
 
 // ---- cases and questions; with false a last line was printed
-fn table_case() -> bool {
+fn table_case<R: Read, W: Write>(input: &mut R, out: &mut W) -> io::Result<bool> {
     let mut table = [0u8; Table::MAX_BYTES + 1];
-    let Number::Of(t) = read_input(&mut table) else {
-        return false;
+    let Number::Of(t) = read_input(input, out, &mut table)? else {
+        return Ok(false);
     };
     match table::check_table(octets::part(&table, 0, t)) {
-        TableCheck::Admitted(admitted) => print_line(b"admitted ", admitted.rows as u64),
-        TableCheck::Refused(refusal) => print_line(b"refused ", refusal as u64),
+        TableCheck::Admitted(admitted) => print_line(out, b"admitted ", admitted.rows as u64)?,
+        TableCheck::Refused(refusal) => print_line(out, b"refused ", refusal as u64)?,
     }
-    true
+    Ok(true)
 }
 
-fn value_case() -> bool {
+fn value_case<R: Read, W: Write>(input: &mut R, out: &mut W) -> io::Result<bool> {
     let mut table = [0u8; Table::MAX_BYTES + 1];
     let mut value = [0u8; Value::MAX_BYTES + 1];
-    let Number::Of(t) = read_input(&mut table) else {
-        return false;
+    let Number::Of(t) = read_input(input, out, &mut table)? else {
+        return Ok(false);
     };
-    let Number::Of(v) = read_input(&mut value) else {
-        return false;
+    let Number::Of(v) = read_input(input, out, &mut value)? else {
+        return Ok(false);
     };
     match value::check_value(octets::part(&table, 0, t), octets::part(&value, 0, v)) {
-        ValueCheck::Good => print_word(b"good\n"),
-        ValueCheck::Refused(refusal) => print_line(b"refused ", refusal as u64),
+        ValueCheck::Good => print_word(out, b"good\n")?,
+        ValueCheck::Refused(refusal) => print_line(out, b"refused ", refusal as u64)?,
     }
-    true
+    Ok(true)
 }
 
 fn digit(n: u8) -> u8 {
@@ -164,7 +165,7 @@ fn low_digit(b: u8) -> u8 {
 // The octets of a value that are printed: as many as it may have.
 fn printed(n: usize) -> usize
     ensures few { result ≤ n }
-    ensures* most { do ⌜ result ≤ (← (⟦Value::MAX_BYTES⟧).entry) ⌝ }
+    ensures most { result ≤ Value.MAX_BYTES }
 {
     if n < Value::MAX_BYTES {
         return n;
@@ -173,73 +174,74 @@ fn printed(n: usize) -> usize
 }
 
 // Octets as hexadecimal digits.
-fn print_octets(part: &[u8]) {
+fn print_octets<W: Write>(out: &mut W, part: &[u8]) -> io::Result<()> {
     let mut text = [0u8; Value::MAX_BYTES * 2];
     let n = printed(part.len());
-    let mut i = 0;
-    while i < n {
+    for i in 0..n {
         text[i * 2] = high_digit(part[i]);
         text[i * 2 + 1] = low_digit(part[i]);
-        i += 1;
     }
-    io::write_all(STDOUT_FILENO, octets::part(&text, 0, i * 2));
+    print_word(out, octets::part(&text, 0, n * 2))
 }
 
-fn part_case() -> bool {
+fn part_case<R: Read, W: Write>(input: &mut R, out: &mut W) -> io::Result<bool> {
     let mut value = [0u8; Value::MAX_BYTES + 1];
-    let Number::Of(v) = read_input(&mut value) else {
-        return false;
+    let Number::Of(v) = read_input(input, out, &mut value)? else {
+        return Ok(false);
     };
-    let Number::Of(place) = read_number() else {
-        return false;
+    let Number::Of(place) = read_number(input, out)? else {
+        return Ok(false);
     };
-    let Number::Of(length) = read_number() else {
-        return false;
+    let Number::Of(length) = read_number(input, out)? else {
+        return Ok(false);
     };
     let refusal = value::part_number(octets::part(&value, 0, v), place, length);
     if refusal != 0 {
-        print_line(b"refused ", refusal as u64);
+        print_line(out, b"refused ", refusal as u64)?;
     } else {
-        print_word(b"part ");
-        print_octets(value::part_bytes(octets::part(&value, 0, v), place, length));
-        print_word(b"\n");
+        print_word(out, b"part ")?;
+        print_octets(
+            out,
+            value::part_bytes(octets::part(&value, 0, v), place, length),
+        )?;
+        print_word(out, b"\n")?;
     }
-    true
+    Ok(true)
 }
 
-fn print_listed(listed: Listed) {
+fn print_listed<W: Write>(out: &mut W, listed: Listed) -> io::Result<()> {
     match listed {
-        Listed::Values(n) => print_count(b"listed ", n as u64),
-        Listed::Refused(refusal) => print_count(b"refused ", refusal as u64),
+        Listed::Values(n) => print_count(out, b"listed ", n as u64),
+        Listed::Refused(refusal) => print_count(out, b"refused ", refusal as u64),
     }
 }
 
 // The numbers of a room after a listing.
-fn print_room(room: &[u64]) {
-    print_word(b":");
-    let mut i = 0;
-    while i < room.len() {
-        print_count(b" ", room[i]);
-        i += 1;
+fn print_room<W: Write>(out: &mut W, room: &[u64]) -> io::Result<()> {
+    print_word(out, b":")?;
+    for n in room {
+        print_count(out, b" ", *n)?;
     }
-    print_word(b"\n");
+    print_word(out, b"\n")
 }
 
-fn list_all(
+fn list_all<W: Write>(
+    out: &mut W,
     table: &[u8],
     value: &[u8],
     given: bool,
     reference: &[u8],
     defaults: bool,
     room: &mut [u64],
-) {
+) -> io::Result<()> {
     let listed = engine::list(table, value, given, reference, defaults, room);
-    print_listed(listed);
-    print_room(room);
+    print_listed(out, listed)?;
+    print_room(out, room)
 }
 
 // A listing into the first n numbers of room.
-fn list_into(
+fn list_into<W: Write>(
+    out: &mut W,
     table: &[u8],
     value: &[u8],
     given: bool,
@@ -247,31 +249,45 @@ fn list_into(
     defaults: bool,
     n: usize,
     room: &mut [u64],
-) -> bool {
+) -> io::Result<bool> {
     if room.len() < n {
-        return too_long(n);
+        return too_long(out, n);
     }
-    list_all(table, value, given, reference, defaults, &mut room[..n]);
-    true
+    list_all(
+        out,
+        table,
+        value,
+        given,
+        reference,
+        defaults,
+        &mut room[..n],
+    )?;
+    Ok(true)
 }
 
 // A listing. Before it each number of the room is 9999, which no listing writes.
-fn list_case(table: &[u8], value: &[u8]) -> bool {
+fn list_case<R: Read, W: Write>(
+    input: &mut R,
+    out: &mut W,
+    table: &[u8],
+    value: &[u8],
+) -> io::Result<bool> {
     let mut reference = [0u8; Listed::MAX_REFERENCE + 1];
     let mut room = [9999u64; Value::MAX_BYTES / 2 * 3];
-    let Number::Of(given) = read_octet() else {
-        return false;
+    let Number::Of(given) = read_octet(input, out)? else {
+        return Ok(false);
     };
-    let Number::Of(r) = read_input(&mut reference) else {
-        return false;
+    let Number::Of(r) = read_input(input, out, &mut reference)? else {
+        return Ok(false);
     };
-    let Number::Of(defaults) = read_octet() else {
-        return false;
+    let Number::Of(defaults) = read_octet(input, out)? else {
+        return Ok(false);
     };
-    let Number::Of(n) = read_length() else {
-        return false;
+    let Number::Of(n) = read_length(input, out)? else {
+        return Ok(false);
     };
     list_into(
+        out,
         table,
         value,
         given != 0,
@@ -282,89 +298,111 @@ fn list_case(table: &[u8], value: &[u8]) -> bool {
     )
 }
 
-fn filter_case(table: &[u8], value: &[u8]) -> bool {
+fn filter_case<R: Read, W: Write>(
+    input: &mut R,
+    out: &mut W,
+    table: &[u8],
+    value: &[u8],
+) -> io::Result<bool> {
     let mut filter = [0u8; Filter::MAX_BYTES + 1];
-    let Number::Of(f) = read_input(&mut filter) else {
-        return false;
+    let Number::Of(f) = read_input(input, out, &mut filter)? else {
+        return Ok(false);
     };
-    let Number::Of(budget) = read_number() else {
-        return false;
+    let Number::Of(budget) = read_number(input, out)? else {
+        return Ok(false);
     };
     match engine::ask(table, value, octets::part(&filter, 0, f), budget as u64) {
-        Answer::True(n) => print_line(b"TRUE ", n as u64),
-        Answer::False(n) => print_line(b"FALSE ", n as u64),
-        Answer::Undefined(n) => print_line(b"UNDEFINED ", n as u64),
-        Answer::Refused(refusal) => print_line(b"refused ", refusal as u64),
+        Answer::True(n) => print_line(out, b"TRUE ", n as u64)?,
+        Answer::False(n) => print_line(out, b"FALSE ", n as u64)?,
+        Answer::Undefined(n) => print_line(out, b"UNDEFINED ", n as u64)?,
+        Answer::Refused(refusal) => print_line(out, b"refused ", refusal as u64)?,
     }
-    true
+    Ok(true)
 }
 
 // One question about a table and a value.
-fn question(table: &[u8], value: &[u8]) -> bool {
+fn question<R: Read, W: Write>(
+    input: &mut R,
+    out: &mut W,
+    table: &[u8],
+    value: &[u8],
+) -> io::Result<bool> {
     let mut kind = [0u8; 1];
-    if !read_whole(&mut kind) {
-        return false;
+    if !read_whole(input, out, &mut kind)? {
+        return Ok(false);
     }
     if kind[0] == b'l' {
-        return list_case(table, value);
+        return list_case(input, out, table, value);
     }
     if kind[0] == b'f' {
-        return filter_case(table, value);
+        return filter_case(input, out, table, value);
     }
-    unknown(kind[0])
+    unknown(out, kind[0])
 }
 
-fn questions(table: &[u8], value: &[u8]) -> bool {
-    let Number::Of(n) = read_length() else {
-        return false;
+fn questions<R: Read, W: Write>(
+    input: &mut R,
+    out: &mut W,
+    table: &[u8],
+    value: &[u8],
+) -> io::Result<bool> {
+    let Number::Of(n) = read_length(input, out)? else {
+        return Ok(false);
     };
-    let mut left = n;
-    while left > 0 {
-        if !question(table, value) {
-            return false;
+    for _ in 0..n {
+        if !question(input, out, table, value)? {
+            return Ok(false);
         }
-        left -= 1;
     }
-    true
+    Ok(true)
 }
 
-fn questions_case() -> bool {
+fn questions_case<R: Read, W: Write>(input: &mut R, out: &mut W) -> io::Result<bool> {
     let mut table = [0u8; Table::MAX_BYTES + 1];
     let mut value = [0u8; Value::MAX_BYTES + 1];
-    let Number::Of(t) = read_input(&mut table) else {
-        return false;
+    let Number::Of(t) = read_input(input, out, &mut table)? else {
+        return Ok(false);
     };
-    let Number::Of(v) = read_input(&mut value) else {
-        return false;
+    let Number::Of(v) = read_input(input, out, &mut value)? else {
+        return Ok(false);
     };
-    questions(octets::part(&table, 0, t), octets::part(&value, 0, v))
+    questions(
+        input,
+        out,
+        octets::part(&table, 0, t),
+        octets::part(&value, 0, v),
+    )
 }
 
 // One case; false at the end of the input too.
-fn one() -> bool {
+fn one<R: Read, W: Write>(input: &mut R, out: &mut W) -> io::Result<bool> {
     let mut kind = [0u8; 1];
-    let got = io::read_full(STDIN_FILENO, &mut kind);
+    let got = reading::read_full(input, &mut kind)?;
     if got < 1 {
-        return false;
+        return Ok(false);
     }
     if kind[0] == b't' {
-        return table_case();
+        return table_case(input, out);
     }
     if kind[0] == b'v' {
-        return value_case();
+        return value_case(input, out);
     }
     if kind[0] == b'p' {
-        return part_case();
+        return part_case(input, out);
     }
     if kind[0] == b'q' {
-        return questions_case();
+        return questions_case(input, out);
     }
-    unknown(kind[0])
+    unknown(out, kind[0])
 }
 
-fn main() {
-    let mut turns = u64::MAX;
-    while turns > 0 && one() {
-        turns -= 1;
+fn main(rt: HostRuntime) -> io::Result<()> {
+    let mut input = rt.stdin();
+    let mut out = rt.stdout();
+    for _ in 0..u64::MAX {
+        if !one(&mut input, &mut out)? {
+            break;
+        }
     }
+    Ok(())
 }

@@ -1,63 +1,77 @@
 // Lists what the reference of the file `reference` names in the value of the file `value`, whose type is given by the table of the file `table`:
 // a line for each named value.
 #![tactic(auto)]
+
 ghost use Rattle.std.specs.Prelude.{◌*◌, ◌≤◌};
-ghost use Rattle.io.specs.Counts.{IsPrefixLen};
+ghost use Rattle.std.specs.Io.{ReadsAtMost};
 
 use engine::Listed;
-use libc::STDOUT_FILENO;
 use rows::Table;
+use std::io::{Read, Write};
+use std::rt::Files;
+use std::{fs, io};
 use value::Value;
 
-// The octets of an opened file at the start of buf, as many as fit; none where it was not opened.
-fn read_opened(fd: i32, buf: &mut [u8]) -> usize
-    ensures { IsPrefixLen result buf.new }
-{
-    if fd < 0 {
-        return 0;
+// A file that is there, opened.
+fn open_file<R: Files>(rt: &R, name: &str) -> io::Result<Option<R::File>> {
+    if !fs::exists(rt, name)? {
+        return Ok(None);
     }
-    let n = io::read_full(fd, buf);
-    libc::close(fd);
-    n
+    Ok(Some(fs::open(rt, name)?))
 }
 
-fn print_word(word: &[u8]) {
-    io::write_all(STDOUT_FILENO, word);
+// The octets of an opened file at the start of buf, as many as fit; none where it was not opened.
+fn read_opened<F: Read + Drop>(file: Option<F>, buf: &mut [u8]) -> io::Result<usize>
+    ensures { ReadsAtMost result buf.new }
+{
+    let Some(mut file) = file else {
+        return Ok(0);
+    };
+    reading::read_full(&mut file, buf)
 }
 
-fn print_number(word: &[u8], n: u64) {
-    print_word(word);
-    io::print_decimal(STDOUT_FILENO, n);
+fn print_word<W: Write>(out: &mut W, word: &[u8]) -> io::Result<()> {
+    out.write_all(word)
+}
+
+fn print_number<W: Write>(out: &mut W, word: &[u8], n: u64) -> io::Result<()> {
+    print_word(out, word)?;
+    write!(out, "{n}")
 }
 
 fn digit(n: u8) -> u8 {
     octets::octet(b"0123456789ABCDEF", n as usize)
 }
 
-fn print_octet(b: u8) {
+fn print_octet<W: Write>(out: &mut W, b: u8) -> io::Result<()> {
     let text = [digit(b >> 4), digit(b & 15)];
-    print_word(&text);
+    print_word(out, &text)
 }
 
 // Octets as hexadecimal digits, two for each.
-fn print_octets(part: &[u8]) {
-    let mut i = 0;
-    while i < part.len() {
-        print_octet(part[i]);
-        i += 1;
+fn print_octets<W: Write>(out: &mut W, part: &[u8]) -> io::Result<()> {
+    for b in part {
+        print_octet(out, *b)?;
     }
+    Ok(())
 }
 
 // The line of a listed value: its three numbers, and for a stored one its octets, header and contents.
-fn print_listed(value: &[u8], source: u64, place: u64, number: u64) {
-    print_number(b"", source);
-    print_number(b" ", place);
-    print_number(b" ", number);
+fn print_listed<W: Write>(
+    out: &mut W,
+    value: &[u8],
+    source: u64,
+    place: u64,
+    number: u64,
+) -> io::Result<()> {
+    print_number(out, b"", source)?;
+    print_number(out, b" ", place)?;
+    print_number(out, b" ", number)?;
     if source == 0 {
-        print_word(b" ");
-        print_octets(reader::value_octets(value, place as usize));
+        print_word(out, b" ")?;
+        print_octets(out, reader::value_octets(value, place as usize))?;
     }
-    print_word(b"\n");
+    print_word(out, b"\n")
 }
 
 // The listed values that are printed: as many as the room has three numbers for.
@@ -70,41 +84,49 @@ fn shown(listed: usize, room: usize) -> usize
     room / 3
 }
 
-fn print_room(value: &[u8], listed: usize, room: &[u64]) {
+fn print_room<W: Write>(out: &mut W, value: &[u8], listed: usize, room: &[u64]) -> io::Result<()> {
     let n = shown(listed, room.len());
-    let mut i = 0;
-    while i < n {
-        print_listed(value, room[i * 3], room[i * 3 + 1], room[i * 3 + 2]);
-        i += 1;
+    for i in 0..n {
+        print_listed(out, value, room[i * 3], room[i * 3 + 1], room[i * 3 + 2])?;
     }
+    Ok(())
 }
 
-fn show(table: &[u8], value: &[u8], given: bool, reference: &[u8], room: &mut [u64]) {
+fn show<W: Write>(
+    out: &mut W,
+    table: &[u8],
+    value: &[u8],
+    given: bool,
+    reference: &[u8],
+    room: &mut [u64],
+) -> io::Result<()> {
     match engine::list(table, value, given, reference, true, room) {
-        Listed::Values(n) => print_room(value, n, room),
+        Listed::Values(n) => print_room(out, value, n, room),
         Listed::Refused(refusal) => {
-            print_number(b"REFUSED ", refusal as u64);
-            print_word(b"\n");
+            print_number(out, b"REFUSED ", refusal as u64)?;
+            print_word(out, b"\n")
         }
     }
 }
 
 // Each buffer has one octet more than document 01 allows, so that a file that is too long is refused by its size. The room is enough for any listing:
 // named values are at most half as many as the value's octets, with three numbers each.
-fn main() {
+fn main(rt: HostRuntime) -> io::Result<()> {
     let mut table = [0u8; Table::MAX_BYTES + 1];
     let mut value = [0u8; Value::MAX_BYTES + 1];
     let mut reference = [0u8; Listed::MAX_REFERENCE + 1];
     let mut room = [0u64; Value::MAX_BYTES / 2 * 3];
-    let t = read_opened(os::open_read(b"table"), &mut table);
-    let v = read_opened(os::open_read(b"value"), &mut value);
-    let fd = os::open_read(b"reference");
-    let r = read_opened(fd, &mut reference);
+    let t = read_opened(open_file(&rt, "table")?, &mut table)?;
+    let v = read_opened(open_file(&rt, "value")?, &mut value)?;
+    let file = open_file(&rt, "reference")?;
+    let given = file.is_some();
+    let r = read_opened(file, &mut reference)?;
     show(
+        &mut rt.stdout(),
         &table[..t],
         &value[..v],
-        fd >= 0,
+        given,
         &reference[..r],
         &mut room,
-    );
+    )
 }
