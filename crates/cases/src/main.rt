@@ -1,7 +1,8 @@
 // Answers the cases of standard input, a line for each. docs/CASES.md describes both formats.
 #![tactic(auto)]
 
-ghost use Rattle.std.specs.Prelude.{◌≤◌};
+ghost use Rattle.std.specs.Prelude.{◌≡◌, ◌≤◌, false, IfOk, IsTrue, OnOk};
+ghost use Rattle.std.specs.Io.KnownBytes.{Appends, Consumes};
 
 use engine::{Answer, Listed};
 use filter::Filter;
@@ -24,7 +25,9 @@ fn wide(b: u8) -> usize
     b as usize
 }
 
-fn print_word<W: Write>(out: &mut W, word: &[u8]) -> io::Result<()> {
+fn print_word<W: Write>(out: &mut W, word: &[u8]) -> io::Result<()>
+    ensures { OnOk result (Appends (W.contents out.old) (W.contents out.new) word.now) }
+{
     out.write_all(word)
 }
 
@@ -39,24 +42,32 @@ fn print_line<W: Write>(out: &mut W, word: &[u8], n: u64) -> io::Result<()> {
 }
 
 // ---- last lines: of an input that isn't as docs/CASES.md has it
-fn truncated<W: Write>(out: &mut W) -> io::Result<bool> {
+fn truncated<W: Write>(out: &mut W) -> io::Result<bool>
+    ensures { IfOk result (λ b. b ≡ false) }
+{
     print_word(out, b"TRUNCATED\n")?;
     Ok(false)
 }
 
-fn too_long<W: Write>(out: &mut W, n: usize) -> io::Result<bool> {
+fn too_long<W: Write>(out: &mut W, n: usize) -> io::Result<bool>
+    ensures { IfOk result (λ b. b ≡ false) }
+{
     print_line(out, b"TOO LONG ", n as u64)?;
     Ok(false)
 }
 
-fn unknown<W: Write>(out: &mut W, kind: u8) -> io::Result<bool> {
+fn unknown<W: Write>(out: &mut W, kind: u8) -> io::Result<bool>
+    ensures { IfOk result (λ b. b ≡ false) }
+{
     print_line(out, b"UNKNOWN ", kind as u64)?;
     Ok(false)
 }
 
 // ---- reading; with false or None a last line was printed
-// Fills buf.
-fn read_whole<R: Read, W: Write>(input: &mut R, out: &mut W, buf: &mut [u8]) -> io::Result<bool> {
+// Fills buf with what the input loses.
+fn read_whole<R: Read, W: Write>(input: &mut R, out: &mut W, buf: &mut [u8]) -> io::Result<bool>
+    ensures { IfOk result (λ b. IsTrue b → Consumes (R.remaining input.old) (R.remaining input.new) buf.new) }
+{
     if reading::read_full(input, buf)? < buf.len() {
         return truncated(out);
     }

@@ -2,8 +2,9 @@
 // a line for each named value.
 #![tactic(auto)]
 
-ghost use Rattle.std.specs.Prelude.{◌*◌, ◌≤◌};
+ghost use Rattle.std.specs.Prelude.{◌*◌, ◌≤◌, OnOk};
 ghost use Rattle.std.specs.Io.{ReadsAtMost};
+ghost use Rattle.std.specs.Io.KnownBytes.{Appends};
 
 use engine::Listed;
 use rows::Table;
@@ -30,7 +31,9 @@ fn read_opened<F: Read + Drop>(file: Option<F>, buf: &mut [u8]) -> io::Result<us
     reading::read_full(&mut file, buf)
 }
 
-fn print_word<W: Write>(out: &mut W, word: &[u8]) -> io::Result<()> {
+fn print_word<W: Write>(out: &mut W, word: &[u8]) -> io::Result<()>
+    ensures { OnOk result (Appends (W.contents out.old) (W.contents out.new) word.now) }
+{
     out.write_all(word)
 }
 
