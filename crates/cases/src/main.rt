@@ -1,7 +1,8 @@
 // Answers the cases of standard input, a line for each. docs/CASES.md describes both formats.
 #![tactic(auto)]
 
-ghost use Rattle.std.specs.Prelude.{◌≡◌, ◌≤◌, false, IfOk, IsTrue, OnOk};
+ghost use Rattle.std.specs.Prelude.{◌≡◌, ◌<◌, ◌≤◌, ◌^◌, false, IfOk, IsTrue, OnOk, length, take};
+ghost use Rattle.cases.specs.Reading.{IfRead};
 ghost use Rattle.std.specs.Io.KnownBytes.{Appends, Consumes};
 
 use engine::{Answer, Listed};
@@ -75,7 +76,9 @@ fn read_whole<R: Read, W: Write>(input: &mut R, out: &mut W, buf: &mut [u8]) -> 
 }
 
 // One octet.
-fn read_octet<R: Read, W: Write>(input: &mut R, out: &mut W) -> io::Result<Number> {
+fn read_octet<R: Read, W: Write>(input: &mut R, out: &mut W) -> io::Result<Number>
+    ensures { IfOk result (λ m. IfRead m (λ k. k < 2 ^ 8)) }
+{
     let mut head = [0u8; 1];
     if !read_whole(input, out, &mut head)? {
         return Ok(Number::None);
@@ -84,7 +87,9 @@ fn read_octet<R: Read, W: Write>(input: &mut R, out: &mut W) -> io::Result<Numbe
 }
 
 // A length: two octets, most significant first.
-fn read_length<R: Read, W: Write>(input: &mut R, out: &mut W) -> io::Result<Number> {
+fn read_length<R: Read, W: Write>(input: &mut R, out: &mut W) -> io::Result<Number>
+    ensures { IfOk result (λ m. IfRead m (λ k. k < 2 ^ 16)) }
+{
     let mut head = [0u8; 2];
     if !read_whole(input, out, &mut head)? {
         return Ok(Number::None);
@@ -107,7 +112,11 @@ fn read_part<R: Read, W: Write>(
     out: &mut W,
     buf: &mut [u8],
     n: usize,
-) -> io::Result<Number> {
+) -> io::Result<Number>
+    ensures number { IfOk result (λ m. IfRead m (λ k. k ≡ n)) }
+    ensures fits { IfOk result (λ m. IfRead m (λ k. k ≤ length buf.new)) }
+    ensures bytes { IfOk result (λ m. IfRead m (λ k. Consumes (R.remaining input.old) (R.remaining input.new) (take k buf.new))) }
+{
     if buf.len() < n {
         too_long(out, n)?;
         return Ok(Number::None);
@@ -119,7 +128,9 @@ fn read_part<R: Read, W: Write>(
 }
 
 // An input of octets: a length, and so many octets.
-fn read_input<R: Read, W: Write>(input: &mut R, out: &mut W, buf: &mut [u8]) -> io::Result<Number> {
+fn read_input<R: Read, W: Write>(input: &mut R, out: &mut W, buf: &mut [u8]) -> io::Result<Number>
+    ensures { IfOk result (λ m. IfRead m (λ k. k ≤ length buf.new)) }
+{
     let Number::Of(n) = read_length(input, out)? else {
         return Ok(Number::None);
     };
