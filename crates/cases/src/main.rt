@@ -1,7 +1,7 @@
 // Answers the cases of standard input, a line for each. docs/CASES.md describes both formats.
 #![tactic(auto)]
 
-ghost use Rattle.std.specs.Prelude.{◌≡◌, ◌<◌, ◌≤◌, ◌^◌, false, IfOk, IsTrue, OnOk, length, take};
+ghost use Rattle.std.specs.Prelude.{◌≡◌, ◌<◌, ◌≤◌, ◌^◌, ◌/◌, ◌%◌, [], ◌∷◌, false, IfOk, IsTrue, OnOk, length, take};
 ghost use Rattle.cases.specs.Reading.{IfRead};
 ghost use Rattle.std.specs.Io.KnownBytes.{Appends, Consumes};
 
@@ -21,7 +21,8 @@ enum Number {
 }
 
 fn wide(b: u8) -> usize
-    ensures { result ≤ 255 }
+    ensures fits { result ≤ 255 }
+    ensures same { result ≡ b }
 {
     b as usize
 }
@@ -77,7 +78,8 @@ fn read_whole<R: Read, W: Write>(input: &mut R, out: &mut W, buf: &mut [u8]) -> 
 
 // One octet.
 fn read_octet<R: Read, W: Write>(input: &mut R, out: &mut W) -> io::Result<Number>
-    ensures { IfOk result (λ m. IfRead m (λ k. k < 2 ^ 8)) }
+    ensures fits { IfOk result (λ m. IfRead m (λ k. k < 2 ^ 8)) }
+    ensures bytes { IfOk result (λ m. IfRead m (λ k. Consumes (R.remaining input.old) (R.remaining input.new) (k ∷ []))) }
 {
     let mut head = [0u8; 1];
     if !read_whole(input, out, &mut head)? {
@@ -88,7 +90,8 @@ fn read_octet<R: Read, W: Write>(input: &mut R, out: &mut W) -> io::Result<Numbe
 
 // A length: two octets, most significant first.
 fn read_length<R: Read, W: Write>(input: &mut R, out: &mut W) -> io::Result<Number>
-    ensures { IfOk result (λ m. IfRead m (λ k. k < 2 ^ 16)) }
+    ensures fits { IfOk result (λ m. IfRead m (λ k. k < 2 ^ 16)) }
+    ensures bytes { IfOk result (λ m. IfRead m (λ k. Consumes (R.remaining input.old) (R.remaining input.new) (k / 256 ∷ k % 256 ∷ []))) }
 {
     let mut head = [0u8; 2];
     if !read_whole(input, out, &mut head)? {
