@@ -2,6 +2,7 @@
 #![tactic(auto)]
 
 ghost use Rattle.std.specs.Prelude.{◌≡◌, ◌<◌, ◌≤◌, ◌^◌, ◌/◌, ◌%◌, [], ◌∷◌, false, IfOk, IsTrue, OnOk, length, take};
+ghost use Rattle.std.specs.Int.{to_be_bytes, w64};
 ghost use Rattle.cases.specs.Reading.{IfRead};
 ghost use Rattle.std.specs.Io.KnownBytes.{Appends, Consumes};
 
@@ -100,13 +101,22 @@ fn read_length<R: Read, W: Write>(input: &mut R, out: &mut W) -> io::Result<Numb
     Ok(Number::Of(wide(head[0]) * 256 + wide(head[1])))
 }
 
+// Eight octets as a number, most significant first.
+fn number_of(head: [u8; 8]) -> u64
+    ensures { to_be_bytes w64 result ≡ head }
+{
+    u64::from_be_bytes(head)
+}
+
 // A number: eight octets, most significant first.
-fn read_number<R: Read, W: Write>(input: &mut R, out: &mut W) -> io::Result<Number> {
+fn read_number<R: Read, W: Write>(input: &mut R, out: &mut W) -> io::Result<Number>
+    ensures { IfOk result (λ m. IfRead m (λ k. Consumes (R.remaining input.old) (R.remaining input.new) (to_be_bytes w64 k))) }
+{
     let mut head = [0u8; 8];
     if !read_whole(input, out, &mut head)? {
         return Ok(Number::None);
     }
-    Ok(Number::Of(u64::from_be_bytes(head) as usize))
+    Ok(Number::Of(number_of(head) as usize))
 }
 
 // So many octets to the start of buf.
@@ -132,7 +142,8 @@ fn read_part<R: Read, W: Write>(
 
 // An input of octets: a length, and so many octets.
 fn read_input<R: Read, W: Write>(input: &mut R, out: &mut W, buf: &mut [u8]) -> io::Result<Number>
-    ensures { IfOk result (λ m. IfRead m (λ k. k ≤ length buf.new)) }
+    ensures fits { IfOk result (λ m. IfRead m (λ k. k ≤ length buf.new)) }
+    ensures bytes { IfOk result (λ m. IfRead m (λ k. Consumes (R.remaining input.old) (R.remaining input.new) (k / 256 ∷ k % 256 ∷ take k buf.new))) }
 {
     let Number::Of(n) = read_length(input, out)? else {
         return Ok(Number::None);
