@@ -1,6 +1,7 @@
 // Answers the filter of the file `filter` over the value of the file `value`, whose type is given by the table of the file `table`.
 #![tactic(auto)]
 
+ghost use Rattle.std.specs.Prelude.{◌≡◌, length, OnErr};
 ghost use Rattle.std.specs.Io.{ReadsAtMost};
 
 use engine::Answer;
@@ -10,9 +11,10 @@ use std::rt::Files;
 use std::{fs, io};
 use value::Value;
 
-// The octets of a file at the start of buf, as many as fit; none where the file is missing.
+// The octets of a file at the start of buf, as many as fit; none where the file is missing. An error leaves a buf of the same length, with what was read.
 fn read_file<R: Files>(rt: &R, name: &str, buf: &mut [u8]) -> io::Result<usize>
-    ensures { ReadsAtMost result buf.new }
+    ensures count { ReadsAtMost result buf.new }
+    ensures err { OnErr result (length buf.new ≡ length buf.old) }
 {
     if !fs::exists(rt, name)? {
         return Ok(0);

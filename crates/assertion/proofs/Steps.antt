@@ -214,7 +214,7 @@ module _ (s : List ℕ) (at : ℕ) (r : Place) where
     unfolding component_at
     component-is p c q f = rw (at_place r e p q) f
 
-  -- ---- `use_default_values`
+  -- ---- `useDefaultValues`
   module _ (d : Bool) (e : report_place r ≡ mark_at 44 s at) where
     pub truth-alone : r ≡ Place.Nowhere → none ≡ followed s at d
     truth-alone q = rw (at_none r e q)

@@ -1,4 +1,4 @@
--- "The assertion has optional `component` (quoted, `""` for a quote), optional `use_default_values` (TRUE or FALSE; TRUE if missing), `rule`,
+-- "The assertion has optional `component` (quoted, `""` for a quote), optional `useDefaultValues` (TRUE or FALSE; TRUE if missing), `rule`,
 -- `value`, in that order."
 use Rattle.std.specs.Prelude.{ℕ, ◌+◌, ◌-◌, Bool, true, false, List, [], ◌∷◌, drop, eqb}
 use Rattle.std.proofs.Math.Option.{Option, none, some}
@@ -39,7 +39,7 @@ quoted_part s at = do
 unfoldable pub component_at : List ℕ → ℕ → Option (Read (Option (List ℕ)))
 component_at s at = if_labelled none at (quoted_part s) (label_at (bytes "component") s at)
 
--- ---- `use_default_values`
+-- ---- `useDefaultValues`
 abbrev pub truth_part : List ℕ → ℕ → Option (Read Bool)
 truth_part s at =
     pick (starts (bytes "TRUE") (drop at s)) (followed s (at + 4) true)

@@ -24,7 +24,7 @@ least = refl
 is_good : String → Bool
 is_good s = is_some (read s)
 
--- `use_default_values` after `rule`, before `component`; `value` before `rule`
+-- `useDefaultValues` after `rule`, before `component`; `value` before `rule`
 orders : map is_good ("{rule x,useDefaultValues FALSE,value 1}" ∷ "{useDefaultValues FALSE,component \"a\",rule x,value 1}" ∷ "{value 1,rule x}" ∷ [])
     ≡ false ∷ false ∷ false ∷ []
 unfolding assertion_computes read is_good

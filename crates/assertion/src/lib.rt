@@ -227,7 +227,7 @@ fn component_part(s: &[u8], at: usize) -> ComponentPart
     quoted_part(s, p)
 }
 
-// ---- `use_default_values`
+// ---- `useDefaultValues`
 fn truth_followed(s: &[u8], at: usize, d: bool) -> DefaultsPart
     ensures { places.report_defaults_part result ≡ assertion.followed s.now at d }
 {

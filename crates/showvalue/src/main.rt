@@ -2,7 +2,7 @@
 // a line for each named value.
 #![tactic(auto)]
 
-ghost use Rattle.std.specs.Prelude.{◌*◌, ◌≤◌, OnOk};
+ghost use Rattle.std.specs.Prelude.{◌≡◌, ◌*◌, ◌≤◌, length, OnOk, OnErr};
 ghost use Rattle.std.specs.Io.{ReadsAtMost};
 ghost use Rattle.std.specs.Io.KnownBytes.{Appends};
 
@@ -23,7 +23,8 @@ fn open_file<R: Files>(rt: &R, name: &str) -> io::Result<Option<R::File>> {
 
 // The octets of an opened file at the start of buf, as many as fit; none where it was not opened.
 fn read_opened<F: Read + Drop>(file: Option<F>, buf: &mut [u8]) -> io::Result<usize>
-    ensures { ReadsAtMost result buf.new }
+    ensures count { ReadsAtMost result buf.new }
+    ensures err { OnErr result (length buf.new ≡ length buf.old) }
 {
     let Some(mut file) = file else {
         return Ok(0);

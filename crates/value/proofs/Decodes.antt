@@ -1,4 +1,4 @@
--- The families of `specs/inner/Decodes` are made from the decoder's equations; what they say of the header at a value's place.
+-- The families of `specs/Inner/Decodes` are made from the decoder's equations; what they say of the header at a value's place.
 use mathlib.Core.Path.{◌≡◌, refl, sym, ap₂, ◌∙◌, subst}
 use mathlib.Core.Bool.{Bool, true, false}
 use mathlib.Core.Option.{Option, none, some}

@@ -34,7 +34,7 @@ abbrev pub report_component_part : List ℕ → ComponentPart → Option (Read (
 report_component_part s (ComponentPart.Of c after) = read_to (component_of s c) after
 report_component_part s ComponentPart.Bad = none
 
--- ---- `use_default_values`
+-- ---- `useDefaultValues`
 abbrev pub report_defaults_part : DefaultsPart → Option (Read Bool)
 report_defaults_part (DefaultsPart.Of d after) = read_to d after
 report_defaults_part DefaultsPart.Bad = none

@@ -1,5 +1,5 @@
 -- The operand of a rule: what the comparisons of its tests read of a value text. Of strings what stands between the quotes, where it is plain (as prepared but
--- for folding), else that as prepared; of times what stands between the quotes; of names octets that are made of it (names/specs/inner/Operand); of the others
+-- for folding), else that as prepared; of times what stands between the quotes; of names octets that are made of it (names/specs/Inner/Operand); of the others
 -- the text.
 use Rattle.std.specs.Prelude.{ℕ, ◌≡◌, Bool, true, false, List}
 use Rattle.octets.specs.Quoted.{undoubled}
