@@ -12,7 +12,7 @@ import re
 import subprocess
 import sys
 
-KIT = "/opt/rattle"
+KIT = os.path.dirname(subprocess.run(["rt", "doc"], capture_output=True, text=True, check=True).stdout.strip())
 WORD = re.compile(r"[^\s(){}\[\].,;:\"`⟦⟧]+")
 DEFINED = re.compile(r"^\s*((?:(?:pub|unfoldable|abbrev|opaque|private|data|record) )*)([^\s(){}\[\].,;:\"`]+(?: [^\s(){}\[\].,;:\"`]+)*) :(?:\s|$)")
 CONSTRUCTOR = re.compile(r"^\s*\| ?([^\s(){}\[\].,;:\"`]+)")
@@ -153,7 +153,7 @@ def table_of(root):
     # words in mixed case that are no definitions: parameters, fields by another form, aliases
     for path in files(root, (".antt", )):
         for line in read(path).split("\n"):
-            for piece, code in cut(line, "--"):
+            for piece, code in cut(re.sub(r"(^|\s)-- .*", "", line), "--"):
                 for w in WORD.findall(piece) if code else ():
                     if w not in table and w not in library and re.match(r"^[a-z][\w'′]*$", w) and HUMP.search(w):
                         table[w] = snake(w)
@@ -202,12 +202,14 @@ def main(argv):
     if argv:
         print(__doc__)
         return 2
+    # sources and edits name functions too, which keep their names: there only names that no function can have are turned
+    ghost = {old: new for old, new in table.items() if "-" in old or HUMP.search(old)}
     for path in files(root, (".antt", ".rt", ".edit")):
         text = read(path)
         if path.endswith(".edit"):
-            new = turned(text, "\0", table)
+            new = turned(text, "\0", ghost)
         else:
-            new = turned(text, "--" if path.endswith(".antt") else "//", table)
+            new = turned(text, "--" if path.endswith(".antt") else "//", table if path.endswith(".antt") else ghost)
         if new != text:
             with open(path, "w", encoding="utf-8") as f:
                 f.write(new)
