@@ -2,7 +2,7 @@
 use mathlib.Core.Path.{◌≡◌, refl, sym, ap, ◌∙◌}
 use mathlib.Core.Bool.{Bool, true, false, false≢true}
 use mathlib.Core.List.{List, [], ◌∷◌, ◌++◌}
-use mathlib.Core.Option.{Option, none, some}
+use Rattle.std.specs.Prelude.{Option, None, Some}
 use Prim.Native.Nat.{ℕ, suc, ◌≤◌, ◌<◌, ◌+◌, ◌-◌}
 use native.Mathlib.Omega.{arith}
 use borrow.Author.Tests.{ne_eqb}
@@ -23,32 +23,32 @@ use Rattle.assertion.specs.Assertion.{comma_from}
 use Rattle.assertion.specs.Inner.Places.{word_at}
 
 -- ---- what there is, or nothing
-pub some_is : {A : Type 0} {a b : A} → some a ≡ some b → a ≡ b
+pub some_is : {A : Type 0} {a b : A} → Some a ≡ Some b → a ≡ b
 some_is e = cc
 
-pub none_not : {A : Type 0} {a : A} → none ≡ some a → ⊥
+pub none_not : {A : Type 0} {a : A} → None ≡ Some a → ⊥
 none_not {A} {a} e = let z : ◌≡◌ {A = ℕ} 0 1 = cc in omega arith
 
 -- a thing under a test is there: the test holds
-pub if_some : {A : Type 0} (t : Bool) (a b : A) → pick t (some a) none ≡ some b → (t ≡ true) × (a ≡ b)
+pub if_some : {A : Type 0} (t : Bool) (a b : A) → pick t (Some a) None ≡ Some b → (t ≡ true) × (a ≡ b)
 if_some true a b e = (refl, some_is e)
 if_some false a b e = absurd (none_not e)
 
-pub if_none : {A : Type 0} (t : Bool) (a : A) → pick t (some a) none ≡ none → t ≡ false
+pub if_none : {A : Type 0} (t : Bool) (a : A) → pick t (Some a) None ≡ None → t ≡ false
 if_none true a e = absurd (none_not (sym e))
 if_none false a e = refl
 
 -- what follows is there: so is what it follows
-pub bind-some : {A B : Type 0} (o : Option A) (f : A → Option B) (b : B) → bind o f ≡ some b → (a : A) × ((o ≡ some a) × (f a ≡ some b))
-bind-some none f b e = absurd (none_not e)
-bind-some (some a) f b e = (a, (refl, e))
+pub bind-some : {A B : Type 0} (o : Option A) (f : A → Option B) (b : B) → bind o f ≡ Some b → (a : A) × ((o ≡ Some a) × (f a ≡ Some b))
+bind-some None f b e = absurd (none_not e)
+bind-some (Some a) f b e = (a, (refl, e))
 
 -- what a place says
 module _ (r : Place) {x : Option ℕ} (e : report_place r ≡ x) where
-  pub at_place : (p : ℕ) → r ≡ Place.At p → x ≡ some p
+  pub at_place : (p : ℕ) → r ≡ Place.At p → x ≡ Some p
   at_place p q = sym e ∙ ap report_place q
 
-  pub at_none : r ≡ Place.Nowhere → x ≡ none
+  pub at_none : r ≡ Place.Nowhere → x ≡ None
   at_none q = sym e ∙ ap report_place q
 
 -- ---- words
@@ -118,12 +118,12 @@ trimmed-part s at brace n e =
 -- ---- places within a text
 -- a place that is found stands from lo on, before hi
 abbrev pub Within : ℕ → ℕ → Option ℕ → Type 0
-Within lo hi o = (k : ℕ) → o ≡ some k → (lo ≤ k) × (k < hi)
+Within lo hi o = (k : ℕ) → o ≡ Some k → (lo ≤ k) × (k < hi)
 
-within_none : (lo hi : ℕ) → Within lo hi none
+within_none : (lo hi : ℕ) → Within lo hi None
 within_none lo hi k e = absurd (none_not e)
 
-within_some : (lo hi p : ℕ) → lo ≤ p → p < hi → Within lo hi (some p)
+within_some : (lo hi p : ℕ) → lo ≤ p → p < hi → Within lo hi (Some p)
 within_some lo hi p h l k e = let z = some_is e in (omega arith, omega arith)
 
 within-pick : (lo hi : ℕ) (t : Bool) (a b : Option ℕ) → Within lo hi a → Within lo hi b → Within lo hi (pick t a b)
@@ -167,17 +167,17 @@ closing-from (b ∷ c ∷ l) at =
     within-pick at hi (eqb b 34) _ _ (within-pick at hi (eqb c 34) _ _ double here) one
 
 module _ (s : List ℕ) (at b : ℕ) where
-  pub brace-within : brace_at s at ≡ some b → (at ≤ b) × (b < length s)
+  pub brace-within : brace_at s at ≡ Some b → (at ≤ b) × (b < length s)
   unfolding brace_at
   brace-within e = let r = brace-from (drop at s) at 0 false b e in (omega arith, omega (arith, rest-length s at))
 
-  pub comma-within : comma_from (drop at s) at ≡ some b → (at ≤ b) × (b < length s)
+  pub comma-within : comma_from (drop at s) at ≡ Some b → (at ≤ b) × (b < length s)
   comma-within e = let r = comma-from (drop at s) at b e in (omega arith, omega (arith, rest-length s at))
 
-  pub closing-within : closing_at s at ≡ some b → (at < b) × (b < length s)
+  pub closing-within : closing_at s at ≡ Some b → (at < b) × (b < length s)
   unfolding closing_at
   closing-within e = go (eqb (octet s at) 34) e
     where
-      go : (t : Bool) → pick t (closing (drop (at + 1) s) (at + 1)) none ≡ some b → (at < b) × (b < length s)
+      go : (t : Bool) → pick t (closing (drop (at + 1) s) (at + 1)) None ≡ Some b → (at < b) × (b < length s)
       go true f = let r = closing-from (drop (at + 1) s) (at + 1) b f in (omega arith, omega (arith, rest-length s (at + 1)))
       go false f = absurd (none_not f)

@@ -2,7 +2,7 @@
 use mathlib.Core.Path.{◌≡◌, refl, sym, ap, ◌∙◌}
 use mathlib.Core.Bool.{Bool, true, false}
 use mathlib.Core.List.{List, [], ◌∷◌}
-use mathlib.Core.Option.{Option, none, some}
+use Rattle.std.specs.Prelude.{Option, None, Some}
 use Prim.Native.Nat.{ℕ, suc, ◌≤◌, ◌<◌, ◌+◌, ◌-◌}
 use native.Mathlib.Omega.{arith}
 use borrow.Author.Tests.{eqb-true}
@@ -47,7 +47,7 @@ abbrev pub Onward : ℕ → ℕ → ℕ → Type 0
 Onward n at q = (at ≤ q) × (q ≤ n)
 
 module _ (s : List ℕ) (at p : ℕ) where
-  pub mark-further : (c : ℕ) → 0 < c → mark_at c s at ≡ some p → Further (length s) at p
+  pub mark-further : (c : ℕ) → 0 < c → mark_at c s at ≡ Some p → Further (length s) at p
   unfolding mark_at
   mark-further c h e =
       let z = if_some (eqb (octet s at) c) (skip s (at + 1)) p e in
@@ -56,7 +56,7 @@ module _ (s : List ℕ) (at p : ℕ) where
       let k : skip s (at + 1) ≡ p = z.1 in
       (omega (arith, skip-from s (at + 1)), omega (arith, skip-to s (at + 1) (omega arith)))
 
-  pub label_onward : (w : List ℕ) → label_at w s at ≡ some p → Onward (length s) at p
+  pub label_onward : (w : List ℕ) → label_at w s at ≡ Some p → Onward (length s) at p
   unfolding label_at
   label_onward w e =
       let q = at + length w in
@@ -68,10 +68,10 @@ module _ (s : List ℕ) (at p : ℕ) where
 
 -- ---- parts
 module _ {A : Type 0} (s : List ℕ) where
-  read-after : (a : A) (p : ℕ) (r : Read A) → read_to a p ≡ some r → p ≡ r.after
+  read-after : (a : A) (p : ℕ) (r : Read A) → read_to a p ≡ Some r → p ≡ r.after
   read-after a p r e = ap (λ (x : Read A). x.after) (some_is e)
 
-  followed-onward : (at : ℕ) (a : A) (r : Read A) → followed s at a ≡ some r → Onward (length s) at r.after
+  followed-onward : (at : ℕ) (a : A) (r : Read A) → followed s at a ≡ Some r → Onward (length s) at r.after
   followed-onward at a r e =
       let z = bind-some (mark_at comma s at) (λ p. read_to a p) r e in
       let f = mark-further s at z.0 comma (omega arith) z.1.0 in
@@ -79,31 +79,31 @@ module _ {A : Type 0} (s : List ℕ) where
       (omega arith, omega arith)
 
   labelled_onward : (missing : A) (w : List ℕ) (at : ℕ) (f : ℕ → Option (Read A)) (r : Read A) → at ≤ length s
-      → ((p : ℕ) → f p ≡ some r → Onward (length s) p r.after)
-      → if_labelled missing at f (label_at w s at) ≡ some r → Onward (length s) at r.after
+      → ((p : ℕ) → f p ≡ Some r → Onward (length s) p r.after)
+      → if_labelled missing at f (label_at w s at) ≡ Some r → Onward (length s) at r.after
   labelled_onward missing w at f r h g e = go (label_at w s at) refl e
     where
-      go : (o : Option ℕ) → label_at w s at ≡ o → if_labelled missing at f o ≡ some r → Onward (length s) at r.after
-      go none q e = let z = read-after missing at r e in (omega arith, omega arith)
-      go (some p) q e = let l = label_onward s at p w q in let k = g p e in (omega arith, omega arith)
+      go : (o : Option ℕ) → label_at w s at ≡ o → if_labelled missing at f o ≡ Some r → Onward (length s) at r.after
+      go None q e = let z = read-after missing at r e in (omega arith, omega arith)
+      go (Some p) q e = let l = label_onward s at p w q in let k = g p e in (omega arith, omega arith)
 
 module _ (s : List ℕ) (at : ℕ) where
-  quoted-onward : (r : Read (Option (List ℕ))) → quoted_part s at ≡ some r → Onward (length s) at r.after
+  quoted-onward : (r : Read (Option (List ℕ))) → quoted_part s at ≡ Some r → Onward (length s) at r.after
   quoted-onward r e =
-      let z = bind-some (closing_at s at) (λ close. followed s (close + 1) (some (characters s at close))) r e in
+      let z = bind-some (closing_at s at) (λ close. followed s (close + 1) (Some (characters s at close))) r e in
       let c = closing-within s at z.0 z.1.0 in
-      let f = followed-onward s (z.0 + 1) (some (characters s at z.0)) r z.1.1 in
+      let f = followed-onward s (z.0 + 1) (Some (characters s at z.0)) r z.1.1 in
       (omega arith, omega arith)
 
-  truth-onward : (r : Read Bool) → truth_part s at ≡ some r → Onward (length s) at r.after
+  truth-onward : (r : Read Bool) → truth_part s at ≡ Some r → Onward (length s) at r.after
   truth-onward r e = go (starts (bytes "TRUE") (drop at s)) (starts (bytes "FALSE") (drop at s)) e
     where
-      go : (t u : Bool) → pick t (followed s (at + 4) true) (pick u (followed s (at + 5) false) none) ≡ some r → Onward (length s) at r.after
+      go : (t u : Bool) → pick t (followed s (at + 4) true) (pick u (followed s (at + 5) false) None) ≡ Some r → Onward (length s) at r.after
       go true u e = let f = followed-onward s (at + 4) true r e in (omega arith, omega arith)
       go false true e = let f = followed-onward s (at + 5) false r e in (omega arith, omega arith)
       go false false e = absurd (none_not e)
 
-  pub rule-onward : (r : Read (List ℕ)) → rule_at s at ≡ some r → Onward (length s) at r.after
+  pub rule-onward : (r : Read (List ℕ)) → rule_at s at ≡ Some r → Onward (length s) at r.after
   unfolding rule_at rule_from
   rule-onward r e =
       let z = bind-some (label_at (bytes "rule") s at) (λ p. rule_from s p) r e in
@@ -113,11 +113,11 @@ module _ (s : List ℕ) (at : ℕ) where
       let f = up_to z.0 y.0 (is_rule (part s z.0 (y.0 - z.0))) y.1.1 in
       (omega arith, omega arith)
     where
-      up_to : (p end : ℕ) (t : Bool) → pick t (followed s end (part s p (end - p))) none ≡ some r → Onward (length s) end r.after
+      up_to : (p end : ℕ) (t : Bool) → pick t (followed s end (part s p (end - p))) None ≡ Some r → Onward (length s) end r.after
       up_to p end true e = followed-onward s end (part s p (end - p)) r e
       up_to p end false e = absurd (none_not e)
 
-  pub value-onward : (v : ValueText) → value_at s at ≡ some v → (at ≤ v.brace) × (v.brace < length s)
+  pub value-onward : (v : ValueText) → value_at s at ≡ Some v → (at ≤ v.brace) × (v.brace < length s)
   unfolding value_at value_text_at
   value-onward v e =
       let z = bind-some (label_at (bytes "value") s at) (λ p. value_text_at s p) v e in
@@ -127,21 +127,21 @@ module _ (s : List ℕ) (at : ℕ) where
       let q = full (trimmed (part s z.0 (y.0 - z.0))) y.0 (eqb (length (trimmed (part s z.0 (y.0 - z.0)))) 0) y.1.1 in
       (omega arith, omega arith)
     where
-      full : (text : List ℕ) (brace : ℕ) (t : Bool) → pick t none (some (record { text = text; brace = brace })) ≡ some v → brace ≡ v.brace
+      full : (text : List ℕ) (brace : ℕ) (t : Bool) → pick t None (Some (record { text = text; brace = brace })) ≡ Some v → brace ≡ v.brace
       full text brace true e = absurd (none_not e)
       full text brace false e = ap (λ (x : ValueText). x.brace) (some_is e)
 
 module _ (s : List ℕ) (at : ℕ) (h : at ≤ length s) where
-  pub component-onward : (r : Read (Option (List ℕ))) → component_at s at ≡ some r → Onward (length s) at r.after
+  pub component-onward : (r : Read (Option (List ℕ))) → component_at s at ≡ Some r → Onward (length s) at r.after
   unfolding component_at
-  component-onward r e = labelled_onward s none (bytes "component") at (quoted_part s) r h (λ p f. quoted-onward s p r f) e
+  component-onward r e = labelled_onward s None (bytes "component") at (quoted_part s) r h (λ p f. quoted-onward s p r f) e
 
-  pub defaults-onward : (r : Read Bool) → defaults_at s at ≡ some r → Onward (length s) at r.after
+  pub defaults-onward : (r : Read Bool) → defaults_at s at ≡ Some r → Onward (length s) at r.after
   unfolding defaults_at
   defaults-onward r e = labelled_onward s true (bytes "useDefaultValues") at (truth_part s) r h (λ p f. truth-onward s p r f) e
 
 -- ---- the assertion
-values-further : (s : List ℕ) (c : Option (List ℕ)) (d : Bool) (at : ℕ) (r : Read Item) → values_at s c d at ≡ some r → Further (length s) at r.after
+values-further : (s : List ℕ) (c : Option (List ℕ)) (d : Bool) (at : ℕ) (r : Read Item) → values_at s c d at ≡ Some r → Further (length s) at r.after
 unfolding values_at
 values-further s c d at r e =
     let z = bind-some (rule_at s at) (with_rule s c d) r e in
@@ -151,7 +151,7 @@ values-further s c d at r e =
     let q : y.0.brace + 1 ≡ r.after = ap (λ (x : Read Item). x.after) (some_is y.1.1) in
     (omega arith, omega arith)
 
-parts-further : (s : List ℕ) (at : ℕ) (r : Read Item) → at ≤ length s → parts_at s at ≡ some r → Further (length s) at r.after
+parts-further : (s : List ℕ) (at : ℕ) (r : Read Item) → at ≤ length s → parts_at s at ≡ Some r → Further (length s) at r.after
 unfolding parts_at
 parts-further s at r h e =
     let z = bind-some (component_at s at) (with_component s) r e in
@@ -166,7 +166,7 @@ pub assertion_steps : (s : List ℕ) (at : ℕ) → assertion_at s at ≡ bind (
 unfolding assertion_at parts_at values_at
 assertion_steps s at = refl
 
-pub assertion-further : (s : List ℕ) (at : ℕ) (r : Read Item) → assertion_at s at ≡ some r → Further (length s) at r.after
+pub assertion-further : (s : List ℕ) (at : ℕ) (r : Read Item) → assertion_at s at ≡ Some r → Further (length s) at r.after
 assertion-further s at r e =
     let z = bind-some (mark_at open_brace s at) (parts_at s) r (sym (assertion_steps s at) ∙ e) in
     let m = mark-further s at z.0 open_brace (omega arith) z.1.0 in

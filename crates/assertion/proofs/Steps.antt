@@ -2,7 +2,7 @@
 use mathlib.Core.Path.{◌≡◌, refl, sym, ap, ◌∙◌}
 use mathlib.Core.Bool.{Bool, true, false, not, false≢true}
 use mathlib.Core.List.{List, [], ◌∷◌, ◌++◌}
-use mathlib.Core.Option.{none, some}
+use Rattle.std.specs.Prelude.{None, Some}
 use Prim.Native.Nat.{ℕ, suc, ◌≤◌, ◌<◌, ◌+◌, ◌-◌}
 use native.Mathlib.Omega.{arith}
 use borrow.Author.Tests.{eq-eqb, ne_eqb, not-true, not-false}
@@ -37,11 +37,11 @@ quotes_none s t a b e h = let z : 0 ≡ b - (a + 1) = omega arith in e ∙ ap (p
 -- ---- words, labels and marks
 module _ (w s : List ℕ) (at : ℕ) where
   module _ (u : Bool) (e : u ≡ starts w (drop at s)) where
-    pub word_none : not u ≡ true → none ≡ word_at w s at
+    pub word_none : not u ≡ true → None ≡ word_at w s at
     unfolding word_at
     word_none h = rw (sym e ∙ not-true u h)
 
-    pub word_is : not u ≡ false → some (at + length w) ≡ word_at w s at
+    pub word_is : not u ≡ false → Some (at + length w) ≡ word_at w s at
     unfolding word_at
     word_is h = rw (sym e ∙ not-false u h)
 
@@ -49,30 +49,30 @@ module _ (w s : List ℕ) (at : ℕ) where
     word_fits h = starts-fits w s at (sym e ∙ not-false u h)
 
   module _ (r : Place) (e : report_place r ≡ word_at w s at) where
-    pub label_none : r ≡ Place.Nowhere → none ≡ label_at w s at
+    pub label_none : r ≡ Place.Nowhere → None ≡ label_at w s at
     unfolding label_at
     label_none q = rw (word_not w s at r e q)
 
     module _ (p o : ℕ) (q : r ≡ Place.At p) (read : o ≡ octet s p) where
-      pub label_close : (o ≡ 32 → ⊥) → none ≡ label_at w s at
+      pub label_close : (o ≡ 32 → ⊥) → None ≡ label_at w s at
       unfolding label_at
       label_close n = let z = word_there w s at r e p q in rw (z.0, z.1, ← read, ne_eqb o 32 n)
 
-      pub label_is : (k : ℕ) → o ≡ 32 → k ≡ skip s p → some k ≡ label_at w s at
+      pub label_is : (k : ℕ) → o ≡ 32 → k ≡ skip s p → Some k ≡ label_at w s at
       unfolding label_at
       label_is k n f = let z = word_there w s at r e p q in rw (z.0, z.1, ← read, eq-eqb o 32 n, ← f)
 
-pub mark-past : (c : ℕ) (s : List ℕ) (at : ℕ) → 0 < c → length s ≤ at → none ≡ mark_at c s at
+pub mark-past : (c : ℕ) (s : List ℕ) (at : ℕ) → 0 < c → length s ≤ at → None ≡ mark_at c s at
 unfolding mark_at
 mark-past c s at h l =
     let n : octet s at ≡ c → ⊥ = λ e. let z : 0 ≡ octet s at = octet-past s at l in omega arith in
     rw (ne_eqb (octet s at) c n)
 
-pub mark-other : (c : ℕ) (s : List ℕ) (at : ℕ) → (octet s at ≡ c → ⊥) → none ≡ mark_at c s at
+pub mark-other : (c : ℕ) (s : List ℕ) (at : ℕ) → (octet s at ≡ c → ⊥) → None ≡ mark_at c s at
 unfolding mark_at
 mark-other c s at n = rw (ne_eqb _ _ n)
 
-pub mark-is : (c : ℕ) (s : List ℕ) (at k : ℕ) → octet s at ≡ c → k ≡ skip s (at + 1) → some k ≡ mark_at c s at
+pub mark-is : (c : ℕ) (s : List ℕ) (at k : ℕ) → octet s at ≡ c → k ≡ skip s (at + 1) → Some k ≡ mark_at c s at
 unfolding mark_at
 mark-is c s at k e f = rw (eq-eqb _ _ e, f)
 
@@ -89,7 +89,7 @@ not_no true = refl
 not_no false = refl
 
 module _ (s : List ℕ) (at i inner : ℕ) (quoted : Bool) (v : Braces s at i inner quoted) where
-  pub brace-none : length s ≤ i → none ≡ brace_at s at
+  pub brace-none : length s ≤ i → None ≡ brace_at s at
   unfolding brace_from
   brace-none h = rw (rest-none s i h) at v.1
 
@@ -120,7 +120,7 @@ module _ (s : List ℕ) (at i inner : ℕ) (quoted : Bool) (v : Braces s at i in
           brace-other m = (omega arith, rw plain (rw (ne_eqb _ _ n, ne_eqb _ _ o, ne_eqb _ _ m) at brace-plain))
 
           module _ (c : octet s i ≡ 125) where
-            pub brace-found : inner ≡ 0 → some i ≡ brace_at s at
+            pub brace-found : inner ≡ 0 → Some i ≡ brace_at s at
             unfolding brace_from
             brace-found e = rw (ne_eqb _ _ n, ne_eqb _ _ o, eq-eqb _ _ c, eq-eqb inner 0 e) at brace-plain
 
@@ -154,7 +154,7 @@ module _ (t : List ℕ) (n : ℕ) (v : Trims t n) where
 
 -- ---- the comma
 module _ (s : List ℕ) (at i : ℕ) (inv : comma_from (drop i s) i ≡ comma_from (drop at s) at) where
-  pub comma-none : length s ≤ i → none ≡ comma_from (drop at s) at
+  pub comma-none : length s ≤ i → None ≡ comma_from (drop at s) at
   unfolding comma_from
   comma-none h = rw (rest-none s i h) at inv
 
@@ -162,7 +162,7 @@ module _ (s : List ℕ) (at i : ℕ) (inv : comma_from (drop i s) i ≡ comma_fr
     comma-here : comma_from (octet s i ∷ drop (i + 1) s) i ≡ comma_from (drop at s) at
     comma-here = sym (ap (λ (l : List ℕ). comma_from l i) (rest-cons s i h)) ∙ inv
 
-    pub comma-found : octet s i ≡ 44 → some i ≡ comma_from (drop at s) at
+    pub comma-found : octet s i ≡ 44 → Some i ≡ comma_from (drop at s) at
     unfolding comma_from
     comma-found e = rw (eq-eqb _ _ e) at comma-here
 
@@ -190,7 +190,7 @@ module _ (t : List ℕ) (b : ℕ) (u : Bool) (read : b ≡ octet t 0) (asked : u
 
 -- ---- `component`
 module _ (s : List ℕ) (at : ℕ) (r : Place) (e : report_place r ≡ closing_at s at) where
-  pub quoted_open : r ≡ Place.Nowhere → none ≡ quoted_part s at
+  pub quoted_open : r ≡ Place.Nowhere → None ≡ quoted_part s at
   quoted_open q = rw (at_none r e q)
 
   module _ (close : ℕ) (q : r ≡ Place.At close) where
@@ -198,15 +198,15 @@ module _ (s : List ℕ) (at : ℕ) (r : Place) (e : report_place r ≡ closing_a
     quote_within = closing-within s at close (at_place r e close q)
 
     module _ (m : Place) (f : report_place m ≡ mark_at 44 s (close + 1)) where
-      pub quoted-alone : m ≡ Place.Nowhere → none ≡ quoted_part s at
+      pub quoted-alone : m ≡ Place.Nowhere → None ≡ quoted_part s at
       quoted-alone g = rw (at_place r e close q, at_none m f g)
 
-      pub quoted-is : (p : ℕ) → m ≡ Place.At p → read_to (some (characters s at close)) p ≡ quoted_part s at
+      pub quoted-is : (p : ℕ) → m ≡ Place.At p → read_to (Some (characters s at close)) p ≡ quoted_part s at
       quoted-is p g = rw (at_place r e close q, at_place m f p g)
 
 module _ (s : List ℕ) (at : ℕ) (r : Place) where
   module _ (e : report_place r ≡ label_at (bytes "component") s at) where
-    pub component_missing : r ≡ Place.Nowhere → read_to none at ≡ component_at s at
+    pub component_missing : r ≡ Place.Nowhere → read_to None at ≡ component_at s at
     unfolding component_at
     component_missing q = rw (at_none r e q)
 
@@ -216,7 +216,7 @@ module _ (s : List ℕ) (at : ℕ) (r : Place) where
 
   -- ---- `useDefaultValues`
   module _ (d : Bool) (e : report_place r ≡ mark_at 44 s at) where
-    pub truth-alone : r ≡ Place.Nowhere → none ≡ followed s at d
+    pub truth-alone : r ≡ Place.Nowhere → None ≡ followed s at d
     truth-alone q = rw (at_none r e q)
 
     pub truth-followed : (p : ℕ) → r ≡ Place.At p → read_to d p ≡ followed s at d
@@ -230,7 +230,7 @@ module _ (s : List ℕ) (at : ℕ) (r : Place) where
       pub truth_false : (p : ℕ) (x : DefaultsPart) → u ≡ Place.At p → report_defaults_part x ≡ followed s p false → report_defaults_part x ≡ truth_part s at
       truth_false p x h f = let z = word_there (bytes "FALSE") s at u g p h in rw (word_not (bytes "TRUE") s at r e q, z.0, z.1) f
 
-      pub truth-none : u ≡ Place.Nowhere → none ≡ truth_part s at
+      pub truth-none : u ≡ Place.Nowhere → None ≡ truth_part s at
       truth-none h = rw (word_not (bytes "TRUE") s at r e q, word_not (bytes "FALSE") s at u g h)
 
   module _ (e : report_place r ≡ label_at (bytes "useDefaultValues") s at) where
@@ -244,7 +244,7 @@ module _ (s : List ℕ) (at : ℕ) (r : Place) where
 
   -- ---- `value`
   module _ (e : report_place r ≡ brace_at s at) where
-    pub value_open : r ≡ Place.Nowhere → none ≡ value_text_at s at
+    pub value_open : r ≡ Place.Nowhere → None ≡ value_text_at s at
     unfolding value_text_at
     value_open q = rw (at_none r e q)
 
@@ -259,7 +259,7 @@ module _ (s : List ℕ) (at : ℕ) (r : Place) where
         pub value-fits : n ≤ brace - at
         value-fits = (trimmed-part s at brace n long-part).0
 
-        pub value-empty : n ≡ 0 → none ≡ value_text_at s at
+        pub value-empty : n ≡ 0 → None ≡ value_text_at s at
         unfolding value_text_at
         value-empty z = rw (at_place r e brace q, ← long-part, eq-eqb n 0 z)
 
@@ -268,7 +268,7 @@ module _ (s : List ℕ) (at : ℕ) (r : Place) where
         value-is z = rw (at_place r e brace q, ← long-part, ne_eqb n 0 z, (trimmed-part s at brace n long-part).1)
 
   module _ (e : report_place r ≡ label_at (bytes "value") s at) where
-    pub value-bare : r ≡ Place.Nowhere → none ≡ value_at s at
+    pub value-bare : r ≡ Place.Nowhere → None ≡ value_at s at
     unfolding value_at
     value-bare q = rw (at_none r e q)
 
@@ -279,7 +279,7 @@ module _ (s : List ℕ) (at : ℕ) (r : Place) where
 -- ---- `rule`
 module _ (s : List ℕ) (at : ℕ) (r : Place) where
   module _ (e : report_place r ≡ comma_from (drop at s) at) where
-    pub rule_endless : r ≡ Place.Nowhere → none ≡ rule_from s at
+    pub rule_endless : r ≡ Place.Nowhere → None ≡ rule_from s at
     unfolding rule_from
     rule_endless q = rw (at_none r e q)
 
@@ -291,12 +291,12 @@ module _ (s : List ℕ) (at : ℕ) (r : Place) where
         is-rule : is_rule (part s at (end - at)) ≡ u
         is-rule = sym (rule ∙ ap is_rule cut)
 
-        pub rule-other : not u ≡ true → none ≡ rule_from s at
+        pub rule-other : not u ≡ true → None ≡ rule_from s at
         unfolding rule_from
         rule-other h = rw (at_place r e end q, is-rule ∙ not-true u h)
 
         module _ (h : not u ≡ false) (m : Place) (f : report_place m ≡ mark_at 44 s end) where
-          pub rule-alone : m ≡ Place.Nowhere → none ≡ rule_from s at
+          pub rule-alone : m ≡ Place.Nowhere → None ≡ rule_from s at
           unfolding rule_from
           rule-alone g = rw (at_place r e end q, is-rule ∙ not-false u h, at_none m f g)
 
@@ -305,7 +305,7 @@ module _ (s : List ℕ) (at : ℕ) (r : Place) where
           rule-is p g = rw (at_place r e end q, is-rule ∙ not-false u h, at_place m f p g)
 
   module _ (e : report_place r ≡ label_at (bytes "rule") s at) where
-    pub rule-bare : r ≡ Place.Nowhere → none ≡ rule_at s at
+    pub rule-bare : r ≡ Place.Nowhere → None ≡ rule_at s at
     unfolding rule_at
     rule-bare q = rw (at_none r e q)
 
@@ -318,17 +318,17 @@ pub brace-before : (s : List ℕ) (p : ℕ) (y : ValuePart) (v w brace : ℕ) �
 brace-before s p y v w brace f g = (value-onward s p (record { text = between s v w; brace = brace }) (sym f ∙ ap (report_value_part s) g)).1
 
 module _ (s : List ℕ) (c : Component) (d : Bool) (at : ℕ) (x : RulePart) (e : report_rule_part s x ≡ rule_at s at) where
-  pub values_no_rule : x ≡ RulePart.Bad → none ≡ values_at s (component_of s c) d at
+  pub values_no_rule : x ≡ RulePart.Bad → None ≡ values_at s (component_of s c) d at
   unfolding values_at
-  values_no_rule q = let z : rule_at s at ≡ none = sym e ∙ ap (report_rule_part s) q in rw z
+  values_no_rule q = let z : rule_at s at ≡ None = sym e ∙ ap (report_rule_part s) q in rw z
 
   module _ (a b p : ℕ) (q : x ≡ RulePart.Of a b p) (y : ValuePart) (f : report_value_part s y ≡ value_at s p) where
     rule-read : rule_at s at ≡ report_rule_part s (RulePart.Of a b p)
     rule-read = sym e ∙ ap (report_rule_part s) q
 
-    pub values-no_value : y ≡ ValuePart.Bad → none ≡ values_at s (component_of s c) d at
+    pub values-no_value : y ≡ ValuePart.Bad → None ≡ values_at s (component_of s c) d at
     unfolding values_at
-    values-no_value g = let z : value_at s p ≡ none = sym f ∙ ap (report_value_part s) g in rw (rule-read, z)
+    values-no_value g = let z : value_at s p ≡ None = sym f ∙ ap (report_value_part s) g in rw (rule-read, z)
 
     module _ (v w brace : ℕ) (g : y ≡ ValuePart.Of v w brace) where
       value_read : value_at s p ≡ report_value_part s (ValuePart.Of v w brace)
@@ -340,24 +340,24 @@ module _ (s : List ℕ) (c : Component) (d : Bool) (at : ℕ) (x : RulePart) (e 
 
 module _ (s : List ℕ) (at : ℕ) where
   module _ (x : ComponentPart) (e : report_component_part s x ≡ component_at s at) where
-    pub parts_no_component : x ≡ ComponentPart.Bad → none ≡ parts_at s at
+    pub parts_no_component : x ≡ ComponentPart.Bad → None ≡ parts_at s at
     unfolding parts_at
-    parts_no_component q = let z : component_at s at ≡ none = sym e ∙ ap (report_component_part s) q in rw z
+    parts_no_component q = let z : component_at s at ≡ None = sym e ∙ ap (report_component_part s) q in rw z
 
     module _ (c : Component) (p : ℕ) (q : x ≡ ComponentPart.Of c p) (y : DefaultsPart) (f : report_defaults_part y ≡ defaults_at s p) where
       component-read : component_at s at ≡ report_component_part s (ComponentPart.Of c p)
       component-read = sym e ∙ ap (report_component_part s) q
 
-      pub parts_no_defaults : y ≡ DefaultsPart.Bad → none ≡ parts_at s at
+      pub parts_no_defaults : y ≡ DefaultsPart.Bad → None ≡ parts_at s at
       unfolding parts_at
-      parts_no_defaults g = let z : defaults_at s p ≡ none = sym f ∙ ap report_defaults_part g in rw (component-read, z)
+      parts_no_defaults g = let z : defaults_at s p ≡ None = sym f ∙ ap report_defaults_part g in rw (component-read, z)
 
       pub parts_are : (d : Bool) (k : ℕ) (r : Assertion) → y ≡ DefaultsPart.Of d k → report_assertion s r ≡ values_at s (component_of s c) d k → report_assertion s r ≡ parts_at s at
       unfolding parts_at
       parts_are d k r g h = let z : defaults_at s p ≡ report_defaults_part (DefaultsPart.Of d k) = sym f ∙ ap report_defaults_part g in rw (component-read, z) h
 
   module _ (r : Place) (e : report_place r ≡ mark_at 123 s at) where
-    pub assertion_open : r ≡ Place.Nowhere → none ≡ assertion_at s at
+    pub assertion_open : r ≡ Place.Nowhere → None ≡ assertion_at s at
     assertion_open q = rw (assertion_steps s at, at_none r e q)
 
     pub assertion-is : (p : ℕ) (x : Assertion) → r ≡ Place.At p → report_assertion s x ≡ parts_at s p → report_assertion s x ≡ assertion_at s at

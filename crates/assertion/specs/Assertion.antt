@@ -1,7 +1,7 @@
 -- "The assertion has optional `component` (quoted, `""` for a quote), optional `useDefaultValues` (TRUE or FALSE; TRUE if missing), `rule`,
 -- `value`, in that order."
 use Rattle.std.specs.Prelude.{ℕ, ◌+◌, ◌-◌, Bool, true, false, List, [], ◌∷◌, drop, eqb}
-use Rattle.std.proofs.Math.Option.{Option, none, some}
+use Rattle.std.specs.Prelude.{Option, None, Some}
 use Rattle.octets.specs.Pick.{pick, both, either, ◌>>=◌}
 use Rattle.octets.specs.Octets.{part, every, bytes}
 use Rattle.octets.specs.Text.{is_letter, is_alnum, starts}
@@ -17,7 +17,7 @@ pub record Read (A : Type 0) : Type 0 where
   pub after : ℕ
 
 abbrev pub read_to : {A : Type 0} → A → ℕ → Option (Read A)
-read_to a after = some (record { is = a; after = after })
+read_to a after = Some (record { is = a; after = after })
 
 -- a part that a comma and the next part follow
 abbrev pub followed : {A : Type 0} → List ℕ → ℕ → A → Option (Read A)
@@ -27,24 +27,24 @@ followed s at a = do
 
 -- a part that may be missing: f reads it behind its label
 abbrev pub if_labelled : {A : Type 0} → A → ℕ → (ℕ → Option (Read A)) → Option ℕ → Option (Read A)
-if_labelled missing at f none = read_to missing at
-if_labelled missing at f (some p) = f p
+if_labelled missing at f None = read_to missing at
+if_labelled missing at f (Some p) = f p
 
 -- ---- `component`
 abbrev pub quoted_part : List ℕ → ℕ → Option (Read (Option (List ℕ)))
 quoted_part s at = do
   close ← closing_at s at
-  followed s (close + 1) (some (characters s at close))
+  followed s (close + 1) (Some (characters s at close))
 
 unfoldable pub component_at : List ℕ → ℕ → Option (Read (Option (List ℕ)))
-component_at s at = if_labelled none at (quoted_part s) (label_at (bytes "component") s at)
+component_at s at = if_labelled None at (quoted_part s) (label_at (bytes "component") s at)
 
 -- ---- `useDefaultValues`
 abbrev pub truth_part : List ℕ → ℕ → Option (Read Bool)
 truth_part s at =
     pick (starts (bytes "TRUE") (drop at s)) (followed s (at + 4) true)
     (pick (starts (bytes "FALSE") (drop at s)) (followed s (at + 5) false)
-    none)
+    None)
 
 unfoldable pub defaults_at : List ℕ → ℕ → Option (Read Bool)
 defaults_at s at = if_labelled true at (truth_part s) (label_at (bytes "useDefaultValues") s at)
@@ -62,14 +62,14 @@ is_rule t = either (is_rule_name t) (is_dotted t)
 
 -- the place of the first comma of a text that stands at a place
 unfoldable pub comma_from : List ℕ → ℕ → Option ℕ
-comma_from [] at = none
-comma_from (b ∷ s) at = let r = comma_from s (at + 1) in pick (eqb b comma) (some at) r
+comma_from [] at = None
+comma_from (b ∷ s) at = let r = comma_from s (at + 1) in pick (eqb b comma) (Some at) r
 
 unfoldable pub rule_at : List ℕ → ℕ → Option (Read (List ℕ))
 rule_at s at = do
   p ← label_at (bytes "rule") s at
   end ← comma_from (drop p s) p
-  pick (is_rule (part s p (end - p))) (followed s end (part s p (end - p))) none
+  pick (is_rule (part s p (end - p))) (followed s end (part s p (end - p))) None
 
 -- ---- `value`, which the closing brace follows
 unfoldable pub value_at : List ℕ → ℕ → Option ValueText

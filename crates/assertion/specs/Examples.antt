@@ -1,6 +1,6 @@
 -- Computed examples.
 use Rattle.std.specs.Prelude.{◌≡◌, refl, Bool, true, false, [], ◌∷◌, map}
-use Rattle.std.proofs.Math.Option.{Option, none, some}
+use Rattle.std.specs.Prelude.{Option, None, Some}
 use Prim.Native.String.{String}
 use Rattle.octets.specs.Pick.{is_some}
 use Rattle.octets.specs.Octets.{bytes}
@@ -13,11 +13,11 @@ read s = assertion_at (bytes s) 0
 
 -- the contents of an assertion, and the place after it
 full : read "{ component \"a\"\"b\",useDefaultValues FALSE, rule 2.5.13.14,value  3 }, x"
-    ≡ some (record { is = record { component = some (bytes "a\"b"); defaults = false; rule = bytes "2.5.13.14"; value = bytes "3" }; after = 68 })
+    ≡ Some (record { is = record { component = Some (bytes "a\"b"); defaults = false; rule = bytes "2.5.13.14"; value = bytes "3" }; after = 68 })
 unfolding assertion_computes read
 full = refl
 
-least : read "{rule x,value 1}" ≡ some (record { is = record { component = none; defaults = true; rule = bytes "x"; value = bytes "1" }; after = 16 })
+least : read "{rule x,value 1}" ≡ Some (record { is = record { component = None; defaults = true; rule = bytes "x"; value = bytes "1" }; after = 16 })
 unfolding assertion_computes read
 least = refl
 

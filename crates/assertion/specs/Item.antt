@@ -1,6 +1,6 @@
 -- An assertion as a filter holds it.
 use Rattle.std.specs.Prelude.{ℕ, Bool, List}
-use Rattle.std.proofs.Math.Option.{Option}
+use Rattle.std.specs.Prelude.{Option}
 
 -- its reference or none, useDefaultValues, the text of its rule, its value text
 pub record Item : Type 0 where

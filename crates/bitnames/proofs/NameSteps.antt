@@ -1,7 +1,7 @@
 -- The number of a bit by its name: one lemma for each return and each turn of the loop.
 use mathlib.Core.Path.{◌≡◌, sym, ap, ap₂, ◌∙◌}
 use mathlib.Core.Bool.{Bool, true, false}
-use mathlib.Core.Option.{Option, none, some}
+use Rattle.std.specs.Prelude.{Option, None, Some}
 use mathlib.Core.List.{List}
 use Prim.Native.Nat.{ℕ, suc, ◌≤◌, ◌<◌, ◌+◌, ◌-◌}
 use native.Mathlib.Omega.{arith}
@@ -45,24 +45,24 @@ module _ (t : List ℕ) (row : ℕ) (x : List ℕ) where
       ap₂ (λ (i k : ℕ). number_of (bits_from t (table_rows t) i k) x) a b
 
   module _ (n j : ℕ) (inv : left n j ≡ number_of (names_after t row) x) where
-    pub number-none : n ≤ j → none ≡ number_of (names_after t row) x
+    pub number-none : n ≤ j → None ≡ number_of (names_after t row) x
     unfolding bits_from number_of
     number-none h = sym (let z : n - j ≡ 0 = omega arith in ap (λ (k : ℕ). number_of (bits_from t (table_rows t) (row + 1 + j) k) x) z) ∙ inv
 
     module _ (l : j < n) (p : ℕ) (u : Bool) (place : p ≡ place_at t (row + 1 + j)) (told : u ≡ same (unfilled (name_at t p)) x) where
-      one : left n j ≡ pick u (some (bit_number_at t p)) (left n (j + 1))
+      one : left n j ≡ pick u (Some (bit_number_at t p)) (left n (j + 1))
       unfolding bits_from number_of
       one =
           let z : n - j ≡ suc (n - (j + 1)) = omega arith in
           let a : row + 1 + j + 1 ≡ row + 1 + (j + 1) = omega arith in
           ap (λ (k : ℕ). number_of (bits_from t (table_rows t) (row + 1 + j) k) x) z
-          ∙ ap (λ (i : ℕ). pick (same (unfilled (name_at t (place_at t (row + 1 + j)))) x) (some (bit_number_at t (place_at t (row + 1 + j))))
+          ∙ ap (λ (i : ℕ). pick (same (unfilled (name_at t (place_at t (row + 1 + j)))) x) (Some (bit_number_at t (place_at t (row + 1 + j))))
           (number_of (bits_from t (table_rows t) i (n - (j + 1))) x)) a
-          ∙ ap (λ (q : ℕ). pick (same (unfilled (name_at t q)) x) (some (bit_number_at t q)) (left n (j + 1))) (sym place)
-          ∙ ap (λ (y : Bool). pick y (some (bit_number_at t p)) (left n (j + 1))) (sym told)
+          ∙ ap (λ (q : ℕ). pick (same (unfilled (name_at t q)) x) (Some (bit_number_at t q)) (left n (j + 1))) (sym place)
+          ∙ ap (λ (y : Bool). pick y (Some (bit_number_at t p)) (left n (j + 1))) (sym told)
 
-      pub number-found : (o v : ℕ) → u ≡ true → o ≡ bit_number_at t p → v ≡ o → some v ≡ number_of (names_after t row) x
-      number-found o v h q e = ap some (e ∙ q) ∙ sym (one ∙ ap (λ (y : Bool). pick y (some (bit_number_at t p)) (left n (j + 1))) h) ∙ inv
+      pub number-found : (o v : ℕ) → u ≡ true → o ≡ bit_number_at t p → v ≡ o → Some v ≡ number_of (names_after t row) x
+      number-found o v h q e = ap Some (e ∙ q) ∙ sym (one ∙ ap (λ (y : Bool). pick y (Some (bit_number_at t p)) (left n (j + 1))) h) ∙ inv
 
       pub number_again : u ≡ false → left n (j + 1) ≡ number_of (names_after t row) x
-      number_again h = sym (one ∙ ap (λ (y : Bool). pick y (some (bit_number_at t p)) (left n (j + 1))) h) ∙ inv
+      number_again h = sym (one ∙ ap (λ (y : Bool). pick y (Some (bit_number_at t p)) (left n (j + 1))) h) ∙ inv

@@ -1,7 +1,7 @@
 -- The bits that a list names: one lemma for each return and each turn of the loop.
 use mathlib.Core.Path.{◌≡◌, refl, sym, ap, ap₂, ◌∙◌, subst}
 use mathlib.Core.Bool.{Bool, true, false, not}
-use mathlib.Core.Option.{Option, none, some}
+use Rattle.std.specs.Prelude.{Option, None, Some}
 use mathlib.Core.List.{List, [], ◌∷◌, ◌++◌, map, append_assoc, append-nil}
 use Prim.Native.Nat.{ℕ, zero, suc, ◌≤◌, ◌<◌, ◌+◌, ◌-◌, ◌/◌, ◌%◌, ◌^◌}
 use native.Mathlib.Omega.{arith}
@@ -74,8 +74,8 @@ texts_first s at e h q =
     go false r = let l = ltb-false e (length s) r in rw (lt-leb (e + 1) (length s) (omega arith))
 
 abbrev joined : List ℕ → Option (List ℕ) → Option (List ℕ)
-joined ds none = none
-joined ds (some ns) = some (ds ++ ns)
+joined ds None = None
+joined ds (Some ns) = Some (ds ++ ns)
 
 -- the numbers of the texts before place `at` are found, and the set has them
 pub record Gathering (names : List NamedBit) (s : List ℕ) (at set : ℕ) : Type 0 where
@@ -90,34 +90,34 @@ module _ (names : List NamedBit) (s : List ℕ) where
   gather_start = record { found = []; bits = λ i h. bit_none i; rest = same (numbers_of names (texts_from s 0)); inside = omega arith }
     where
       same : (o : Option (List ℕ)) → joined [] o ≡ o
-      same none = refl
-      same (some ns) = refl
+      same None = refl
+      same (Some ns) = refl
 
   module _ (at set : ℕ) (inv : Gathering names s at set) where
-    pub gather_done : length s < at → some (mask_bits set) ≡ bits_of_texts names (texts_from s 0)
+    pub gather_done : length s < at → Some (mask_bits set) ≡ bits_of_texts names (texts_from s 0)
     unfolding bits_of_texts texts_from numbers_of
     gather_done h =
-        ap some (bits_told 64 0 set inv.found (λ i l. let z : i ≡ 0 + i = omega arith in inv.bits i l ∙ ap (λ (y : ℕ). is_in y inv.found) z))
-        ∙ ap (λ (o : Option (List ℕ)). bind o (λ ns. some (bits_listed 64 0 ns))) (ap some (sym (append-nil inv.found))
+        ap Some (bits_told 64 0 set inv.found (λ i l. let z : i ≡ 0 + i = omega arith in inv.bits i l ∙ ap (λ (y : ℕ). is_in y inv.found) z))
+        ∙ ap (λ (o : Option (List ℕ)). bind o (λ ns. Some (bits_listed 64 0 ns))) (ap Some (sym (append-nil inv.found))
         ∙ sym (ap (joined inv.found) none_left) ∙ inv.rest)
       where
-        none_left : numbers_of names (texts_from s at) ≡ some []
+        none_left : numbers_of names (texts_from s at) ≡ Some []
         none_left = rw (lt-leb at (length s) h)
 
     module _ (h : at ≤ length s) (e start : ℕ) (r : Number) (parts : parted (drop at s) ≡ part s at (e - at) ∷ parted_behind s e)
         (text : part s start (e - start) ≡ after_spaces (part s at (e - at))) (told : report_number r ≡ number_of names (part s start (e - start))) where
-      first : numbers_of names (texts_from s at) ≡ bind (report_number r) (λ n. bind (numbers_of names (texts_from s (e + 1))) (λ ns. some (n ∷ ns)))
+      first : numbers_of names (texts_from s at) ≡ bind (report_number r) (λ n. bind (numbers_of names (texts_from s (e + 1))) (λ ns. Some (n ∷ ns)))
       unfolding numbers_of
       first =
           ap (numbers_of names) (texts_first s at e h parts)
-          ∙ ap (λ (o : Option ℕ). bind o (λ n. bind (numbers_of names (texts_from s (e + 1))) (λ ns. some (n ∷ ns)))) (sym (told ∙ ap (number_of names) text))
+          ∙ ap (λ (o : Option ℕ). bind o (λ n. bind (numbers_of names (texts_from s (e + 1))) (λ ns. Some (n ∷ ns)))) (sym (told ∙ ap (number_of names) text))
 
-      pub gather_unknown : r ≡ Number.No → none ≡ bits_of_texts names (texts_from s 0)
+      pub gather_unknown : r ≡ Number.No → None ≡ bits_of_texts names (texts_from s 0)
       unfolding bits_of_texts
       gather_unknown q =
-          ap (λ (o : Option (List ℕ)). bind o (λ ns. some (bits_listed 64 0 ns)))
+          ap (λ (o : Option (List ℕ)). bind o (λ ns. Some (bits_listed 64 0 ns)))
           (sym (ap (joined inv.found) (first
-          ∙ ap (λ (y : Number). bind (report_number y) (λ n. bind (numbers_of names (texts_from s (e + 1))) (λ ns. some (n ∷ ns)))) q)) ∙ inv.rest)
+          ∙ ap (λ (y : Number). bind (report_number y) (λ n. bind (numbers_of names (texts_from s (e + 1))) (λ ns. Some (n ∷ ns)))) q)) ∙ inv.rest)
 
       pub gather_next : (n bit : ℕ) → r ≡ Number.Of n → bit ≡ 2 ^ n → e ≤ length s → Gathering names s (e + 1) (bit_or set bit)
       unfolding is_in
@@ -136,28 +136,28 @@ module _ (names : List NamedBit) (s : List ℕ) where
               ∙ or (is_in i inv.found) (eqb i n)
               ∙ sym (in_append i inv.found (n ∷ []))
 
-          glue : (o : Option (List ℕ)) → joined (inv.found ++ (n ∷ [])) o ≡ joined inv.found (bind o (λ ns. some (n ∷ ns)))
-          glue none = refl
-          glue (some ns) = ap some (append_assoc inv.found (n ∷ []) ns)
+          glue : (o : Option (List ℕ)) → joined (inv.found ++ (n ∷ [])) o ≡ joined inv.found (bind o (λ ns. Some (n ∷ ns)))
+          glue None = refl
+          glue (Some ns) = ap Some (append_assoc inv.found (n ∷ []) ns)
 
           more : (o : Option (List ℕ)) → numbers_of names (texts_from s (e + 1)) ≡ o → joined (inv.found ++ (n ∷ [])) o ≡ numbers_of names (texts_from s 0)
           more o z =
               glue o
-              ∙ ap (λ (x : Option (List ℕ)). joined inv.found (bind x (λ ns. some (n ∷ ns)))) (sym z)
+              ∙ ap (λ (x : Option (List ℕ)). joined inv.found (bind x (λ ns. Some (n ∷ ns)))) (sym z)
               ∙ sym (ap (joined inv.found) (first
-              ∙ ap (λ (y : Number). bind (report_number y) (λ m. bind (numbers_of names (texts_from s (e + 1))) (λ ns. some (m ∷ ns)))) q))
+              ∙ ap (λ (y : Number). bind (report_number y) (λ m. bind (numbers_of names (texts_from s (e + 1))) (λ ns. Some (m ∷ ns)))) q))
               ∙ inv.rest
 
 -- ---- the whole text
 module _ (names : List NamedBit) (text : List ℕ) (u : Bool) (told : u ≡ in_braces text) where
-  pub list-none : not u ≡ true → none ≡ listed_bits names text
+  pub list-none : not u ≡ true → None ≡ listed_bits names text
   unfolding listed_bits listed
   list-none h = rw (sym told ∙ not-true u h)
 
   module _ (h : not u ≡ false) (s : List ℕ) (is : s ≡ inside text) where
-    pub list-empty : length s ≡ 0 → some (mask_bits 0) ≡ listed_bits names text
+    pub list-empty : length s ≡ 0 → Some (mask_bits 0) ≡ listed_bits names text
     unfolding listed_bits listed numbers_of
-    list-empty e = rw (sym told ∙ not-false u h, ← is, eq-eqb (length s) 0 e) (ap some (bits_told 64 0 0 [] none_in))
+    list-empty e = rw (sym told ∙ not-false u h, ← is, eq-eqb (length s) 0 e) (ap Some (bits_told 64 0 0 [] none_in))
       where
         none_in : (i : ℕ) → i < 64 → bit_of 0 i ≡ is_in (0 + i) []
         none_in i l = bit_none i ∙ sym (none_of_lem (0 + i))

@@ -1,7 +1,7 @@
 -- An answer as two numbers: what it is, and a count, which is 0 with a refusal. The first is 0 for done, a refusal's number, a truth's: 16 FALSE,
 -- 17 TRUE, 18 Undefined, or why nothing was quoted or escaped: 32 an empty text, 33 not UTF-8, 34 too little room.
 use Rattle.std.specs.Prelude.{ℕ, Bool, not, List, length, eqb}
-use Rattle.std.proofs.Math.Option.{Option, none, some}
+use Rattle.std.specs.Prelude.{Option, None, Some}
 use Rattle.octets.specs.Octets.{part}
 use Rattle.types.specs.Check.{TableReport}
 use Rattle.value.specs.Check.{ValueReport}
@@ -79,10 +79,10 @@ of_escaping e = written_seen (of_escaped e.answer) e.memory
 
 -- ---- the answer to a filter: the count is the tests made
 abbrev pub truth_number : ℕ → Option Truth → ℕ
-truth_number refusal none = refusal
-truth_number refusal (some FALSE) = 16
-truth_number refusal (some TRUE) = 17
-truth_number refusal (some UNDEFINED) = 18
+truth_number refusal None = refusal
+truth_number refusal (Some FALSE) = 16
+truth_number refusal (Some TRUE) = 17
+truth_number refusal (Some UNDEFINED) = 18
 
 abbrev pub of_report : Report → CAnswer
 of_report r = numbers (truth_number r.refusal r.truth) r.tests

@@ -2,7 +2,8 @@
 use mathlib.Core.Path.{◌≡◌, refl, sym, ap, ap₂, ◌∙◌}
 use mathlib.Core.Bool.{Bool, true, false}
 use mathlib.Core.Logic.{⊎_elim}
-use mathlib.Core.Option.{Option, none, some, none-ne-some}
+use Rattle.std.specs.Prelude.{Option, None, Some}
+use Rattle.std.proofs.lemmas.Option.{none-some}
 use mathlib.Core.List.{List, [], ◌∷◌, ◌++◌, append_assoc}
 use Prim.Native.Nat.{ℕ, zero, suc, ◌≤◌, ◌<◌, ◌+◌, ◌-◌}
 use native.Mathlib.Omega.{arith}
@@ -56,8 +57,8 @@ passes t k due gs (p ∷ ps) =
     (both (eqb (stands_as (kind_at t p)) k) (both (formed t p) (both (new_after t k gs p) follower)))
 
 abbrev pub goes : List ℕ → ℕ → ℕ → List ℕ → Option (List ℕ) → Bool
-goes t k due gs none = false
-goes t k due gs (some ps) = passes t k due gs ps
+goes t k due gs None = false
+goes t k due gs (Some ps) = passes t k due gs ps
 
 pub by-test : {P : Type 0} (x : Bool) → (x ≡ true → P) → (x ≡ false → P) → P
 by-test true f g = f refl
@@ -271,14 +272,14 @@ pub record View (m : ℕ) (t : List ℕ) (at p : ℕ) (ps : List ℕ) : Type 0 w
   pub place : p ≡ at
   pub sized : row_size (kind_at t at) ≡ 0 → ⊥
   pub inside : at + row_size (kind_at t at) ≤ length t
-  pub rest : rows_from left t (at + row_size (kind_at t at)) ≡ some ps
+  pub rest : rows_from left t (at + row_size (kind_at t at)) ≡ Some ps
 
-rows_view : (m : ℕ) (t : List ℕ) (at p : ℕ) (ps : List ℕ) → rows_from m t at ≡ some (p ∷ ps) → View m t at p ps
+rows_view : (m : ℕ) (t : List ℕ) (at p : ℕ) (ps : List ℕ) → rows_from m t at ≡ Some (p ∷ ps) → View m t at p ps
 unfolding rows_from
 rows_view zero t at p ps e = absurd (go (ltb at (length t)) e)
   where
-    go : (x : Bool) → ◌≡◌ {A = Option (List ℕ)} (pick x none (some [])) (some (p ∷ ps)) → ⊥
-    go true q = none-ne-some (p ∷ ps) q
+    go : (x : Bool) → ◌≡◌ {A = Option (List ℕ)} (pick x None (Some [])) (Some (p ∷ ps)) → ⊥
+    go true q = none-some (p ∷ ps) q
     go false q = let z : 0 ≡ length (p ∷ ps) = ap (λ (o : Option (List ℕ)). length (or_none o)) q in omega arith
 rows_view (suc m) t at p ps e =
     go (ltb at (length t)) refl (eqb (row_size (kind_at t at)) 0) refl (ltb (length t - at) (row_size (kind_at t at))) refl
@@ -286,22 +287,22 @@ rows_view (suc m) t at p ps e =
   where
     go : (x : Bool) → ltb at (length t) ≡ x → (y : Bool) → eqb (row_size (kind_at t at)) 0 ≡ y → (z : Bool) → ltb (length t - at) (row_size (kind_at t at)) ≡ z
         → (o : Option (List ℕ)) → rows_from m t (at + row_size (kind_at t at)) ≡ o
-        → ◌≡◌ {A = Option (List ℕ)} (pick x (pick y none (pick z none (consed at o))) (some [])) (some (p ∷ ps)) → View (suc m) t at p ps
-    go true v true w z u o f q = absurd (none-ne-some (p ∷ ps) q)
-    go true v false w true u o f q = absurd (none-ne-some (p ∷ ps) q)
-    go true v false w false u none f q = absurd (none-ne-some (p ∷ ps) q)
-    go true v false w false u (some qs) f q =
+        → ◌≡◌ {A = Option (List ℕ)} (pick x (pick y None (pick z None (consed at o))) (Some [])) (Some (p ∷ ps)) → View (suc m) t at p ps
+    go true v true w z u o f q = absurd (none-some (p ∷ ps) q)
+    go true v false w true u o f q = absurd (none-some (p ∷ ps) q)
+    go true v false w false u None f q = absurd (none-some (p ∷ ps) q)
+    go true v false w false u (Some qs) f q =
         record {
           left = m;
           fuel = refl;
           place = sym (ap (λ (o : Option (List ℕ)). row_at (or_none o) 0) q);
           sized = eqb-false (row_size (kind_at t at)) 0 w;
           inside = let a = ltb-true at (length t) v in let b = ltb-false (length t - at) (row_size (kind_at t at)) u in omega arith;
-          rest = f ∙ ap (λ (o : Option (List ℕ)). some (drop 1 (or_none o))) q;
+          rest = f ∙ ap (λ (o : Option (List ℕ)). Some (drop 1 (or_none o))) q;
         }
     go false v y w z u o f q = absurd (let n : 0 ≡ length (p ∷ ps) = ap (λ (o : Option (List ℕ)). length (or_none o)) q in omega arith)
 
-rows_few : (m : ℕ) (t : List ℕ) (at : ℕ) (s : List ℕ) → rows_from m t at ≡ some s → length s ≤ m
+rows_few : (m : ℕ) (t : List ℕ) (at : ℕ) (s : List ℕ) → rows_from m t at ≡ Some s → length s ≤ m
 rows_few m t at [] e = omega arith
 rows_few m t at (p ∷ ps) e =
     let v = rows_view m t at p ps e in
@@ -310,7 +311,7 @@ rows_few m t at (p ∷ ps) e =
     omega arith
 
 -- each row of a table is whole
-whole_row : (m : ℕ) (t : List ℕ) (at : ℕ) (s : List ℕ) (j : ℕ) → rows_from m t at ≡ some s → j < length s → row_at s j + row_size (kind_at t (row_at s j)) ≤ length t
+whole_row : (m : ℕ) (t : List ℕ) (at : ℕ) (s : List ℕ) (j : ℕ) → rows_from m t at ≡ Some s → j < length s → row_at s j + row_size (kind_at t (row_at s j)) ≤ length t
 whole_row m t at [] j e h = absurd (omega arith)
 whole_row m t at (p ∷ ps) zero e h = let v = rows_view m t at p ps e in rw v.place v.inside
 whole_row m t at (p ∷ ps) (suc j) e h = let v = rows_view m t at p ps e in whole_row v.left t (at + row_size (kind_at t at)) ps j v.rest (omega arith)
@@ -320,8 +321,8 @@ unfolding rows
 row-whole m t j = go (rows_from m t 0) refl
   where
     go : (o : Option (List ℕ)) → rows_from m t 0 ≡ o → j < length (or_none o) → row_at (or_none o) j + row_size (kind_at t (row_at (or_none o) j)) ≤ length t
-    go none e h = absurd (omega arith)
-    go (some s) e h = whole_row m t 0 s j e h
+    go None e h = absurd (omega arith)
+    go (Some s) e h = whole_row m t 0 s j e h
 
 pub member-whole : (m : ℕ) (t : List ℕ) (j : ℕ) → j < length (rows m t) → is_member (kind_at t (row_at (rows m t) j)) ≡ true
     → WholeFollower t (row_at (rows m t) j)
@@ -366,21 +367,21 @@ new_are t (p ∷ ps) gs k zero st fo =
     ∙ ap (λ (x : Bool). both x (lists_new t ps)) (all-from (new_by t (follower_kind (kind_at t p)) (row_at ps)) (followers_at t p))
 new_are t (p ∷ ps) gs k (suc d) st fo =
     let w = stand_next t p ps k d st in
-    let none : followers_at t p ≡ 0 = no_followers t p (stands-follower (kind_at t p) k w.0 (fo (omega arith))) in
+    let None : followers_at t p ≡ 0 = no_followers t p (stands-follower (kind_at t p) k w.0 (fo (omega arith))) in
     new_next t p ps k d gs
     ∙ ap₂ both (new_is t k gs ps p)
     (new_are t ps (gs ++ (p ∷ [])) k d w.1 (λ l. fo (omega arith))
     ∙ ap₂ (λ (l : List ℕ) (n : ℕ). both (all_from (new_by t k (row_at l)) n d) (lists_new t ps)) (append_assoc gs (p ∷ []) ps) (length-append gs (p ∷ [])))
     ∙ glue (new_by t k (row_at (gs ++ (p ∷ ps))) (length gs)) (all_from (new_by t k (row_at (gs ++ (p ∷ ps)))) (length gs + 1) d) (lists_new t ps)
     ∙ ap (λ (n : ℕ). both (both (new_by t k (row_at (gs ++ (p ∷ ps))) (length gs)) (all_from (new_by t k (row_at (gs ++ (p ∷ ps)))) (length gs + 1) d))
-    (both (all (new_by t (follower_kind (kind_at t p)) (row_at ps)) n) (lists_new t ps))) (sym none)
+    (both (all (new_by t (follower_kind (kind_at t p)) (row_at ps)) n) (lists_new t ps))) (sym None)
   where
     glue : (x y z : Bool) → both x (both y z) ≡ both (both x y) (both true z)
     glue true y z = refl
     glue false y z = refl
 
 -- ---- the clauses together
-module _ (t : List ℕ) (p : ℕ) (ps : List ℕ) (found : rows_from table_limits.rows t 0 ≡ some (p ∷ ps)) where
+module _ (t : List ℕ) (p : ℕ) (ps : List ℕ) (found : rows_from table_limits.rows t 0 ≡ Some (p ∷ ps)) where
   first-type : standing t 0 0 (p ∷ ps) ≡ true → first_is_type t (p ∷ ps) ≡ true
   unfolding standing first_is_type is_type
   first-type st =
@@ -430,9 +431,9 @@ pass_counts t = go (rows_from table_limits.rows t 0) refl
   where
     go : (o : Option (List ℕ)) → rows_from table_limits.rows t 0 ≡ o
         → pick (goes t 0 0 [] o) (length (or_none o)) 0 ≡ pick (first_pass table_limits t (or_none o)) (length (or_none o)) 0
-    go none e = rw (none_pass t)
-    go (some []) e = rw (none_pass t)
-    go (some (p ∷ ps)) e = ap (λ (x : Bool). pick x (length (p ∷ ps)) 0) (all_clauses t p ps e)
+    go None e = rw (none_pass t)
+    go (Some []) e = rw (none_pass t)
+    go (Some (p ∷ ps)) e = ap (λ (x : Bool). pick x (length (p ∷ ps)) 0) (all_clauses t p ps e)
 
 -- ---- a row that follows another, by the places of those before it in an array
 module _ (t w gs : List ℕ) (first n p : ℕ) (counted : length gs ≡ n - first) (places : (a : ℕ) → a < length gs → place_in w (first + a) ≡ row_at gs a) where

@@ -2,7 +2,7 @@
 use mathlib.Core.Path.{◌≡◌, refl, sym, ap, ◌∙◌, subst}
 use mathlib.Core.Bool.{Bool, true, false, not, false≢true}
 use mathlib.Core.Logic.{⊎_elim}
-use mathlib.Core.Option.{Option, none, some}
+use Rattle.std.specs.Prelude.{Option, None, Some}
 use mathlib.Core.List.{List, [], ◌∷◌, ◌++◌, append_assoc, append-nil}
 use Prim.Native.Nat.{ℕ, zero, suc, ◌≤◌, ◌<◌, ◌+◌, ◌-◌, ◌*◌}
 use native.Mathlib.Omega.{arith}
@@ -24,8 +24,8 @@ use Rattle.clauses.proofs.LaterSteps.{due-follower}
 use Rattle.clauses.proofs.PassLaws.{passes, goes, new_after, formed, by-test, new_told, pass_counts}
 
 abbrev joined : List ℕ → Option (List ℕ) → Option (List ℕ)
-joined xs none = none
-joined xs (some ys) = some (xs ++ ys)
+joined xs None = None
+joined xs (Some ys) = Some (xs ++ ys)
 
 -- n rows have been met and passed, and stand in w, those from `first` on behind one that they follow; what is left of the table passes if all of it does
 pub record Passing (t w : List ℕ) (at n k due first : ℕ) : Type 0 where
@@ -58,8 +58,8 @@ pass_start t w e =
     }
   where
     from : (o : Option (List ℕ)) → joined [] o ≡ o
-    from none = refl
-    from (some ys) = refl
+    from None = refl
+    from (Some ys) = refl
 
 -- a table that doesn't pass
 abbrev Fails : List ℕ → Type 0
@@ -75,22 +75,22 @@ pub none_placed : (t w : List ℕ) → Placed t w 0
 none_placed t w = record { at = λ i h. absurd (omega arith) }
 
 -- ---- one row of what is left
-none_left : (k : ℕ) (t : List ℕ) (at : ℕ) → length t ≤ at → rows_from k t at ≡ some []
+none_left : (k : ℕ) (t : List ℕ) (at : ℕ) → length t ≤ at → rows_from k t at ≡ Some []
 unfolding rows_from
 none_left zero t at h = rw (le-ltb at (length t) h)
 none_left (suc k) t at h = rw (le-ltb at (length t) h)
 
 module _ (k : ℕ) (t : List ℕ) (at : ℕ) (inside : at < length t) where
-  no_room_lem : rows_from 0 t at ≡ none
+  no_room_lem : rows_from 0 t at ≡ None
   unfolding rows_from
   no_room_lem = rw (lt-ltb at (length t) inside)
 
-  no_kind : row_size (kind_at t at) ≡ 0 → rows_from (suc k) t at ≡ none
+  no_kind : row_size (kind_at t at) ≡ 0 → rows_from (suc k) t at ≡ None
   unfolding rows_from
   no_kind e = rw (lt-ltb at (length t) inside, e)
 
   module _ (size : ℕ) (sized : row_size (kind_at t at) ≡ size) (some_size : size ≡ 0 → ⊥) where
-    not_whole : length t - at < size → rows_from (suc k) t at ≡ none
+    not_whole : length t - at < size → rows_from (suc k) t at ≡ None
     unfolding rows_from
     not_whole h = rw (lt-ltb at (length t) inside, sized, ne_eqb size 0 some_size, lt-ltb (length t - at) size h)
 
@@ -101,13 +101,13 @@ module _ (k : ℕ) (t : List ℕ) (at : ℕ) (inside : at < length t) where
 -- ---- the test at one row
 module _ (t : List ℕ) (k due : ℕ) (gs : List ℕ) (at : ℕ) where
   goes_not : ((ps : List ℕ) → passes t k due gs (at ∷ ps) ≡ false) → (o : Option (List ℕ)) → goes t k due gs (consed at o) ≡ false
-  goes_not f none = refl
-  goes_not f (some ps) = f ps
+  goes_not f None = refl
+  goes_not f (Some ps) = f ps
 
   goes_on_lem : (k' due' : ℕ) (gs' : List ℕ) → ((ps : List ℕ) → passes t k due gs (at ∷ ps) ≡ passes t k' due' gs' ps)
       → (o : Option (List ℕ)) → goes t k due gs (consed at o) ≡ goes t k' due' gs' o
-  goes_on_lem k' due' gs' f none = refl
-  goes_on_lem k' due' gs' f (some ps) = f ps
+  goes_on_lem k' due' gs' f None = refl
+  goes_on_lem k' due' gs' f (Some ps) = f ps
 
 -- no row that follows another is a type's; any other has the body of a type's
 follower_no_type : (k : ℕ) → is_follower k ≡ true → is_type_kind k ≡ false
@@ -161,7 +161,7 @@ module _ (t w : List ℕ) (at n k due first : ℕ) (inv : Passing t w at n k due
 
   -- ---- behind the last row
   module _ (h : length t ≤ at) where
-    ended : rows_from (table_limits.rows - n) t at ≡ some []
+    ended : rows_from (table_limits.rows - n) t at ≡ Some []
     ended = none_left (table_limits.rows - n) t at h
 
     told : eqb due 0 ≡ goes t 0 0 [] (rows_from table_limits.rows t 0)
@@ -186,7 +186,7 @@ module _ (t w : List ℕ) (at n k due first : ℕ) (inv : Passing t w at n k due
     pub pass_many : n ≡ table_limits.rows → Fails t
     pass_many e = sym inv.passing ∙ ap (goes t k due before) none_more
       where
-        none_more : rows_from (table_limits.rows - n) t at ≡ none
+        none_more : rows_from (table_limits.rows - n) t at ≡ None
         none_more = let z : table_limits.rows - n ≡ 0 = omega arith in ap (λ (r : ℕ). rows_from r t at) z ∙ no_room_lem 0 t at inside
 
     module _ (room : n ≡ table_limits.rows → ⊥) where
@@ -233,8 +233,8 @@ module _ (t w : List ℕ) (at n k due first : ℕ) (inv : Passing t w at n k due
                 kept i l ∙ sym (get_or-append inv.found (at ∷ []) 0 i c)
 
         glue : (xs : List ℕ) (r : Option (List ℕ)) → joined (xs ++ (at ∷ [])) r ≡ joined xs (consed at r)
-        glue xs none = refl
-        glue xs (some ys) = ap some (append_assoc xs (at ∷ []) ys)
+        glue xs None = refl
+        glue xs (Some ys) = ap Some (append_assoc xs (at ∷ []) ys)
 
         next : Passing t (set w (2 * n) at) (at + size) (n + 1) k' due' first'
         next =
@@ -309,9 +309,9 @@ module _ (t w : List ℕ) (at n k due first : ℕ) (inv : Passing t w at n k due
               → ((i : ℕ) → first' ≤ i → i < n + 1 → WholeFollower t (row_at (inv.found ++ (at ∷ [])) i))
               → Passing t (set w (2 * n) at) (at + size) (n + 1) k' due' first'
           sized_next e behind follow fewer wholes =
-              let some : size-at ≡ 0 → ⊥ = λ z. e (size_is e ∙ z) in
-              rw (size_is e) (next size-at k' due' first' gs' (uncut (ne_eqb size-at 0 some) (is-long e)) (is-inside e) behind follow fewer wholes
-              (λ ps. on some ps ∙ ap (λ (x : Bool). both x (passes t k' due' gs' ps)) (is-good e)))
+              let Some : size-at ≡ 0 → ⊥ = λ z. e (size_is e ∙ z) in
+              rw (size_is e) (next size-at k' due' first' gs' (uncut (ne_eqb size-at 0 Some) (is-long e)) (is-inside e) behind follow fewer wholes
+              (λ ps. on Some ps ∙ ap (λ (x : Bool). both x (passes t k' due' gs' ps)) (is-good e)))
 
       -- ---- a row that follows another
       module _ (stood : Bool) (size : ℕ) (told-kind : stood ≡ eqb (stands_as (octet t at)) k) (same : not stood ≡ false) (d : due ≡ 0 → ⊥)

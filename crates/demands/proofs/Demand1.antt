@@ -2,7 +2,7 @@
 use Prim.Native.Nat.{ℕ, ◌+◌, ◌*◌}
 use mathlib.Core.Path.{◌≡◌, refl, sym, ap, ◌∙◌, subst}
 use mathlib.Core.Bool.{Bool, true, false, true≢false}
-use mathlib.Core.Option.{Option, none, some}
+use Rattle.std.specs.Prelude.{Option, None, Some}
 use mathlib.Core.List.{List, []}
 use borrow.Author.Tests.{leb-true, leb-false, lt-ltb, le-ltb}
 use lib.ListN.{length}
@@ -108,17 +108,17 @@ module _ (room : List ℕ) where
     abbrev By : Bool → Bool → Bool → Option Value → Option (List Id) → Listing → Type 0
     By fits ok leading stored ids l =
         ListRefusals room (no fits) (no ok) (no leading) (no (is_some stored)) (of_some (λ is. has_misfit (trail d is ty v)) ids)
-        (of_some (λ cs. ltb (length room) (length cs * 3)) (bind ids (λ is. bind stored (λ x. some (components d is x))))) l
+        (of_some (λ cs. ltb (length room) (length cs * 3)) (bind ids (λ is. bind stored (λ x. Some (components d is x))))) l
 
     ids-by : (o : Option (List Id)) → By true true (is_some (bind o (λ is. allowed is ty))) (stored_value ty v) o (with_ids ty v d room o)
     unfolding with_ids with_stored
-    ids-by none = record { number = refl; done = refl; count = λ z. refl; unwritten = λ z. refl }
-    ids-by (some is) = go (is_some (allowed is ty)) (stored_value ty v)
+    ids-by None = record { number = refl; done = refl; count = λ z. refl; unwritten = λ z. refl }
+    ids-by (Some is) = go (is_some (allowed is ty)) (stored_value ty v)
       where
-        go : (b : Bool) (s : Option Value) → By true true b s (some is) (pick b (with_stored ty v d room is s) (refused_list 3 room))
+        go : (b : Bool) (s : Option Value) → By true true b s (Some is) (pick b (with_stored ty v d room is s) (refused_list 3 room))
         go false s = record { number = refl; done = refl; count = λ z. refl; unwritten = λ z. refl }
-        go true none = record { number = refl; done = refl; count = λ z. refl; unwritten = λ z. refl }
-        go true (some x) = walk_by (has_misfit (trail d is ty v)) (components d is x)
+        go true None = record { number = refl; done = refl; count = λ z. refl; unwritten = λ z. refl }
+        go true (Some x) = walk_by (has_misfit (trail d is ty v)) (components d is x)
 
     list-by : (fits ok : Bool) (o : Option (List Id))
         → By fits ok (is_some (bind o (λ is. allowed is ty))) (stored_value ty v) o (pick fits (pick ok (with_ids ty v d room o) (refused_list 2 room)) (refused_list 1 room))
@@ -153,12 +153,12 @@ module _ (t v : List ℕ) (budget : ℕ) where
 
   filter-by : (p : Option (Filter Item)) → ByFilter true true (stored_value ty v) p (with_filter known_rules ty v budget p)
   unfolding with_filter with_value
-  filter-by none = record { number = refl; truth = refl; count = λ z. refl }
-  filter-by (some f) = go (stored_value ty v)
+  filter-by None = record { number = refl; truth = refl; count = λ z. refl }
+  filter-by (Some f) = go (stored_value ty v)
     where
-      go : (o : Option Value) → ByFilter true true o (some f) (with_value known_rules ty v budget f o)
-      go none = record { number = refl; truth = refl; count = λ z. refl }
-      go (some x) = outcome-by (misfits t v budget f) (evaluated known_rules ty x f)
+      go : (o : Option Value) → ByFilter true true o (Some f) (with_value known_rules ty v budget f o)
+      go None = record { number = refl; truth = refl; count = λ z. refl }
+      go (Some x) = outcome-by (misfits t v budget f) (evaluated known_rules ty x f)
 
   ask-by : (fits ok : Bool) (p : Option (Filter Item)) → ByFilter fits ok (stored_value ty v) p (pick fits (pick ok (with_filter known_rules ty v budget p) (refused 2)) (refused 1))
   ask-by false ok p = record { number = refl; truth = refl; count = λ z. refl }

@@ -2,7 +2,7 @@
 use Prim.Native.Nat.{ℕ, ◌≤◌, ◌*◌, ◌/◌}
 use mathlib.Core.Path.{◌≡◌, refl, sym, ap, ap₂, ◌∙◌, subst}
 use mathlib.Core.Bool.{Bool, true, false}
-use mathlib.Core.Option.{Option, none, some}
+use Rattle.std.specs.Prelude.{Option, None, Some}
 use mathlib.Core.List.{List, [], ◌∷◌}
 use native.Mathlib.Omega.{arith}
 use lib.ListN.{length}
@@ -55,8 +55,8 @@ module _ (ty : Ty) (x : Value) where
   outcome-named i = go (asked known_rules ty i)
     where
       go : (o : Option Asked) → outcome_of x i o ≡ settled (truth_for x i o) (tests_for x i o)
-      go none = refl
-      go (some a) = tested-named (accepts a.rule a.asserted) (named i.defaults a.ids x)
+      go None = refl
+      go (Some a) = tested-named (accepts a.rule a.asserted) (named i.defaults a.ids x)
 
 -- ---- a report with a truth: what was read, and what it comes to
 settles : (budget : ℕ) (o : Outcome) (u : Truth) (n : ℕ) → budgeted budget o ≡ answers u n → o ≡ settled u n
@@ -64,12 +64,12 @@ unfolding budgeted
 settles budget (settled w k) u n e = go (leb k budget) e
   where
     go : (b : Bool) → pick b (answers w k) (refused 5) ≡ answers u n → settled w k ≡ settled u n
-    go true q = let m : ◌≡◌ {A = Option Truth} (some w) (some u) = ap (λ (r : Report). r.truth) q in let a : w ≡ u = cc in ap₂ settled a (ap (λ (r : Report). r.tests) q)
+    go true q = let m : ◌≡◌ {A = Option Truth} (Some w) (Some u) = ap (λ (r : Report). r.truth) q in let a : w ≡ u = cc in ap₂ settled a (ap (λ (r : Report). r.tests) q)
     go false q = absurd (let z : ◌≡◌ {A = ℕ} 5 0 = ap (λ (r : Report). r.refusal) q in omega arith)
 
 module _ (ty : Ty) (v : List ℕ) (budget : ℕ) (u : Truth) (n : ℕ) where
   abbrev Read : Option (Filter Item) → Type 0
-  Read p = (f : Filter Item) × (p ≡ some f) × (x : Value) × (stored_value ty v ≡ some x) × (reading (outcome known_rules ty x) f ≡ settled u n)
+  Read p = (f : Filter Item) × (p ≡ Some f) × (x : Value) × (stored_value ty v ≡ Some x) × (reading (outcome known_rules ty x) f ≡ settled u n)
 
   value_view : (misfit : Bool) (o : Outcome) → pick misfit (refused 7) (budgeted budget o) ≡ answers u n → o ≡ settled u n
   value_view true o e = absurd (let z : ◌≡◌ {A = ℕ} 7 0 = ap (λ (r : Report). r.refusal) e in omega arith)
@@ -77,12 +77,12 @@ module _ (ty : Ty) (v : List ℕ) (budget : ℕ) (u : Truth) (n : ℕ) where
 
   filter_view : (p : Option (Filter Item)) → with_filter known_rules ty v budget p ≡ answers u n → Read p
   unfolding with_filter with_value evaluated
-  filter_view none e = absurd (let z : ◌≡◌ {A = ℕ} 3 0 = ap (λ (r : Report). r.refusal) e in omega arith)
-  filter_view (some f) e = go (stored_value ty v) refl e
+  filter_view None e = absurd (let z : ◌≡◌ {A = ℕ} 3 0 = ap (λ (r : Report). r.refusal) e in omega arith)
+  filter_view (Some f) e = go (stored_value ty v) refl e
     where
-      go : (o : Option Value) → stored_value ty v ≡ o → with_value known_rules ty v budget f o ≡ answers u n → Read (some f)
-      go none q w = absurd (let z : ◌≡◌ {A = ℕ} 4 0 = ap (λ (r : Report). r.refusal) w in omega arith)
-      go (some x) q w = (f, refl, x, q, value_view (meets_misfit known_rules ty v budget f) (reading (outcome known_rules ty x) f) w)
+      go : (o : Option Value) → stored_value ty v ≡ o → with_value known_rules ty v budget f o ≡ answers u n → Read (Some f)
+      go None q w = absurd (let z : ◌≡◌ {A = ℕ} 4 0 = ap (λ (r : Report). r.refusal) w in omega arith)
+      go (Some x) q w = (f, refl, x, q, value_view (meets_misfit known_rules ty v budget f) (reading (outcome known_rules ty x) f) w)
 
   view : (fits ok : Bool) (p : Option (Filter Item)) → pick fits (pick ok (with_filter known_rules ty v budget p) (refused 2)) (refused 1) ≡ answers u n → Read p
   view true true p e = filter_view p e
@@ -97,7 +97,7 @@ module _ (t v : List ℕ) where
   unfolding ask_report question_of
   answer_view s budget u n e = view ty v budget u n (question_fits limits t v s budget) (admitted limits.table t) (parse limits.filter s) e
 
-  module _ (x : Value) (decodes : stored_value ty v ≡ some x) where
+  module _ (x : Value) (decodes : stored_value ty v ≡ Some x) where
     -- the engine's truth for a filter of one item is the item's own
     alone-is : (u : Truth) (i : Item) → Alone t v u i → u ≡ item_truth known_rules ty x i
     unfolding reading

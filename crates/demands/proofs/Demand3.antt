@@ -2,7 +2,7 @@
 use Prim.Native.Nat.{ℕ, ◌*◌}
 use mathlib.Core.Path.{◌≡◌, refl, ap, ◌∙◌}
 use mathlib.Core.Bool.{Bool, true, false}
-use mathlib.Core.Option.{none, some}
+use Rattle.std.specs.Prelude.{None, Some}
 use mathlib.Core.List.{List}
 use native.Mathlib.Omega.{arith}
 use borrow.Author.Tests.{lt-ltb, le-ltb, le-leb}
@@ -58,21 +58,21 @@ module _ (t v : List ℕ) (given : Bool) (r : List ℕ) (x : Value) (is : List I
         let b = both_true (value_fits limits.value v) (reference_fits limits given r) a.1 in
         rw (a.0, b.0, p.fits, p.within)
 
-    the-ids : identifiers i.component ≡ some is
+    the-ids : identifiers i.component ≡ Some is
     the-ids = ap identifiers p.same-reference ∙ go given ∙ w.reads
       where
-        go : (g : Bool) → identifiers (pick g (some r) none) ≡ given_ids g r
+        go : (g : Bool) → identifiers (pick g (Some r) None) ≡ given_ids g r
         go true = refl
         go false = refl
 
-    asks-by : asked known_rules ty i ≡ bind (rule_for target i) (λ u. some (record { ids = is; rule = u.rule; asserted = u.asserted }))
+    asks-by : asked known_rules ty i ≡ bind (rule_for target i) (λ u. Some (record { ids = is; rule = u.rule; asserted = u.asserted }))
     unfolding asked
     asks-by = rw (the-ids, w.allowed)
 
-    asks_none : rule_for target i ≡ none → asked known_rules ty i ≡ none
+    asks_none : rule_for target i ≡ None → asked known_rules ty i ≡ None
     asks_none e = asks-by ∙ rw e
 
-    asks_some : (u : Comparison) → rule_for target i ≡ some u → asked known_rules ty i ≡ some (record { ids = is; rule = u.rule; asserted = u.asserted })
+    asks_some : (u : Comparison) → rule_for target i ≡ Some u → asked known_rules ty i ≡ Some (record { ids = is; rule = u.rule; asserted = u.asserted })
     asks_some u e = asks-by ∙ rw e
 
     report-by : ask_report limits known_rules t v s budget ≡ budgeted budget (outcome_of x i (asked known_rules ty i))

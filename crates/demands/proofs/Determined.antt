@@ -1,7 +1,7 @@
 -- The listed numbers determine the components: what a reference names in a stored value is given back by table, value and its three numbers.
 use mathlib.Core.Path.{◌≡◌, refl, sym, ap, ap₂, ◌∙◌}
 use mathlib.Core.Bool.{Bool, true, false}
-use mathlib.Core.Option.{some}
+use Rattle.std.specs.Prelude.{Some}
 use mathlib.Core.List.{List, [], ◌∷◌, ◌++◌, map}
 use Prim.Native.Nat.{ℕ, zero, suc, ◌+◌, ◌-◌}
 use lib.Dec.{leb, eqb}
@@ -232,7 +232,7 @@ each-accepted u a g [] w = refl
 each-accepted u a g (h ∷ hs) w = ap₂ either (sym (accepts-component u a h) ∙ ap (accepts_component u a) (sym w.0)) (each-accepted u a g hs w.1)
 
 -- what any identifiers name in a stored value, with either choice about defaults
-pub named-determined : (l : Limits) (t v : List ℕ) (x : Value) → stored_value (type_at l t 0) v ≡ some x → (defaults : Bool) (is : List Id) → Determined l t v (named defaults is x)
+pub named-determined : (l : Limits) (t v : List ℕ) (x : Value) → stored_value (type_at l t 0) v ≡ Some x → (defaults : Bool) (is : List Id) → Determined l t v (named defaults is x)
 unfolding type_at named
 named-determined l t v x e defaults is =
     let s = rows l.rows t in

@@ -1,7 +1,7 @@
 -- "The count is at most items times half the value's length, rounded down."
 use mathlib.Core.Path.{◌≡◌, refl, ap}
 use mathlib.Core.Bool.{Bool, true, false}
-use mathlib.Core.Option.{Option, none, some}
+use Rattle.std.specs.Prelude.{Option, None, Some}
 use mathlib.Core.List.{List, [], ◌∷◌, map}
 use Prim.Native.Nat.{ℕ, ◌≤◌, ◌+◌, ◌*◌, ◌/◌}
 use native.Mathlib.Omega.{arith}
@@ -39,7 +39,7 @@ testing-few f n (h ∷ hs) = go (f h) (testing-few f (n + 1) hs)
     go true e = let l = longer in omega arith
     go false e = let l = longer in omega arith
 
-module _ (ty : Ty) (v : List ℕ) (x : Value) (stored : stored_value ty v ≡ some x) where
+module _ (ty : Ty) (v : List ℕ) (x : Value) (stored : stored_value ty v ≡ Some x) where
   named-few : (f : Held → Bool) (defaults : Bool) (is : List Id) → tests_of (testing f 0 (named defaults is x)) ≤ length v / 2
   named-few f defaults is =
       let a = testing-few f 0 (named defaults is x) in
@@ -51,8 +51,8 @@ module _ (ty : Ty) (v : List ℕ) (x : Value) (stored : stored_value ty v ≡ so
   outcome-few i = go (asked known_rules ty i)
     where
       go : (o : Option Asked) → tests_of (outcome_of x i o) ≤ length v / 2
-      go none = omega arith
-      go (some a) = named-few (accepts a.rule a.asserted) i.defaults a.ids
+      go None = omega arith
+      go (Some a) = named-few (accepts a.rule a.asserted) i.defaults a.ids
 
 -- ---- a filter: so many for each of its items
 added-tests : (j : Join) (t : Truth) (n : ℕ) (r : Outcome) → tests_of (added j t n r) ≡ n + tests_of r
@@ -87,5 +87,5 @@ mutual
       omega arith
 
 -- the tests that a filter needs over a stored value
-pub tests-few : (ty : Ty) (v : List ℕ) (x : Value) (f : Filter Item) → stored_value ty v ≡ some x → tests_of (reading (outcome known_rules ty x) f) ≤ length (items f) * (length v / 2)
+pub tests-few : (ty : Ty) (v : List ℕ) (x : Value) (f : Filter Item) → stored_value ty v ≡ Some x → tests_of (reading (outcome known_rules ty x) f) ≤ length (items f) * (length v / 2)
 tests-few ty v x f stored = reading_few f (outcome known_rules ty x) (length v / 2) (outcome-few ty v x stored)

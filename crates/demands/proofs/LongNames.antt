@@ -1,7 +1,8 @@
 -- Document 02, Q-4: a table admitted before kind 21 reads as it did, so every answer is what it was; each member has one form.
 use mathlib.Core.Path.{◌≡◌, refl, sym, ap, ap₂, ◌∙◌, subst}
 use mathlib.Core.Bool.{Bool, true, false, false≢true}
-use mathlib.Core.Option.{Option, none, some, none-ne-some}
+use Rattle.std.specs.Prelude.{Option, None, Some}
+use Rattle.std.proofs.lemmas.Option.{none-some}
 use mathlib.Core.List.{List, [], ◌∷◌}
 use Prim.Native.Nat.{ℕ, zero, suc, ◌<◌, ◌+◌, ◌-◌}
 use native.Mathlib.Omega.{arith}
@@ -61,7 +62,7 @@ module _ (t : List ℕ) (p : ℕ) (old : kind_at t p ≡ 21 → ⊥) where
   unfolding named_at row_named named_before is_member
   named-same = rw (ne_eqb (kind_at t p) 21 old, behind) (go (is_list (kind_at t p)) (eqb (kind_at t p) 16))
     where
-      go : (x y : Bool) → or_zero (pick x (some (element_at t p)) (pick (either y false) (some (two t (p + 25))) none))
+      go : (x y : Bool) → or_zero (pick x (Some (element_at t p)) (pick (either y false) (Some (two t (p + 25))) None))
           ≡ pick x (element_at t p) (pick y (two t (p + 25)) 0)
       go true y = refl
       go false true = refl
@@ -87,21 +88,21 @@ module _ (t : List ℕ) where
 
   -- s are the rows from a place on, the first of them there
   record Rows (m at : ℕ) (s : List ℕ) : Type 0 where
-    pub now : rows_from m t at ≡ some s
+    pub now : rows_from m t at ≡ Some s
     pub old : Old s
     pub first : 0 < length s → row_at s 0 ≡ at
 
-  none-there : (m at : ℕ) (s : List ℕ) → rows_from m t at ≡ some s → some [] ≡ some s → Rows m at s
+  none-there : (m at : ℕ) (s : List ℕ) → rows_from m t at ≡ Some s → Some [] ≡ Some s → Rows m at s
   none-there m at s e q =
       let n : 0 ≡ length s = ap (λ (o : Option (List ℕ)). length (or_none o)) q in
       record { now = e; old = λ j h. absurd (omega arith); first = λ h. absurd (omega arith) }
 
-  rows_now : (m at : ℕ) (s : List ℕ) → rows_from_before m t at ≡ some s → Rows m at s
+  rows_now : (m at : ℕ) (s : List ℕ) → rows_from_before m t at ≡ Some s → Rows m at s
   unfolding rows_from_before rows_from
   rows_now zero at s e = go (ltb at (length t)) refl e
     where
-      go : (x : Bool) → ltb at (length t) ≡ x → pick x none (some []) ≡ some s → Rows zero at s
-      go true u q = absurd (none-ne-some s q)
+      go : (x : Bool) → ltb at (length t) ≡ x → pick x None (Some []) ≡ Some s → Rows zero at s
+      go true u q = absurd (none-some s q)
       go false u q = none-there zero at s e q
   rows_now (suc m) at s e =
       go (ltb at (length t)) refl (eqb (size_before (kind_at t at)) 0) refl (ltb (length t - at) (size_before (kind_at t at))) refl
@@ -110,13 +111,13 @@ module _ (t : List ℕ) where
       go : (x : Bool) → ltb at (length t) ≡ x → (y : Bool) → eqb (size_before (kind_at t at)) 0 ≡ y
           → (z : Bool) → ltb (length t - at) (size_before (kind_at t at)) ≡ z
           → (o : Option (List ℕ)) → rows_from_before m t (at + size_before (kind_at t at)) ≡ o
-          → ◌≡◌ {A = Option (List ℕ)} (pick x (pick y none (pick z none (consed at o))) (some [])) (some s)
-          → ((ps : List ℕ) → rows_from_before m t (at + size_before (kind_at t at)) ≡ some ps → Rows m (at + size_before (kind_at t at)) ps)
+          → ◌≡◌ {A = Option (List ℕ)} (pick x (pick y None (pick z None (consed at o))) (Some [])) (Some s)
+          → ((ps : List ℕ) → rows_from_before m t (at + size_before (kind_at t at)) ≡ Some ps → Rows m (at + size_before (kind_at t at)) ps)
           → Rows (suc m) at s
-      go true u true v z w o r q on = absurd (none-ne-some s q)
-      go true u false v true w o r q on = absurd (none-ne-some s q)
-      go true u false v false w none r q on = absurd (none-ne-some s q)
-      go true u false v false w (some ps) r q on =
+      go true u true v z w o r q on = absurd (none-some s q)
+      go true u false v true w o r q on = absurd (none-some s q)
+      go true u false v false w None r q on = absurd (none-some s q)
+      go true u false v false w (Some ps) r q on =
           let other : kind_at t at ≡ 21 → ⊥ = λ h. eqb-false _ _ v (new_unsized (kind_at t at) h) in
           let size = old_sized (kind_at t at) other in
           let is : at ∷ ps ≡ s = ap or_none q in
@@ -127,14 +128,14 @@ module _ (t : List ℕ) where
           }
       go false u y v z w o r q on = none-there (suc m) at s (rw u q) q
 
-  old_rows : whole_rows table_limits.rows (rows_before t) ≡ true → (rows_from_before table_limits.rows t 0 ≡ some (rows_before t)) × (0 < length (rows_before t))
+  old_rows : whole_rows table_limits.rows (rows_before t) ≡ true → (rows_from_before table_limits.rows t 0 ≡ Some (rows_before t)) × (0 < length (rows_before t))
   unfolding rows_before whole_rows
   old_rows e = go (rows_from_before table_limits.rows t 0) refl e
     where
       go : (o : Option (List ℕ)) → rows_from_before table_limits.rows t 0 ≡ o → within 1 table_limits.rows (length (or_none o)) ≡ true
-          → (o ≡ some (or_none o)) × (0 < length (or_none o))
-      go none q w = absurd (false≢true w)
-      go (some s) q w = let l = leb-true 1 (length s) (both_true (leb 1 (length s)) (leb (length s) table_limits.rows) w).0 in (refl, omega arith)
+          → (o ≡ Some (or_none o)) × (0 < length (or_none o))
+      go None q w = absurd (false≢true w)
+      go (Some s) q w = let l = leb-true 1 (length s) (both_true (leb 1 (length s)) (leb (length s) table_limits.rows) w).0 in (refl, omega arith)
 
   module _ (whole : whole_rows table_limits.rows (rows_before t) ≡ true) where
     found : Rows table_limits.rows 0 (rows_before t)

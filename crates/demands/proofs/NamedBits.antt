@@ -1,7 +1,7 @@
 -- Q-2: on a BIT STRING with names bitStringMatch is equality of the sets of one-bits.
 use mathlib.Core.Path.{◌≡◌, refl, sym, ap, ◌∙◌, subst}
 use mathlib.Core.Bool.{Bool, true, false}
-use mathlib.Core.Option.{Option, none, some}
+use Rattle.std.specs.Prelude.{Option, None, Some}
 use mathlib.Core.List.{List, [], ◌∷◌, ◌++◌}
 use Prim.Native.Nat.{ℕ, zero, suc, ◌<◌, ◌+◌, ◌-◌, ◌*◌, ◌/◌, ◌%◌}
 use native.Mathlib.Omega.{arith}
@@ -139,21 +139,21 @@ matches l f =
       back = λ c same. alike-trimmed (bits_of c) l (ones_say (bits_of c) l (stored-bits c) f same);
     }
 
-pub named_match : (names : List NamedBit) (t : List ℕ) (a : Asserted) → asserted_of (equal bit_strings) (of_type (basic named_bit_string names)) t ≡ some a
+pub named_match : (names : List NamedBit) (t : List ℕ) (a : Asserted) → asserted_of (equal bit_strings) (of_type (basic named_bit_string names)) t ≡ Some a
     → Matches a
 unfolding asserted_of asserted_in asserted_bits_by listed_bits
 named_match names t a = go (is_bits t) (listed t)
   where
-    by-numbers : (o : Option (List ℕ)) → bind (bind o (λ ns. some (bits_listed 64 0 ns))) (λ l. some (named_bits l)) ≡ some a → Matches a
-    by-numbers none e = none-some a e
-    by-numbers (some ns) e = subst Matches (some_same (named_bits (bits_listed 64 0 ns)) a e) (matches (bits_listed 64 0 ns) (listed-bits 64 0 ns))
+    by-numbers : (o : Option (List ℕ)) → bind (bind o (λ ns. Some (bits_listed 64 0 ns))) (λ l. Some (named_bits l)) ≡ Some a → Matches a
+    by-numbers None e = none-some a e
+    by-numbers (Some ns) e = subst Matches (some_same (named_bits (bits_listed 64 0 ns)) a e) (matches (bits_listed 64 0 ns) (listed-bits 64 0 ns))
 
     go : (u : Bool) (o : Option (List (List ℕ)))
-        → pick u (some (named_bits (asserted_bits t))) (bind (bind o (λ xs. bind (numbers_of names xs) (λ ns. some (bits_listed 64 0 ns))))
-        (λ l. some (named_bits l))) ≡ some a → Matches a
+        → pick u (Some (named_bits (asserted_bits t))) (bind (bind o (λ xs. bind (numbers_of names xs) (λ ns. Some (bits_listed 64 0 ns))))
+        (λ l. Some (named_bits l))) ≡ Some a → Matches a
     go true o e = subst Matches (some_same (named_bits (asserted_bits t)) a e) (matches (asserted_bits t) (asserted-bits t))
-    go false none e = none-some a e
-    go false (some xs) e = by-numbers (numbers_of names xs) e
+    go false None e = none-some a e
+    go false (Some xs) e = by-numbers (numbers_of names xs) e
 
 -- ---- a list of names
 -- its one-bits are those whose number a listed name has
@@ -167,7 +167,7 @@ ones_from (suc k) n ns zero h = let z : n + 0 ≡ n = omega arith in go (is_in n
     go false = refl
 ones_from (suc k) n ns (suc i) h = let z : n + 1 + i ≡ n + suc i = omega arith in ones_from k (n + 1) ns i (omega arith) ∙ ap (λ (x : ℕ). is_in x ns) z
 
-pub listed_ones : (names : List NamedBit) (t : List ℕ) (xs : List (List ℕ)) (ns : List ℕ) → listed t ≡ some xs → numbers_of names xs ≡ some ns
-    → (l : List ℕ) × (listed_bits names t ≡ some l) × ((i : ℕ) → i < 64 → isOne l i ≡ is_in i ns)
+pub listed_ones : (names : List NamedBit) (t : List ℕ) (xs : List (List ℕ)) (ns : List ℕ) → listed t ≡ Some xs → numbers_of names xs ≡ Some ns
+    → (l : List ℕ) × (listed_bits names t ≡ Some l) × ((i : ℕ) → i < 64 → isOne l i ≡ is_in i ns)
 unfolding listed_bits
 listed_ones names t xs ns e h = (bits_listed 64 0 ns, rw (e, h), λ i l. let z : 0 + i ≡ i = omega arith in ones_from 64 0 ns i l ∙ ap (λ (x : ℕ). is_in x ns) z)

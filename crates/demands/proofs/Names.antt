@@ -2,7 +2,7 @@
 -- order of the other's: one to one, none left over.
 use mathlib.Core.Path.{◌≡◌, refl, subst}
 use mathlib.Core.Bool.{true, false≢true}
-use mathlib.Core.Option.{Option, none, some}
+use Rattle.std.specs.Prelude.{Option, None, Some}
 use mathlib.Core.List.{List, [], ◌∷◌}
 use Prim.Native.Nat.{ℕ}
 use Rattle.octets.specs.Pick.{bind}
@@ -51,13 +51,13 @@ name-matches n = record {
   accepts = λ c o. one_by_one_same (stored_name c) n o;
 }
 
-pub name_match : (g : Target) (t : List ℕ) (a : Asserted) → asserted_of (equal names) g t ≡ some a → NameMatches a
+pub name_match : (g : Target) (t : List ℕ) (a : Asserted) → asserted_of (equal names) g t ≡ Some a → NameMatches a
 unfolding asserted_of asserted_in
 name_match g t a = go (bind (unquoted t) asserted_name)
   where
-    go : (o : Option (List (List Compared))) → bind o (λ n. some (name n)) ≡ some a → NameMatches a
-    go none e = none-some a e
-    go (some n) e = subst NameMatches (some_same (name n) a e) (name-matches n)
+    go : (o : Option (List (List Compared))) → bind o (λ n. Some (name n)) ≡ Some a → NameMatches a
+    go None e = none-some a e
+    go (Some n) e = subst NameMatches (some_same (name n) a e) (name-matches n)
 
 pub record RdnMatches (a : Asserted) : Type 0 where
   pub asserted : List Compared
@@ -74,10 +74,10 @@ rdn-matches l = record {
   accepts = λ c p. permutation_matches (stored_rdn c) l p;
 }
 
-pub rdn_match : (g : Target) (t : List ℕ) (a : Asserted) → asserted_of (equal rdns) g t ≡ some a → RdnMatches a
+pub rdn_match : (g : Target) (t : List ℕ) (a : Asserted) → asserted_of (equal rdns) g t ≡ Some a → RdnMatches a
 unfolding asserted_of asserted_in
 rdn_match g t a = go (bind (unquoted t) asserted_rdn)
   where
-    go : (o : Option (List Compared)) → bind o (λ l. some (rdn l)) ≡ some a → RdnMatches a
-    go none e = none-some a e
-    go (some l) e = subst RdnMatches (some_same (rdn l) a e) (rdn-matches l)
+    go : (o : Option (List Compared)) → bind o (λ l. Some (rdn l)) ≡ Some a → RdnMatches a
+    go None e = none-some a e
+    go (Some l) e = subst RdnMatches (some_same (rdn l) a e) (rdn-matches l)

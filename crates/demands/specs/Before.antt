@@ -1,7 +1,7 @@
 -- Document 02, Q-4: "A table admitted before this reads as it did; an engine from before refuses a table with the new kind, by size with 1, else with 2."
 -- Tables before it: 1 to 4,992 octets, no row of kind 21, and a member's fields at the places that a name's field of 24 octets gives them.
 use Rattle.std.specs.Prelude.{ℕ, zero, suc, ◌+◌, ◌-◌, Bool, List, [], ◌∷◌, length, ltb, leb, eqb}
-use Rattle.std.proofs.Math.Option.{Option, none, some}
+use Rattle.std.specs.Prelude.{Option, None, Some}
 use Rattle.octets.specs.Pick.{pick, both, is_some, consed}
 use Rattle.octets.specs.Octets.{octet, two, part}
 use Rattle.octets.specs.Text.{within}
@@ -28,14 +28,14 @@ unfoldable pub size_before : ℕ → ℕ
 size_before k = pick (eqb k kind.long_member) 0 (row_size k)
 
 unfoldable pub rows_from_before : ℕ → List ℕ → ℕ → Option (List ℕ)
-rows_from_before zero t at = pick (ltb at (length t)) none (some [])
+rows_from_before zero t at = pick (ltb at (length t)) None (Some [])
 rows_from_before (suc n) t at =
     let rest = rows_from_before n t (at + size_before (kind_at t at)) in
     pick (ltb at (length t))
-    (pick (eqb (size_before (kind_at t at)) 0) none
-    (pick (ltb (length t - at) (size_before (kind_at t at))) none
+    (pick (eqb (size_before (kind_at t at)) 0) None
+    (pick (ltb (length t - at) (size_before (kind_at t at))) None
     (consed at rest)))
-    (some [])
+    (Some [])
 
 unfoldable pub rows_before : List ℕ → List ℕ
 rows_before t = or_none (rows_from_before table_limits.rows t 0)

@@ -1,6 +1,6 @@
 -- Demand 3, of the listing and the answer to a filter for one table and value.
 use Rattle.std.specs.Prelude.{ℕ, ◌≤◌, ◌<◌, ◌*◌, ◌≡◌, Bool, true, List, ◌++◌, length, drop, leb}
-use Rattle.std.proofs.Math.Option.{Option, none, some}
+use Rattle.std.specs.Prelude.{Option, None, Some}
 use Rattle.octets.specs.Pick.{pick}
 use Rattle.types.specs.Types.{type_at}
 use Rattle.types.specs.Admitted as table
@@ -31,9 +31,9 @@ use Rattle.demands.specs.Truths.{AnswersTruly}
 pub record Taken (t v : List ℕ) (given : Bool) (r : List ℕ) (x : Value) (is : List Id) (target : reference.Target) : Type 0 where
   pub sizes : listing_fits limits t v given r ≡ true
   pub admitted : table.admitted limits.table t ≡ true
-  pub decodes : stored_value (type_at limits.table t 0) v ≡ some x
-  pub reads : given_ids given r ≡ some is
-  pub allowed : reference.allowed is (type_at limits.table t 0) ≡ some target
+  pub decodes : stored_value (type_at limits.table t 0) v ≡ Some x
+  pub reads : given_ids given r ≡ Some is
+  pub allowed : reference.allowed is (type_at limits.table t 0) ≡ Some target
 
 -- ---- the listing, of the components cs that the reference names
 pub record Listed (v room : List ℕ) (cs : List Component) (l : Listing) : Type 0 where
@@ -51,8 +51,8 @@ pub record Listed (v room : List ℕ) (cs : List Component) (l : Listing) : Type
 pub record Put (given : Bool) (r : List ℕ) (defaults : Bool) (s : List ℕ) (i : Item) (budget : ℕ) : Type 0 where
   pub fits : filter_fits limits.filter s ≡ true
   pub within : leb budget limits.budget ≡ true
-  pub parses : parse limits.filter s ≡ some (item i)
-  pub same-reference : i.component ≡ pick given (some r) none
+  pub parses : parse limits.filter s ≡ Some (item i)
+  pub same-reference : i.component ≡ pick given (Some r) None
   pub same-choice : i.defaults ≡ defaults
 
 -- its rule with what it asserts, where document 01 doesn't make it Undefined: the rule is known, for the target, and the value text conforms
@@ -62,9 +62,9 @@ rule_for target i = rules.rule_for known_rules target i.rule i.value
 -- the values hs are those that the reference names
 pub record Asserted (i : Item) (budget : ℕ) (target : reference.Target) (hs : List Held) (b : answer.Report) : Type 0 where
   -- where document 01 makes it Undefined
-  pub undefined : rule_for target i ≡ none → b ≡ answer.answers UNDEFINED 0
+  pub undefined : rule_for target i ≡ None → b ≡ answer.answers UNDEFINED 0
   -- "with .. budget enough, if document 01 .. doesn't make it Undefined, it is TRUE if its rule accepts at least one value on that list, else FALSE"
-  pub defined : (u : Comparison) → rule_for target i ≡ some u → needed (accepts u.rule u.asserted) hs ≤ budget
+  pub defined : (u : Comparison) → rule_for target i ≡ Some u → needed (accepts u.rule u.asserted) hs ≤ budget
       → b ≡ answer.answers (truth_by (accepts u.rule u.asserted) hs) (needed (accepts u.rule u.asserted) hs)
 
 -- ---- in one piece: a listing l with its memory and a filter's report b

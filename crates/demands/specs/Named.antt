@@ -1,6 +1,6 @@
 -- What demands 2 and 3 say of an assertion: what its reference names in the decoded value, the tests that its rule makes of it, and its truth.
 use Rattle.std.specs.Prelude.{ℕ, suc, Bool, false, List, [], ◌∷◌, map}
-use Rattle.std.proofs.Math.Option.{Option, none, some}
+use Rattle.std.specs.Prelude.{Option, None, Some}
 use Rattle.octets.specs.Pick.{pick, either}
 use Rattle.types.specs.Types.{Ty}
 use Rattle.value.specs.Value.{Value}
@@ -33,12 +33,12 @@ truth_by accepted hs = pick (accepts_one accepted hs) TRUE FALSE
 
 -- ---- an assertion about a decoded value, by what it asks of the type: nothing where document 01 makes it Undefined; ks are the known rules
 abbrev pub truth_for : Value → Item → Option Asked → Truth
-truth_for x i none = UNDEFINED
-truth_for x i (some a) = truth_by (accepts a.rule a.asserted) (named i.defaults a.ids x)
+truth_for x i None = UNDEFINED
+truth_for x i (Some a) = truth_by (accepts a.rule a.asserted) (named i.defaults a.ids x)
 
 abbrev pub tests_for : Value → Item → Option Asked → ℕ
-tests_for x i none = 0
-tests_for x i (some a) = needed (accepts a.rule a.asserted) (named i.defaults a.ids x)
+tests_for x i None = 0
+tests_for x i (Some a) = needed (accepts a.rule a.asserted) (named i.defaults a.ids x)
 
 abbrev pub item_truth : List Known → Ty → Value → Item → Truth
 item_truth ks ty x i = truth_for x i (asked ks ty i)

@@ -1,7 +1,7 @@
 -- Demand 1: "Each refusal is given exactly where document 01 says and nowhere else; it brings back no truth and a count of 0, and lent memory is not
 -- written." For each entry one number: that of the first cause "in order of checking", 0 where there is none.
 use Rattle.std.specs.Prelude.{ℕ, ◌+◌, ◌*◌, ◌≡◌, Bool, false, List, [], length, leb, ltb, eqb}
-use Rattle.std.proofs.Math.Option.{Option, none, some}
+use Rattle.std.specs.Prelude.{Option, None, Some}
 use Rattle.octets.specs.Pick.{pick, both, no, is_some, bind}
 use Rattle.rows.specs.Limits.{table_fits}
 use Rattle.types.specs.Types.{type_at}
@@ -60,8 +60,8 @@ pub record ListRefusals (room : List ℕ) (one two three four seven six : Bool) 
 
 -- a test of what an option holds; it fails where there is nothing
 abbrev pub of_some : {A : Type 0} → (A → Bool) → Option A → Bool
-of_some f none = false
-of_some f (some x) = f x
+of_some f None = false
+of_some f (Some x) = f x
 
 module _ (t v : List ℕ) (given : Bool) (r : List ℕ) (defaults : Bool) (room : List ℕ) where
   -- 3: whether the reference is well formed and allowed
@@ -74,7 +74,7 @@ module _ (t v : List ℕ) (given : Bool) (r : List ℕ) (defaults : Bool) (room 
 
   -- what the reference names in the decoded value
   abbrev pub named_there : Option (List Component)
-  named_there = bind (given_ids given r) (λ is. bind (stored_value (type_at limits.table t 0) v) (λ x. some (components defaults is x)))
+  named_there = bind (given_ids given r) (λ is. bind (stored_value (type_at limits.table t 0) v) (λ x. Some (components defaults is x)))
 
   -- 6: "room under three numbers per named value"
   abbrev pub room_short : Bool

@@ -1,6 +1,6 @@
 -- The five entries' answers as lists of numbers, for comparing with another program: a refusal is its number alone; any other answer begins with 0.
 use Rattle.std.specs.Prelude.{ℕ, Bool, eqb, List, [], ◌∷◌, take, replicate, ◌*◌}
-use Rattle.std.proofs.Math.Option.{Option, none, some}
+use Rattle.std.specs.Prelude.{Option, None, Some}
 use Rattle.octets.specs.Pick.{pick}
 use Rattle.octets.specs.Octets as octets
 use Prim.Native.String.{String}
@@ -44,10 +44,10 @@ shown_part v place size = show_part (part.part_report value_limits v place size)
 
 -- 3 for no truth
 abbrev pub truth_number : Option Truth → ℕ
-truth_number (some FALSE) = 0
-truth_number (some TRUE) = 1
-truth_number (some UNDEFINED) = 2
-truth_number none = 3
+truth_number (Some FALSE) = 0
+truth_number (Some TRUE) = 1
+truth_number (Some UNDEFINED) = 2
+truth_number None = 3
 
 -- then the truth and the tests
 abbrev pub show_answer : answer.Report → List ℕ

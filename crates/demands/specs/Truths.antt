@@ -1,7 +1,7 @@
 -- Demand 2: "Otherwise the truth is the one RFC 3687 gives the filter for that value, with the rules of RFC 4517 as document 01 states them, and the
 -- reported tests are those of the stated left-to-right reading."
 use Rattle.std.specs.Prelude.{ℕ, ◌≤◌, ◌*◌, ◌/◌, ◌≡◌, List, length}
-use Rattle.std.proofs.Math.Option.{some}
+use Rattle.std.specs.Prelude.{Some}
 use Rattle.types.specs.Types.{type_at}
 use Rattle.value.specs.Value.{Value}
 use Rattle.value.specs.Decode.{stored_value}
@@ -21,7 +21,7 @@ pub record Alone (t v : List ℕ) (u : Truth) (i : Item) : Type 0 where
   pub text : List ℕ
   pub budget : ℕ
   pub tests : ℕ
-  pub parses : parse limits.filter text ≡ some (item i)
+  pub parses : parse limits.filter text ≡ Some (item i)
   pub answered : ask_report limits known_rules t v text budget ≡ answers u tests
 
 -- an answer with truth u and n tests to the filter f, for the stored value that decodes to x
@@ -39,8 +39,8 @@ pub record Answers (t v s : List ℕ) (f : Filter Item) (x : Value) (u : Truth) 
 pub record Answered (t v s : List ℕ) (u : Truth) (n : ℕ) : Type 0 where
   pub filter : Filter Item
   pub value : Value
-  pub parses : parse limits.filter s ≡ some filter
-  pub decodes : stored_value (type_at limits.table t 0) v ≡ some value
+  pub parses : parse limits.filter s ≡ Some filter
+  pub decodes : stored_value (type_at limits.table t 0) v ≡ Some value
   pub answers : Answers t v s filter value u n
 
 pub record AnswersTruly (t v s : List ℕ) (r : Report) : Type 0 where

@@ -1,7 +1,7 @@
 -- Laws of stored names, for this crate's proofs and for the layers above.
 use mathlib.Core.Path.{◌≡◌, refl, sym, ap}
 use mathlib.Core.Bool.{Bool, true, false}
-use mathlib.Core.Option.{Option, none, some}
+use Rattle.std.specs.Prelude.{Option, None, Some}
 use mathlib.Core.List.{List, [], ◌∷◌}
 use Prim.Native.Nat.{ℕ, zero, suc, ◌≤◌, ◌<◌, ◌+◌}
 use native.Mathlib.Omega.{arith}
@@ -56,17 +56,17 @@ module _ (c : List ℕ) where
 
 -- ---- elements from a place on
 module _ (o : ℕ) (c : List ℕ) (at : ℕ) where
-  pub elements_end : (m : ℕ) → length c ≤ at → elements_from m o c at ≡ some []
+  pub elements_end : (m : ℕ) → length c ≤ at → elements_from m o c at ≡ Some []
   unfolding elements_from
   elements_end zero h = rw (le-leb (length c) at h)
   elements_end (suc m) h = rw (le-leb (length c) at h)
 
   module _ (h : at < length c) where
-    pub elements_full : elements_from zero o c at ≡ none
+    pub elements_full : elements_from zero o c at ≡ None
     unfolding elements_from
     elements_full = rw (lt-leb (length c) at h)
 
-    pub elements_misfit : (m : ℕ) → inside_at o c at (length c) ≡ Inside.Misfit → elements_from (suc m) o c at ≡ none
+    pub elements_misfit : (m : ℕ) → inside_at o c at (length c) ≡ Inside.Misfit → elements_from (suc m) o c at ≡ None
     unfolding elements_from
     elements_misfit m e = rw (lt-leb (length c) at h, e)
 
@@ -82,8 +82,8 @@ ordered_after e [] = true
 ordered_after e (b ∷ es) = both (not_above e b.encoding) (in_order (b ∷ es))
 
 abbrev pub pairs_after : ℕ → List ℕ → Option (List Element) → Bool
-pairs_after n e none = false
-pairs_after n e (some es) = both (leb 1 (n + length es)) (both (ordered_after e es) (every_element legal_pair es))
+pairs_after n e None = false
+pairs_after n e (Some es) = both (leb 1 (n + length es)) (both (ordered_after e es) (every_element legal_pair es))
 
 order_cons : (b : Element) (es : List Element) → in_order (b ∷ es) ≡ ordered_after b.encoding es
 unfolding in_order ordered_after
@@ -100,14 +100,14 @@ order_first [] = refl
 order_first (b ∷ es) = refl
 
 pub pairs_first : (o : Option (List Element)) → pairs_after 0 [] o ≡ legal_pairs o
-pairs_first none = refl
-pairs_first (some es) = let e : 0 + length es ≡ length es = omega arith in rw (e, order_first es)
+pairs_first None = refl
+pairs_first (Some es) = let e : 0 + length es ≡ length es = omega arith in rw (e, order_first es)
 
 pub pairs_next : (n : ℕ) (e : List ℕ) (b : Element) (o : Option (List Element))
     → pairs_after n e (consed b o) ≡ both (both (not_above e b.encoding) (legal_pair b.contents)) (pairs_after (n + 1) b.encoding o)
 unfolding every_element
-pairs_next n e b none = sym (never (both (not_above e b.encoding) (legal_pair b.contents)))
-pairs_next n e b (some es) =
+pairs_next n e b None = sym (never (both (not_above e b.encoding) (legal_pair b.contents)))
+pairs_next n e b (Some es) =
     rw (le-leb 1 (n + suc (length es)) (omega arith), le-leb 1 (n + 1 + length es) (omega arith), ordered e b es)
     (go (not_above e b.encoding) (legal_pair b.contents) (ordered_after b.encoding es))
   where
@@ -117,7 +117,7 @@ pairs_next n e b (some es) =
     go true false false = refl
     go false y z = refl
 
-pub pairs_end : (n : ℕ) (e : List ℕ) → pairs_after n e (some []) ≡ leb 1 n
+pub pairs_end : (n : ℕ) (e : List ℕ) → pairs_after n e (Some []) ≡ leb 1 n
 unfolding ordered_after every_element
 pairs_end n e = let q : n + 0 ≡ n = omega arith in rw q (go (leb 1 n))
   where
@@ -128,5 +128,5 @@ pairs_end n e = let q : n + 0 ≡ n = omega arith in rw q (go (leb 1 n))
 -- ---- the RDNs of a sequence
 pub rdns_next : (b : Element) (o : Option (List Element)) → legal_rdns (consed b o) ≡ both (legal_rdn b.contents) (legal_rdns o)
 unfolding every_element
-rdns_next b none = sym (never (legal_rdn b.contents))
-rdns_next b (some es) = refl
+rdns_next b None = sym (never (legal_rdn b.contents))
+rdns_next b (Some es) = refl

@@ -1,7 +1,7 @@
 -- Subidentifiers: the join by a shift and a mask, and the turns of the loops.
 use mathlib.Core.Path.{◌≡◌, refl, sym, ap, ap₂, ◌∙◌}
 use mathlib.Core.Bool.{Bool, true, false}
-use mathlib.Core.Option.{Option, none, some}
+use Rattle.std.specs.Prelude.{Option, None, Some}
 use mathlib.Core.List.{List, [], ◌∷◌}
 use Prim.Native.Nat.{ℕ, suc, ◌≤◌, ◌<◌, ◌+◌, ◌-◌, ◌*◌, ◌%◌, ◌^◌}
 use native.Mathlib.Omega.{arith}
@@ -28,12 +28,12 @@ join v o h =
 pub mask_fits : (o : ℕ) → bit_and o 127 < 4294967296
 mask_fits o = omega (arith, mask_lt o 7)
 
-pub sub-end : (c : List ℕ) (at : ℕ) → length c ≤ at → some [] ≡ subidentifiers (drop at c)
+pub sub-end : (c : List ℕ) (at : ℕ) → length c ≤ at → Some [] ≡ subidentifiers (drop at c)
 unfolding subidentifiers subs_from
 sub-end c at h = rw (rest-none c at h)
 
 module _ (c : List ℕ) (at : ℕ) (h : at < length c) where
-  pub sub_80 : octet c at ≡ 128 → none ≡ subidentifiers (drop at c)
+  pub sub_80 : octet c at ≡ 128 → None ≡ subidentifiers (drop at c)
   unfolding subidentifiers subs_from
   sub_80 e = rw (rest-cons c at h, eq-eqb _ _ e)
 
@@ -43,7 +43,7 @@ module _ (c : List ℕ) (at : ℕ) (h : at < length c) where
   sub-start e = rw (rest-cons c at h, ne_eqb _ _ e)
 
 module _ (c : List ℕ) (at i v : ℕ) (inv : subs_from true v (drop i c) ≡ subidentifiers (drop at c)) where
-  pub sub_cut : length c ≤ i → none ≡ subidentifiers (drop at c)
+  pub sub_cut : length c ≤ i → None ≡ subidentifiers (drop at c)
   unfolding subs_from
   sub_cut h = rw (rest-none c i h) at inv
 
@@ -51,7 +51,7 @@ module _ (c : List ℕ) (at i v : ℕ) (inv : subs_from true v (drop i c) ≡ su
     here : subs_from true v (octet c i ∷ drop (i + 1) c) ≡ subidentifiers (drop at c)
     here = sym (ap (subs_from true v) (rest-cons c i h)) ∙ inv
 
-    pub sub-over : 33554431 < v → none ≡ subidentifiers (drop at c)
+    pub sub-over : 33554431 < v → None ≡ subidentifiers (drop at c)
     unfolding subs_from
     sub-over g = let e : 4294967295 < v * 128 + octet c i % 128 = omega arith in rw (lt-ltb _ _ e) at here
 
@@ -69,30 +69,30 @@ module _ (c : List ℕ) (at i v : ℕ) (inv : subs_from true v (drop i c) ≡ su
 
 -- ---- their number: k have been read
 abbrev pub legal_from : ℕ → Option (List ℕ) → Bool
-legal_from k none = false
-legal_from k (some l) = within 1 32 (k + length l)
+legal_from k None = false
+legal_from k (Some l) = within 1 32 (k + length l)
 
 pub oid-start : (c : List ℕ) → legal_from 0 (subidentifiers c) ≡ legal_oid c
 unfolding legal_oid
 oid-start c = go (subidentifiers c)
   where
     go : (o : Option (List ℕ)) → legal_from 0 o ≡ legal_subs o
-    go none = refl
-    go (some l) = let e : 0 + length l ≡ length l = omega arith in rw e
+    go None = refl
+    go (Some l) = let e : 0 + length l ≡ length l = omega arith in rw e
 
 one_more : (k m : ℕ) (o : Option (List ℕ)) → legal_from k (consed m o) ≡ legal_from (k + 1) o
-one_more k m none = refl
-one_more k m (some l) = let e : k + suc (length l) ≡ k + 1 + length l = omega arith in rw e
+one_more k m None = refl
+one_more k m (Some l) = let e : k + suc (length l) ≡ k + 1 + length l = omega arith in rw e
 
 full : (m : ℕ) (o : Option (List ℕ)) → legal_from 32 (consed m o) ≡ false
-full m none = refl
-full m (some l) =
+full m None = refl
+full m (Some l) =
     let e : 1 ≤ 32 + suc (length l) = omega arith in
     let f : 32 < 32 + suc (length l) = omega arith in
     rw (le-leb _ _ e, lt-leb _ _ f)
 
 module _ (c : List ℕ) (i n : ℕ) (few : n ≤ 32) (inv : legal_from n (subidentifiers (drop i c)) ≡ legal_oid c) where
-  count : leb 1 n ≡ legal_from n (some [])
+  count : leb 1 n ≡ legal_from n (Some [])
   count = let e : n + 0 ≡ n = omega arith in rw (e, le-leb n 32 few) (go (leb 1 n))
     where
       go : (t : Bool) → t ≡ pick t true false

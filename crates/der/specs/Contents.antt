@@ -1,6 +1,6 @@
 -- Legal contents of the basic kinds (Stored value).
 use Rattle.std.specs.Prelude.{ℕ, ◌+◌, ◌-◌, ◌*◌, ◌/◌, ◌%◌, ◌^◌, Bool, true, false, List, [], ◌∷◌, length, ltb, leb, eqb}
-use Rattle.std.proofs.Math.Option.{Option, none, some}
+use Rattle.std.specs.Prelude.{Option, None, Some}
 use Rattle.octets.specs.Pick.{pick, both, either, no, consed}
 use Rattle.octets.specs.Octets.{octet, same, every}
 use Rattle.octets.specs.Text.{within, is_alnum}
@@ -28,12 +28,12 @@ legal_null c = eqb (length c) 0
 -- the subidentifiers from here on, after octets of one that stand for n (inside), or at the start of one; up to 4294967295; shortest, so that
 -- none starts with 80
 unfoldable pub subs_from : Bool → ℕ → List ℕ → Option (List ℕ)
-subs_from inside n [] = pick inside none (some [])
+subs_from inside n [] = pick inside None (Some [])
 subs_from inside n (b ∷ bs) =
     let longer = subs_from true (n * 128 + b % 128) bs in
     let next = subs_from false 0 bs in
-    pick (both (no inside) (eqb b 128)) none
-    (pick (ltb 4294967295 (n * 128 + b % 128)) none
+    pick (both (no inside) (eqb b 128)) None
+    (pick (ltb 4294967295 (n * 128 + b % 128)) None
     (pick (leb 128 b) longer
     (consed (n * 128 + b % 128) next)))
 
@@ -42,8 +42,8 @@ subidentifiers c = subs_from false 0 c
 
 -- 1..32 of them
 abbrev pub legal_subs : Option (List ℕ) → Bool
-legal_subs none = false
-legal_subs (some l) = within 1 32 (length l)
+legal_subs None = false
+legal_subs (Some l) = within 1 32 (length l)
 
 unfoldable pub legal_oid : List ℕ → Bool
 legal_oid c = legal_subs (subidentifiers c)

@@ -1,6 +1,6 @@
 -- Lengths and headers. "tag 31 is not used. Lengths are definite and shortest: one octet below 128, else 81 or 82 (hex) with one or two octets."
 use Rattle.std.specs.Prelude.{ℕ, ◌+◌, ◌-◌, List, ltb, leb, eqb}
-use Rattle.std.proofs.Math.Option.{Option, none}
+use Rattle.std.specs.Prelude.{Option, None}
 use Rattle.octets.specs.Pick.{pick}
 use Rattle.octets.specs.Octets.{octet, two}
 use Rattle.der.specs.Tag.{number}
@@ -49,5 +49,5 @@ any_tag (Header.Found u start len) = Inside.Of start len
 
 -- what f makes of contents, where there are some
 abbrev pub opened : {A : Type 0} → Inside → (ℕ → ℕ → Option A) → Option A
-opened Inside.Misfit f = none
+opened Inside.Misfit f = None
 opened (Inside.Of start len) f = f start len

@@ -1,6 +1,6 @@
 -- What contents mean: an exact integer, a truth, arcs, bits. Octets mean themselves; times are in Time.
 use Rattle.std.specs.Prelude.{ℕ, ◌-◌, ◌*◌, ◌/◌, ◌%◌, ◌^◌, Bool, true, false, List, [], ◌∷◌, ◌++◌, length, take, ltb, leb, eqb}
-use Rattle.std.proofs.Math.Option.{Option, none, some}
+use Rattle.std.specs.Prelude.{Option, None, Some}
 use Rattle.octets.specs.Pick.{pick, both, no}
 use Rattle.octets.specs.Octets.{octet, base_from}
 use Rattle.der.specs.Contents.{subidentifiers}
@@ -32,9 +32,9 @@ abbrev pub first_arcs : ℕ → List ℕ → List ℕ
 first_arcs n l = pick (ltb n 40) (0 ∷ n ∷ l) (pick (ltb n 80) (1 ∷ (n - 40) ∷ l) (2 ∷ (n - 80) ∷ l))
 
 abbrev pub arcs_from : Option (List ℕ) → List ℕ
-arcs_from none = []
-arcs_from (some []) = []
-arcs_from (some (n ∷ l)) = first_arcs n l
+arcs_from None = []
+arcs_from (Some []) = []
+arcs_from (Some (n ∷ l)) = first_arcs n l
 
 unfoldable pub arcs_of : List ℕ → List ℕ
 arcs_of c = arcs_from (subidentifiers c)

@@ -1,7 +1,7 @@
 -- Stored distinguished names (document 02, Q-3). An RDNSequence is a SEQUENCE OF RelativeDistinguishedName, an RDN a SET OF pairs, a pair a SEQUENCE of an
 -- attribute type, which is an OBJECT IDENTIFIER, and a value. "Attribute values are the three string kinds"; "0 to 16 RDNs, with 1 to 4 pairs in one".
 use Rattle.std.specs.Prelude.{ℕ, zero, suc, ◌+◌, ◌-◌, Bool, true, false, List, [], ◌∷◌, map, length, leb, eqb}
-use Rattle.std.proofs.Math.Option.{Option, none, some}
+use Rattle.std.specs.Prelude.{Option, None, Some}
 use Rattle.octets.specs.Pick.{pick, both, consed}
 use Rattle.octets.specs.Octets.{part}
 use Rattle.der.specs.Kind.{object_identifier, utf8_string, printable_string, ia5_string, sequence, set_of}
@@ -30,9 +30,9 @@ element_at c at start n = record { encoding = part c at (start + n - at); conten
 
 -- the elements from a place on, to the end: each has the tag octet o, and there are at most so many
 unfoldable pub elements_from : ℕ → ℕ → List ℕ → ℕ → Option (List Element)
-elements_from zero o c at = pick (leb (length c) at) (some []) none
+elements_from zero o c at = pick (leb (length c) at) (Some []) None
 elements_from (suc most) o c at =
-    pick (leb (length c) at) (some [])
+    pick (leb (length c) at) (Some [])
     (opened (inside_at o c at (length c)) (λ start n. consed (element_at c at start n) (elements_from most o c (start + n))))
 
 abbrev pub rdns_in : List ℕ → Option (List Element)
@@ -73,15 +73,15 @@ in_order (a ∷ []) = true
 in_order (a ∷ b ∷ es) = let r = in_order (b ∷ es) in both (not_above a.encoding b.encoding) r
 
 abbrev pub legal_pairs : Option (List Element) → Bool
-legal_pairs none = false
-legal_pairs (some es) = both (leb 1 (length es)) (both (in_order es) (every_element legal_pair es))
+legal_pairs None = false
+legal_pairs (Some es) = both (leb 1 (length es)) (both (in_order es) (every_element legal_pair es))
 
 unfoldable pub legal_rdn : List ℕ → Bool
 legal_rdn c = legal_pairs (pairs_in c)
 
 abbrev pub legal_rdns : Option (List Element) → Bool
-legal_rdns none = false
-legal_rdns (some es) = every_element legal_rdn es
+legal_rdns None = false
+legal_rdns (Some es) = every_element legal_rdn es
 
 unfoldable pub legal_rdn_sequence : List ℕ → Bool
 legal_rdn_sequence c = legal_rdns (rdns_in c)
@@ -104,8 +104,8 @@ unfoldable pub pair_of : List ℕ → Pair
 pair_of c = pair_behind c (inside_at (own_octet object_identifier) c 0 (length c))
 
 abbrev pub elements_of : Option (List Element) → List Element
-elements_of none = []
-elements_of (some es) = es
+elements_of None = []
+elements_of (Some es) = es
 
 unfoldable pub rdn_of : List ℕ → List Pair
 rdn_of c = map (λ e. pair_of e.contents) (elements_of (pairs_in c))

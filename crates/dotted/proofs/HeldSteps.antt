@@ -1,7 +1,7 @@
 -- Stored arcs, and both sides arc by arc.
 use mathlib.Core.Path.{◌≡◌, refl, sym, ap, ap₂, ◌∙◌}
 use mathlib.Core.Bool.{Bool, true, false}
-use mathlib.Core.Option.{Option, none, some}
+use Rattle.std.specs.Prelude.{Option, None, Some}
 use mathlib.Core.List.{List, [], ◌∷◌, map}
 use Prim.Native.Nat.{ℕ, ◌<◌, ◌-◌}
 use native.Mathlib.Omega.{arith}
@@ -34,12 +34,12 @@ use Rattle.dotted.proofs.SmallSteps.{IsSmall, small-known, above_arc}
 -- ---- the cursor
 split_some : (n : ℕ) (o : Option (List ℕ)) (a b : Bool) → ltb n 40 ≡ a → ltb n 80 ≡ b
     → pick a (consed 0 (consed n o)) (pick b (consed 1 (consed (n - 40) o)) (consed 2 (consed (n - 80) o))) ≡ split_first (consed n o)
-split_some n none true b p q = refl
-split_some n none false true p q = refl
-split_some n none false false p q = refl
-split_some n (some l) true b p q = rw p
-split_some n (some l) false true p q = rw (p, q)
-split_some n (some l) false false p q = rw (p, q)
+split_some n None true b p q = refl
+split_some n None false true p q = refl
+split_some n None false false p q = refl
+split_some n (Some l) true b p q = rw p
+split_some n (Some l) false true p q = rw (p, q)
+split_some n (Some l) false false p q = rw (p, q)
 
 first_told : (c : List ℕ) (n next : ℕ) → report_held c (first_step n next) ≡ split_first (consed n (subidentifiers (drop next c)))
 unfolding rest_held
@@ -119,9 +119,9 @@ unfolding rest_held
 arcs-start t c = ap (matches (split_first (subidentifiers c))) (rest_at_0 t) ∙ go (subidentifiers c) ∙ ap (λ (x : List ℕ). same x (dotted_arcs t)) (sym (arcs_subs c))
   where
     go : (o : Option (List ℕ)) → matches (split_first o) (dotted_arcs t) ≡ same (arcs_from o) (dotted_arcs t)
-    go none = none-same t
-    go (some []) = refl
-    go (some (n ∷ l)) = refl
+    go None = none-same t
+    go (Some []) = refl
+    go (Some (n ∷ l)) = refl
 
 none-asked : (t : List ℕ) → rest_arcs t Dots.Over ≡ []
 unfolding rest_pieces
@@ -133,12 +133,12 @@ over-matches c (HeldStep.End false) = refl
 over-matches c (HeldStep.Next n h) = go (rest_held c h)
   where
     go : (o : Option (List ℕ)) → false ≡ matches (consed n o) []
-    go none = refl
-    go (some l) = sym (same_longer n l)
+    go None = refl
+    go (Some l) = sym (same_longer n l)
 
 matches-cons : (n k : ℕ) (o : Option (List ℕ)) (l : List ℕ) → matches (consed n o) (k ∷ l) ≡ both (eqb n k) (matches o l)
-matches-cons n k none l = sym (never (eqb n k))
-matches-cons n k (some s) l = same-cons n k s l
+matches-cons n k None l = sym (never (eqb n k))
+matches-cons n k (Some s) l = same-cons n k s l
 
 module _ (t c : List ℕ) (a : Dots) (h : Held) (step : HeldStep) (m : Bool)
     (inv : matches (rest_held c h) (rest_arcs t a) ≡ m) (told : report_held c step ≡ rest_held c h) where
@@ -190,7 +190,7 @@ module _ (t c : List ℕ) (a : Dots) (h : Held) (step : HeldStep) (m : Bool)
     asked : rest_arcs t a ≡ decimal_from 0 headed.piece ∷ rest_arcs t (arc_at t at).next
     asked = ap (map (decimal_from 0)) left
 
-    ended : (k : ℕ) (l : List ℕ) (whole : Bool) → false ≡ matches (pick whole (some []) none) (k ∷ l)
+    ended : (k : ℕ) (l : List ℕ) (whole : Bool) → false ≡ matches (pick whole (Some []) None) (k ∷ l)
     ended k l true = sym (same_shorter k l)
     ended k l false = refl
 

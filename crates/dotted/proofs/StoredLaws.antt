@@ -1,7 +1,7 @@
 -- Arcs that can be stored: laws for the layers above.
 use mathlib.Core.Path.{◌≡◌, refl, sym, ap, ◌∙◌}
 use mathlib.Core.Bool.{Bool, true, false, false≢true}
-use mathlib.Core.Option.{Option, none, some}
+use Rattle.std.specs.Prelude.{Option, None, Some}
 use mathlib.Core.List.{List, [], ◌∷◌}
 use Prim.Native.Nat.{ℕ, zero, suc, ◌≤◌, ◌<◌, ◌+◌, ◌-◌, ◌*◌, ◌%◌}
 use native.Mathlib.Omega.{arith}
@@ -26,8 +26,8 @@ small-fitting (suc k) (n ∷ l) e h = let q = both_true (is_small n) (every is_s
 
 -- ---- stored arcs fit
 abbrev small_subs : Option (List ℕ) → Bool
-small_subs none = true
-small_subs (some l) = every is_small l
+small_subs None = true
+small_subs (Some l) = every is_small l
 
 subs_small : (inside : Bool) (n : ℕ) (s : List ℕ) → small_subs (subs_from inside n s) ≡ true
 unfolding subs_from
@@ -37,11 +37,11 @@ subs_small inside n (b ∷ s) =
     go (both (no inside) (eqb b 128)) (ltb 4294967295 (n * 128 + b % 128)) (leb 128 b) refl (subs_small true (n * 128 + b % 128) s) (subs_small false 0 s)
   where
     onto : (m : ℕ) (o : Option (List ℕ)) → m < 4294967296 → small_subs o ≡ true → small_subs (consed m o) ≡ true
-    onto m none h e = refl
-    onto m (some l) h e = every-cons is_small m l ∙ rw (lt-ltb m 4294967296 h) e
+    onto m None h e = refl
+    onto m (Some l) h e = every-cons is_small m l ∙ rw (lt-ltb m 4294967296 h) e
 
     go : (x y z : Bool) → ltb 4294967295 (n * 128 + b % 128) ≡ y → small_subs (subs_from true (n * 128 + b % 128) s) ≡ true → small_subs (subs_from false 0 s) ≡ true
-        → small_subs (pick x none (pick y none (pick z (subs_from true (n * 128 + b % 128) s) (consed (n * 128 + b % 128) (subs_from false 0 s))))) ≡ true
+        → small_subs (pick x None (pick y None (pick z (subs_from true (n * 128 + b % 128) s) (consed (n * 128 + b % 128) (subs_from false 0 s))))) ≡ true
     go true y z e f g = refl
     go false true z e f g = refl
     go false false true e f g = f
@@ -55,9 +55,9 @@ two-fit a b l f g e h =
 
 arcs-fit : (o : Option (List ℕ)) → small_subs o ≡ true → legal_subs o ≡ true → fitting 33 (arcs_from o) ≡ true
 unfolding fitting
-arcs-fit none e f = refl
-arcs-fit (some []) e f = refl
-arcs-fit (some (n ∷ l)) e f = go (ltb n 40) (ltb n 80)
+arcs-fit None e f = refl
+arcs-fit (Some []) e f = refl
+arcs-fit (Some (n ∷ l)) e f = go (ltb n 40) (ltb n 80)
   where
     few : length l ≤ 31
     few = let q : suc (length l) ≤ 32 = leb-true _ _ (both_true (leb 1 (suc (length l))) (leb (suc (length l)) 32) f).1 in omega arith

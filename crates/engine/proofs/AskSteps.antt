@@ -1,7 +1,7 @@
 -- The answer to a filter: one lemma for each return; its premises are the facts as the code has them.
 use mathlib.Core.Path.{◌≡◌, refl, sym, ap, ◌∙◌, subst}
 use mathlib.Core.Bool.{Bool, true, false, not, true≢false}
-use mathlib.Core.Option.{Option, none, some}
+use Rattle.std.specs.Prelude.{Option, None, Some}
 use mathlib.Core.List.{List}
 use Prim.Native.Nat.{ℕ, ◌≤◌, ◌+◌}
 use native.Mathlib.Omega.{arith}
@@ -100,11 +100,11 @@ module _ (ty : Ty) (v : List ℕ) (budget : ℕ) (f : Filter Item) where
   not_stored e = go (stored_value ty v) e
     where
       go : (o : Option Value) → is_some o ≡ false → refused 4 ≡ with_value known_rules ty v budget f o
-      go none q = refl
-      go (some x) q = absurd (true≢false q)
+      go None q = refl
+      go (Some x) q = absurd (true≢false q)
 
   -- no header is met that doesn't fit
-  stored_told : (x : Value) → stored_value ty v ≡ some x → judged_report (charged budget 0 (reading (stored_outcome ty v) f)) ≡ with_value known_rules ty v budget f (stored_value ty v)
+  stored_told : (x : Value) → stored_value ty v ≡ Some x → judged_report (charged budget 0 (reading (stored_outcome ty v) f)) ≡ with_value known_rules ty v budget f (stored_value ty v)
   unfolding stored_outcome with_value evaluated
   stored_told x e =
       budget_told budget (reading (stored_outcome ty v) f)
@@ -119,18 +119,18 @@ unfolding with_filter
 typed-bad ty v s budget x a stored e q = ap report q ∙ go (parse filter_limits s)
   where
     go : (o : Option (Filter Item)) → report (refused_behind 4 o) ≡ with_filter known_rules ty v budget o
-    go none = refl
-    go (some f) = not_stored ty v budget f (sym stored ∙ not-true x e)
+    go None = refl
+    go (Some f) = not_stored ty v budget f (sym stored ∙ not-true x e)
 
 -- 3, then 5, or a truth
 module _ (t w v s : List ℕ) (budget : ℕ) (ready : Ready t w v s) (r : Evaluated) (told : Evaluates (stored_outcome (words.type_at t 0) v) budget (parse filter_limits s) r) where
   abbrev ty : Ty
   ty = words.type_at t 0
 
-  the_value : (x : Value) × (stored_value ty v ≡ some x)
+  the_value : (x : Value) × (stored_value ty v ≡ Some x)
   the_value = some_there (stored_value ty v) ready.stored
 
-  judged : (f : Filter Item) → judged_report (charged budget 0 (reading (stored_outcome ty v) f)) ≡ with_filter known_rules ty v budget (some f)
+  judged : (f : Filter Item) → judged_report (charged budget 0 (reading (stored_outcome ty v) f)) ≡ with_filter known_rules ty v budget (Some f)
   unfolding with_filter
   judged f = stored_told ty v budget f the_value.0 the_value.1
 
@@ -148,8 +148,8 @@ module _ (t w v s : List ℕ) (budget : ℕ) (ready : Ready t w v s) (r : Evalua
   stored-over a e q = ap report q ∙ go (parse filter_limits s) refl
     where
       go : (o : Option (Filter Item)) → parse filter_limits s ≡ o → report (refused_behind 5 o) ≡ with_filter known_rules ty v budget o
-      go none z = refl
-      go (some f) z = ap judged_report (known Evaluated.Over e f z) ∙ judged f
+      go None z = refl
+      go (Some f) z = ap judged_report (known Evaluated.Over e f z) ∙ judged f
 
   pub stored_malformed : r ≡ Evaluated.Malformed → refused 3 ≡ with_filter known_rules ty v budget (parse filter_limits s)
   unfolding with_filter

@@ -1,7 +1,7 @@
 -- The listing: one lemma for each return; its premises are the facts as the code has them.
 use mathlib.Core.Path.{◌≡◌, refl, sym, ap, ◌∙◌}
 use mathlib.Core.Bool.{Bool, true, false, not, true≢false}
-use mathlib.Core.Option.{Option, none, some}
+use Rattle.std.specs.Prelude.{Option, None, Some}
 use mathlib.Core.List.{List, [], map}
 use Prim.Native.Nat.{ℕ, ◌≤◌, ◌<◌, ◌+◌, ◌*◌, ◌/◌, min}
 use native.Mathlib.Omega.{arith}
@@ -105,20 +105,20 @@ module _ (t q v : List ℕ) (limit n : ℕ) (m : List ℕ) (counts : task_of q �
 module _ (ty : Ty) (v m : List ℕ) (d : Bool) where
   not_allowed : (o : Option (List Id)) → is_some (bind o (λ is. allowed is ty)) ≡ false → refused_list 3 m ≡ with_ids ty v d m o
   unfolding with_ids
-  not_allowed none e = refl
-  not_allowed (some is) e = rw e
+  not_allowed None e = refl
+  not_allowed (Some is) e = rw e
 
   not_stored : (o : Option (List Id)) → is_some (bind o (λ is. allowed is ty)) ≡ true → is_some (stored_value ty v) ≡ false → refused_list 4 m ≡ with_ids ty v d m o
   unfolding with_ids with_stored
-  not_stored none e f = absurd (true≢false (sym e))
-  not_stored (some is) e f = rw e (go (stored_value ty v) f)
+  not_stored None e f = absurd (true≢false (sym e))
+  not_stored (Some is) e f = rw e (go (stored_value ty v) f)
     where
       go : (o : Option Value) → is_some o ≡ false → refused_list 4 m ≡ with_stored ty v d m is o
-      go none q = refl
-      go (some x) q = absurd (true≢false q)
+      go None q = refl
+      go (Some x) q = absurd (true≢false q)
 
   -- no header is met that doesn't fit
-  is-listed : (is : List Id) (x : Value) → is_some (allowed is ty) ≡ true → stored_value ty v ≡ some x → listed (map component (named d is x)) m ≡ with_ids ty v d m (some is)
+  is-listed : (is : List Id) (x : Value) → is_some (allowed is ty) ≡ true → stored_value ty v ≡ Some x → listed (map component (named d is x)) m ≡ with_ids ty v d m (Some is)
   unfolding with_ids with_stored
   is-listed is x e f = rw (e, f, trail-fits ty v x f d is)
 
@@ -141,13 +141,13 @@ allowed-by : (t q : List ℕ) (g : Target) (k : PlannedTo t q g) → is_some (bi
 allowed-by t q g k = ap is_some (sym k.leads) ∙ sym (landed-there t g)
 
 -- the identifiers of a reference that leads somewhere
-ids : (t q : List ℕ) (k : LeadsOn t q) → (is : List Id) × (given_ids k.planned.given k.planned.reference ≡ some is) × (is_some (allowed is (table.type_at t 0)) ≡ true)
+ids : (t q : List ℕ) (k : LeadsOn t q) → (is : List Id) × (given_ids k.planned.given k.planned.reference ≡ Some is) × (is_some (allowed is (table.type_at t 0)) ≡ true)
 ids t q k = go (given_ids k.planned.given k.planned.reference) refl (allowed-by t q k.target k.planned ∙ landed_so k.target k.lands)
   where
     go : (o : Option (List Id)) → given_ids k.planned.given k.planned.reference ≡ o → is_some (bind o (λ is. allowed is (table.type_at t 0))) ≡ true
-        → (is : List Id) × (given_ids k.planned.given k.planned.reference ≡ some is) × (is_some (allowed is (table.type_at t 0)) ≡ true)
-    go none p h = absurd (true≢false (sym h))
-    go (some is) p h = (is, p, h)
+        → (is : List Id) × (given_ids k.planned.given k.planned.reference ≡ Some is) × (is_some (allowed is (table.type_at t 0)) ≡ true)
+    go None p h = absurd (true≢false (sym h))
+    go (Some is) p h = (is, p, h)
 
 module _ (t v : List ℕ) (x : Bool) (stored : x ≡ is_some (stored_value (table.type_at t 0) v)) (q : List ℕ) where
   pub led-bad : (m : List ℕ) → not x ≡ true → ListsLed t q v m (listing (Listed.Refused 4) m)
@@ -157,7 +157,7 @@ module _ (t v : List ℕ) (x : Bool) (stored : x ≡ is_some (stored_value (tabl
       (allowed-by t q k.target k.planned ∙ landed_so k.target k.lands) (sym stored ∙ not-true x f)
 
   module _ (f : not x ≡ false) where
-    val : (y : Value) × (stored_value (table.type_at t 0) v ≡ some y)
+    val : (y : Value) × (stored_value (table.type_at t 0) v ≡ Some y)
     val = some_there (stored_value (table.type_at t 0) v) (sym stored ∙ not-false x f)
 
     unfoldable asks : LeadsOn t q → Asks t q [] v

@@ -1,7 +1,7 @@
 -- Refusal 7 doesn't come: along the octets of a stored value each header fits, and what is met there is what the decoded value says.
 use mathlib.Core.Path.{◌≡◌, refl, ap, ap₂, ◌∙◌}
 use mathlib.Core.Bool.{Bool, true, false}
-use mathlib.Core.Option.{Option, none, some}
+use Rattle.std.specs.Prelude.{Option, None, Some}
 use mathlib.Core.List.{List, [], ◌∷◌}
 use Prim.Native.Nat.{ℕ, ◌+◌}
 use Rattle.octets.specs.Pick.{pick}
@@ -40,14 +40,14 @@ trail-tested r a n (h ∷ hs) =
     go true = refl
     go false = refl
 
-module _ (ks : List Known) (ty : Ty) (v : List ℕ) (x : Value) (stored : stored_value ty v ≡ some x) where
+module _ (ks : List Known) (ty : Ty) (v : List ℕ) (x : Value) (stored : stored_value ty v ≡ Some x) where
   along-outcome : (i : Item) → along_trail ks ty v i ≡ ends (outcome ks ty x i)
   unfolding along_trail outcome
   along-outcome i = go (asked ks ty i)
     where
       go : (o : Option Asked) → along_trail_of ty v i o ≡ ends (outcome_of x i o)
-      go none = refl
-      go (some a) =
+      go None = refl
+      go (Some a) =
           ap (testing_trail (accepts_component a.rule a.asserted) 0) (trail-named i.defaults a.ids ty v x stored) ∙ trail-tested a.rule a.asserted 0 (named i.defaults a.ids x)
 
 -- ---- a filter
@@ -65,9 +65,9 @@ module _ {A : Type 0} (meets : A → Met) (says : A → Outcome) (each : (i : A)
     reading_in_ends j (next f fs) = ap₂ (and_then_met j) (reading_ends f) (reading_in_ends j fs)
 
 -- ---- over a stored value: a filter; a listing
-pub no-misfit : (ks : List Known) (ty : Ty) (v : List ℕ) (x : Value) → stored_value ty v ≡ some x → (budget : ℕ) (f : Filter Item) → meets_misfit ks ty v budget f ≡ false
+pub no-misfit : (ks : List Known) (ty : Ty) (v : List ℕ) (x : Value) → stored_value ty v ≡ Some x → (budget : ℕ) (f : Filter Item) → meets_misfit ks ty v budget f ≡ false
 unfolding meets_misfit
 no-misfit ks ty v x stored budget f = ap (misfit_within budget) (reading_ends (along_trail ks ty v) (outcome ks ty x) (along-outcome ks ty v x stored) f)
 
-pub trail-fits : (ty : Ty) (v : List ℕ) (x : Value) → stored_value ty v ≡ some x → (defaults : Bool) (is : List Id) → has_misfit (trail defaults is ty v) ≡ false
+pub trail-fits : (ty : Ty) (v : List ℕ) (x : Value) → stored_value ty v ≡ Some x → (defaults : Bool) (is : List Id) → has_misfit (trail defaults is ty v) ≡ false
 trail-fits ty v x stored defaults is = ap has_misfit (trail-named defaults is ty v x stored) ∙ laid-sound (named defaults is x)

@@ -1,7 +1,7 @@
 -- The answer to a filter: a truth with the tests made, or a refusal. "Of 5 and 7 the first met is given, each value being reached just before its
 -- test".
 use Rattle.std.specs.Prelude.{ℕ, Bool, List, leb}
-use Rattle.std.proofs.Math.Option.{Option, none, some}
+use Rattle.std.specs.Prelude.{Option, None, Some}
 use Rattle.octets.specs.Pick.{pick, both}
 use Rattle.rows.specs.Limits.{table_fits}
 use Rattle.types.specs.Types.{Ty, type_at}
@@ -26,10 +26,10 @@ pub record Report : Type 0 where
   pub tests : ℕ
 
 abbrev pub refused : ℕ → Report
-refused n = record { refusal = n; truth = none; tests = 0 }
+refused n = record { refusal = n; truth = None; tests = 0 }
 
 abbrev pub answers : Truth → ℕ → Report
-answers t n = record { refusal = 0; truth = some t; tests = n }
+answers t n = record { refusal = 0; truth = Some t; tests = n }
 
 -- 5: "tests needed exceed the budget"; "A budget is enough if it is at least the tests needed."
 unfoldable pub budgeted : ℕ → Outcome → Report
@@ -45,13 +45,13 @@ evaluated ks ty x f = reading (outcome ks ty x) f
 
 -- 4: "value not as above"; 7 where a header that doesn't fit is met within the budget, else 5 where the tests needed exceed it
 unfoldable pub with_value : List Known → Ty → List ℕ → ℕ → Filter Item → Option Value → Report
-with_value ks ty v budget f none = refused 4
-with_value ks ty v budget f (some x) = pick (meets_misfit ks ty v budget f) (refused 7) (budgeted budget (evaluated ks ty x f))
+with_value ks ty v budget f None = refused 4
+with_value ks ty v budget f (Some x) = pick (meets_misfit ks ty v budget f) (refused 7) (budgeted budget (evaluated ks ty x f))
 
 -- 3: "filter not of the form above, or over depth or items"; then the others, by the value of the type of row 0 that the octets decode to
 unfoldable pub with_filter : List Known → Ty → List ℕ → ℕ → Option (Filter Item) → Report
-with_filter ks ty v budget none = refused 3
-with_filter ks ty v budget (some f) = with_value ks ty v budget f (stored_value ty v)
+with_filter ks ty v budget None = refused 3
+with_filter ks ty v budget (Some f) = with_value ks ty v budget f (stored_value ty v)
 
 -- 2, then 3 and the others
 unfoldable pub question_of : Limits → List Known → List ℕ → List ℕ → List ℕ → ℕ → Report

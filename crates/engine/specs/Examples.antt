@@ -1,6 +1,6 @@
 -- Computed examples.
 use Rattle.std.specs.Prelude.{◌≡◌, refl, Bool, true, false, List, [], ◌∷◌, map, ℕ, set, replicate}
-use Rattle.std.proofs.Math.Option.{some}
+use Rattle.std.specs.Prelude.{Some}
 use Prim.Native.String.{String}
 use Rattle.octets.specs.Octets.{bytes, hex}
 use Rattle.types.specs.Types.{type_at}
@@ -86,7 +86,7 @@ faults = refl
 
 -- an assertion's tests up to the fault; one that accepts a value before it, and a walk that doesn't come there, meet none
 abbrev asserting : String → String → Item
-asserting reference n = record { component = some (bytes reference); defaults = true; rule = bytes "integerMatch"; value = bytes n }
+asserting reference n = record { component = Some (bytes reference); defaults = true; rule = bytes "integerMatch"; value = bytes n }
 
 met : List ℕ → Item → Met
 met v i = along_trail known_rules (type_at table_limits licence 0) v i

@@ -1,6 +1,6 @@
 -- The listing: "three numbers for each named value", or a refusal; and the lent memory afterwards. Order: 1, 2, 3, 4, 7, 6.
 use Rattle.std.specs.Prelude.{ℕ, ◌*◌, Bool, true, false, List, ◌++◌, map, length, drop, ltb, leb}
-use Rattle.std.proofs.Math.Option.{Option, none, some}
+use Rattle.std.specs.Prelude.{Option, None, Some}
 use Rattle.octets.specs.Pick.{pick, both, either, no, is_some}
 use Rattle.rows.specs.Limits.{table_fits}
 use Rattle.types.specs.Types.{Ty, type_at}
@@ -55,15 +55,15 @@ listing_fits l t v given r = both (table_fits l.table t) (both (value_fits l.val
 
 -- 4: "value not as above"; 7 goes before 6; what is listed is what the reference names in the decoded value
 unfoldable pub with_stored : Ty → List ℕ → Bool → List ℕ → List Id → Option Value → Listing
-with_stored ty v defaults room is none = refused_list 4 room
-with_stored ty v defaults room is (some x) =
+with_stored ty v defaults room is None = refused_list 4 room
+with_stored ty v defaults room is (Some x) =
     pick (has_misfit (trail defaults is ty v)) (refused_list 7 room) (listed (map component (named defaults is x)) room)
 
 -- "The listing may be given no reference; an empty one is refused 3."
 -- 3: "reference malformed or not allowed"; then the others, by the value of the type of row 0 that the octets decode to
 unfoldable pub with_ids : Ty → List ℕ → Bool → List ℕ → Option (List Id) → Listing
-with_ids ty v defaults room none = refused_list 3 room
-with_ids ty v defaults room (some is) =
+with_ids ty v defaults room None = refused_list 3 room
+with_ids ty v defaults room (Some is) =
     pick (is_some (allowed is ty))
     (with_stored ty v defaults room is (stored_value ty v))
     (refused_list 3 room)

@@ -1,7 +1,7 @@
 -- Refusal 7's condition for a filter, on the octets reached: "walking a checked value from its first octet along the reference, .. the engine reaches"
 -- a header "that doesn't fit"; "each value being reached just before its test".
 use Rattle.std.specs.Prelude.{ℕ, ◌+◌, Bool, false, List, leb}
-use Rattle.std.proofs.Math.Option.{Option, none, some}
+use Rattle.std.specs.Prelude.{Option, None, Some}
 use Rattle.octets.specs.Pick.{pick}
 use Rattle.types.specs.Types.{Ty}
 use Rattle.reference.specs.Numbers.{Component}
@@ -27,8 +27,8 @@ testing_trail accepted n (reach c a) =
     pick (accepted c) (ends (settled TRUE (n + 1))) rest
 
 abbrev pub along_trail_of : Ty → List ℕ → Item → Option Asked → Met
-along_trail_of ty v i none = ends (settled UNDEFINED 0)
-along_trail_of ty v i (some a) = testing_trail (accepts_component a.rule a.asserted) 0 (trail i.defaults a.ids ty v)
+along_trail_of ty v i None = ends (settled UNDEFINED 0)
+along_trail_of ty v i (Some a) = testing_trail (accepts_component a.rule a.asserted) 0 (trail i.defaults a.ids ty v)
 
 unfoldable pub along_trail : List Known → Ty → List ℕ → Item → Met
 along_trail ks ty v i = along_trail_of ty v i (asked ks ty i)

@@ -1,7 +1,7 @@
 -- Names built of escaped values are read back.
 use mathlib.Core.Path.{◌≡◌, refl, sym, ap, ◌∙◌}
 use mathlib.Core.Bool.{Bool, true, false}
-use mathlib.Core.Option.{none, some}
+use Rattle.std.specs.Prelude.{None, Some}
 use mathlib.Core.List.{List, [], ◌∷◌, ◌++◌, append_assoc, append-nil}
 use Prim.Native.Nat.{ℕ, zero, suc, ◌≤◌}
 use native.Mathlib.Omega.{arith}
@@ -42,7 +42,7 @@ module _ (a : Attribute) (x : List ℕ) where
   pair-before : pair_text a ++ x ≡ pair_with a.type (escaped_text a.value) x
   pair-before = append_assoc a.type (61 ∷ escaped_text a.value) x
 
-  pair_read : Sound a → ends_value x ≡ true → attribute_from (letters (pair_text a ++ x)) ≡ some (record { got = a; rest = letters x })
+  pair_read : Sound a → ends_value x ≡ true → attribute_from (letters (pair_text a ++ x)) ≡ Some (record { got = a; rest = letters x })
   pair_read s e = ap (λ (l : List ℕ). attribute_from (letters l)) pair-before ∙ attribute-escaped a.value x e a.type s.dotted s.valid
 
   pair-characters : Sound a → utf8 (pair_text a ++ x) ≡ utf8 x
@@ -51,8 +51,8 @@ module _ (a : Attribute) (x : List ℕ) where
       ∙ utf8-low 61 (escaped_text a.value ++ x) (omega arith) ∙ utf8-joined (escaped_text a.value) x (utf8-escaped a.value ∙ s.valid)
 
 -- ---- an RDN
-module _ (most : ℕ) (ls x : List Letter) (a : Attribute) (e : attribute_from ls ≡ some (record { got = a; rest = x })) where
-  rdn-last : is_before 43 x ≡ false → rdn_from (suc most) ls ≡ some (record { got = a ∷ []; rest = x })
+module _ (most : ℕ) (ls x : List Letter) (a : Attribute) (e : attribute_from ls ≡ Some (record { got = a; rest = x })) where
+  rdn-last : is_before 43 x ≡ false → rdn_from (suc most) ls ≡ Some (record { got = a ∷ []; rest = x })
   unfolding rdn_from
   rdn-last f = rw (e, f)
 
@@ -73,7 +73,7 @@ ends-rdn (b ∷ s) e =
     (rw q, rw (letters-bare b s (λ z. omega arith), q))
 
 rdn-read : (r : List Attribute) (most : ℕ) (x : List ℕ) → every_pair r ≡ true → 1 ≤ length r → length r ≤ most → ends_rdn x ≡ true
-    → rdn_from most (letters (rdn_text r ++ x)) ≡ some (record { got = r; rest = letters x })
+    → rdn_from most (letters (rdn_text r ++ x)) ≡ Some (record { got = r; rest = letters x })
 unfolding rdn_text
 rdn-read [] most x e h m f = absurd (omega arith)
 rdn-read (a ∷ r) zero x e h m f = absurd (omega arith)
@@ -83,10 +83,10 @@ rdn-read (a ∷ []) (suc most) x e h m f =
 rdn-read (a ∷ b ∷ r) (suc most) x e h m f =
     let after = rdn_text (b ∷ r) ++ x in
     let ls = letters (pair_text a ++ (43 ∷ after)) in
-    let p : attribute_from ls ≡ some (record { got = a; rest = letters (43 ∷ after) }) = pair_read a (43 ∷ after) (sound a (b ∷ r) e) refl in
-    let q : attribute_from ls ≡ some (record { got = a; rest = bare 43 ∷ letters after })
-    = p ∙ ap (λ (l : List Letter). some (record { got = a; rest = l })) (letters-bare 43 after (λ z. omega arith)) in
-    let i : rdn_from most (letters after) ≡ some (record { got = b ∷ r; rest = letters x })
+    let p : attribute_from ls ≡ Some (record { got = a; rest = letters (43 ∷ after) }) = pair_read a (43 ∷ after) (sound a (b ∷ r) e) refl in
+    let q : attribute_from ls ≡ Some (record { got = a; rest = bare 43 ∷ letters after })
+    = p ∙ ap (λ (l : List Letter). Some (record { got = a; rest = l })) (letters-bare 43 after (λ z. omega arith)) in
+    let i : rdn_from most (letters after) ≡ Some (record { got = b ∷ r; rest = letters x })
     = rdn-read (b ∷ r) most x (others-sound a (b ∷ r) e) (omega arith) (omega arith) f in
     ap (λ (l : List ℕ). rdn_from (suc most) (letters l)) (append_assoc (pair_text a) (43 ∷ rdn_text (b ∷ r)) x)
     ∙ rdn-more most ls (bare 43 ∷ letters after) a q refl ∙ ap (with_first a) i
@@ -100,8 +100,8 @@ rdn-characters (a ∷ b ∷ r) x e =
     ∙ utf8-low 43 (rdn_text (b ∷ r) ++ x) (omega arith) ∙ rdn-characters (b ∷ r) x (others-sound a (b ∷ r) e)
 
 -- ---- a name
-module _ (most : ℕ) (ls x : List Letter) (r : List Attribute) (e : rdn_from most_pairs ls ≡ some (record { got = r; rest = x })) where
-  name-last : is_before 44 x ≡ false → rdns_from (suc most) ls ≡ some (r ∷ [])
+module _ (most : ℕ) (ls x : List Letter) (r : List Attribute) (e : rdn_from most_pairs ls ≡ Some (record { got = r; rest = x })) where
+  name-last : is_before 44 x ≡ false → rdns_from (suc most) ls ≡ Some (r ∷ [])
   unfolding rdns_from
   name-last f = rw (e, f)
 
@@ -127,11 +127,11 @@ unfolding every_rdn
 others-whole r rs e = (both_true (is_rdn r) (every_rdn rs) e).1
 
 whole-read : (r : List Attribute) (x : List ℕ) → Whole r → ends_rdn x ≡ true
-    → rdn_from most_pairs (letters (rdn_text r ++ x)) ≡ some (record { got = r; rest = letters x })
+    → rdn_from most_pairs (letters (rdn_text r ++ x)) ≡ Some (record { got = r; rest = letters x })
 whole-read r x w f = rdn-read r most_pairs x w.pairs w.least w.at_most f
 
 names-read : (rs : List (List Attribute)) (most : ℕ) → every_rdn rs ≡ true → 1 ≤ length rs → length rs ≤ most
-    → rdns_from most (letters (name_text rs)) ≡ some rs
+    → rdns_from most (letters (name_text rs)) ≡ Some rs
 unfolding name_text letters
 names-read [] most e h m = absurd (omega arith)
 names-read (r ∷ rs) zero e h m = absurd (omega arith)
@@ -141,10 +141,10 @@ names-read (r ∷ []) (suc most) e h m =
 names-read (r ∷ q ∷ rs) (suc most) e h m =
     let x = name_text (q ∷ rs) in
     let ls = letters (rdn_text r ++ (44 ∷ x)) in
-    let p : rdn_from most_pairs ls ≡ some (record { got = r; rest = bare 44 ∷ letters x })
+    let p : rdn_from most_pairs ls ≡ Some (record { got = r; rest = bare 44 ∷ letters x })
     = whole-read r (44 ∷ x) (whole r (q ∷ rs) e) refl
-    ∙ ap (λ (l : List Letter). some (record { got = r; rest = l })) (letters-bare 44 x (λ z. omega arith)) in
-    let i : rdns_from most (letters x) ≡ some (q ∷ rs) = names-read (q ∷ rs) most (others-whole r (q ∷ rs) e) (omega arith) (omega arith) in
+    ∙ ap (λ (l : List Letter). Some (record { got = r; rest = l })) (letters-bare 44 x (λ z. omega arith)) in
+    let i : rdns_from most (letters x) ≡ Some (q ∷ rs) = names-read (q ∷ rs) most (others-whole r (q ∷ rs) e) (omega arith) (omega arith) in
     name-more most ls (bare 44 ∷ letters x) r p refl ∙ ap (consed r) i
 
 names-characters : (rs : List (List Attribute)) → every_rdn rs ≡ true → utf8 (name_text rs) ≡ true
@@ -156,16 +156,16 @@ names-characters (r ∷ q ∷ rs) e =
     ∙ names-characters (q ∷ rs) (others-whole r (q ∷ rs) e)
 
 -- no text is no RDN
-never-empty : (most : ℕ) → rdns_from (suc most) [] ≡ none
+never-empty : (most : ℕ) → rdns_from (suc most) [] ≡ None
 unfolding rdns_from rdn_from attribute_from type_from
 never-empty most = refl
 
-some_text_lem : (s : List ℕ) (rs : List (List Attribute)) → rdns_from most_rdns (letters s) ≡ some rs → distinguished_name s ≡ some rs
+some_text_lem : (s : List ℕ) (rs : List (List Attribute)) → rdns_from most_rdns (letters s) ≡ Some rs → distinguished_name s ≡ Some rs
 unfolding letters
 some_text_lem [] rs e = absurd (let n = never-empty 15 in let z : ◌≡◌ {A = ℕ} 0 1 = cc in omega arith)
 some_text_lem (b ∷ s) rs e = e
 
-name_built : (rs : List (List Attribute)) → every_rdn rs ≡ true → length rs ≤ most_rdns → distinguished_name (name_text rs) ≡ some rs
+name_built : (rs : List (List Attribute)) → every_rdn rs ≡ true → length rs ≤ most_rdns → distinguished_name (name_text rs) ≡ Some rs
 unfolding name_text
 name_built [] e m = refl
 name_built (r ∷ rs) e m = some_text_lem (name_text (r ∷ rs)) (r ∷ rs) (names-read (r ∷ rs) most_rdns e (omega arith) m)

@@ -1,7 +1,7 @@
 -- A name's reader on an escaped text.
 use mathlib.Core.Path.{◌≡◌, refl, sym, ap, subst, ◌∙◌}
 use mathlib.Core.Bool.{true, false≢true}
-use mathlib.Core.Option.{some}
+use Rattle.std.specs.Prelude.{Some}
 use mathlib.Core.List.{List, [], ◌∷◌, ◌++◌}
 use Prim.Native.Nat.{ℕ}
 use native.Mathlib.Omega.{arith}
@@ -44,7 +44,7 @@ module _ (t after : List ℕ) (e : ends_value after ≡ true) where
   left-letters = ap from_end (letters-escaped t true after) ∙ from-end t true (letters after) (all_left after e)
 
   pub attribute-escaped : (type : List ℕ) → is_dotted type ≡ true → utf8 t ≡ true
-      → attribute_from (letters (pair_with type (escaped_text t) after)) ≡ some (record { got = record { type = type; value = t }; rest = letters after })
+      → attribute_from (letters (pair_with type (escaped_text t) after)) ≡ Some (record { got = record { type = type; value = t }; rest = letters after })
   unfolding attribute_from
   attribute-escaped type d u =
       ap (λ r. bind r with_value) (type-read type (escaped_text t ++ after) d)

@@ -1,7 +1,7 @@
 -- A name's reader on an attribute type in dotted form.
 use mathlib.Core.Path.{◌≡◌, refl, sym, ap, ◌∙◌}
 use mathlib.Core.Bool.{Bool, true, false, false≢true}
-use mathlib.Core.Option.{some}
+use Rattle.std.specs.Prelude.{Some}
 use mathlib.Core.List.{List, [], ◌∷◌, ◌++◌}
 use Prim.Native.Nat.{ℕ, ◌≤◌}
 use native.Mathlib.Omega.{arith}
@@ -87,7 +87,7 @@ unfolding dotted_arcs
 dotted-plain t e = pieces-plain t (numbers-plain (pieces t) (both_true (every_number (pieces t)) (rooted (dotted_arcs t)) (sym (dotted-pieces t) ∙ e)).0)
 
 -- ---- the type is read up to its `=`
-type-from : (t x : List ℕ) → every plain t ≡ true → type_from (letters (t ++ (61 ∷ x))) ≡ some (record { got = t; rest = letters x })
+type-from : (t x : List ℕ) → every plain t ≡ true → type_from (letters (t ++ (61 ∷ x))) ≡ Some (record { got = t; rest = letters x })
 unfolding type_from
 type-from [] x e = rw (letters-bare 61 x (λ q. omega arith))
 type-from (b ∷ t) x e =
@@ -95,5 +95,5 @@ type-from (b ∷ t) x e =
     let p = plain-within b w.0 in
     rw (letters-bare b (t ++ (61 ∷ x)) (λ q. omega arith), ne_eqb b 61 (λ q. omega arith), type-from t x w.1)
 
-pub type-read : (t x : List ℕ) → is_dotted t ≡ true → type_from (letters (t ++ (61 ∷ x))) ≡ some (record { got = t; rest = letters x })
+pub type-read : (t x : List ℕ) → is_dotted t ≡ true → type_from (letters (t ++ (61 ∷ x))) ≡ Some (record { got = t; rest = letters x })
 type-read t x e = type-from t x (dotted-plain t e)

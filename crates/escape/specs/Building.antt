@@ -1,6 +1,6 @@
 -- Names built of escaped values.
 use Rattle.std.specs.Prelude.{ℕ, ◌≡◌, Bool, true, List, [], ◌∷◌, ◌++◌, length, leb}
-use Rattle.std.proofs.Math.Option.{some}
+use Rattle.std.specs.Prelude.{Some}
 use Rattle.octets.specs.Pick.{both}
 use Rattle.octets.specs.Utf8.{utf8}
 use Rattle.der.specs.Dotted.{is_dotted}
@@ -41,5 +41,5 @@ is_name rs = both (every_rdn rs) (leb (length rs) most_rdns)
 
 -- such a name is read back from its text, which is valid UTF-8
 pub record ReadBack (rs : List (List Attribute)) : Type 0 where
-  pub name : distinguished_name (name_text rs) ≡ some rs
+  pub name : distinguished_name (name_text rs) ≡ Some rs
   pub characters : utf8 (name_text rs) ≡ true

@@ -1,6 +1,6 @@
 -- Computed examples.
 use Rattle.std.specs.Prelude.{◌≡◌, refl, true, List, [], ◌∷◌, map}
-use Rattle.std.proofs.Math.Option.{some}
+use Rattle.std.specs.Prelude.{Some}
 use Prim.Native.String.{String}
 use Rattle.octets.specs.Octets.{bytes, hex}
 use Rattle.names.specs.Rfc4514.{Attribute, distinguished_name}
@@ -45,11 +45,11 @@ limits : is_name attributes ≡ true
 unfolding escape_computes attributes
 limits = refl
 
-back : distinguished_name (name_text attributes) ≡ some attributes
+back : distinguished_name (name_text attributes) ≡ Some attributes
 unfolding escape_computes attributes
 back = refl
 
 -- the text `x,2.5.4.6=AU` as a value without escapes ends before its comma
-unescaped : distinguished_name (bytes "2.5.4.3=x,2.5.4.6=AU") ≡ some ((attribute "2.5.4.3" "x" ∷ []) ∷ (attribute "2.5.4.6" "AU" ∷ []) ∷ [])
+unescaped : distinguished_name (bytes "2.5.4.3=x,2.5.4.6=AU") ≡ Some ((attribute "2.5.4.3" "x" ∷ []) ∷ (attribute "2.5.4.6" "AU" ∷ []) ∷ [])
 unfolding escape_computes
 unescaped = refl

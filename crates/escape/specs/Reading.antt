@@ -1,6 +1,6 @@
 -- What the reader of a name makes of octets q that are an escaped text.
 use Rattle.std.specs.Prelude.{ℕ, ◌≡◌, Bool, true, List, [], ◌∷◌, ◌++◌, take, eqb}
-use Rattle.std.proofs.Math.Option.{some}
+use Rattle.std.specs.Prelude.{Some}
 use Rattle.octets.specs.Pick.{either}
 use Rattle.octets.specs.Utf8.{utf8}
 use Rattle.der.specs.Dotted.{is_dotted}
@@ -19,7 +19,7 @@ pair_with type q after = type ++ (61 ∷ (q ++ after))
 pub record ReadsAs (text q : List ℕ) : Type 0 where
   -- behind a dotted attribute type and `=` they are read as a value, which is the text octet by octet; what stands behind is left to be read
   pub attribute : (type after : List ℕ) → is_dotted type ≡ true → ends_value after ≡ true
-      → attribute_from (letters (pair_with type q after)) ≡ some (record { got = record { type = type; value = text }; rest = letters after })
+      → attribute_from (letters (pair_with type q after)) ≡ Some (record { got = record { type = type; value = text }; rest = letters after })
   -- they are whole characters: behind valid UTF-8, what follows decides whether all is
   pub characters : (before after : List ℕ) → utf8 before ≡ true → utf8 (before ++ (q ++ after)) ≡ utf8 after
 

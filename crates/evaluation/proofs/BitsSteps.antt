@@ -1,7 +1,7 @@
 -- An assertion with a rule of bits: one lemma for each return, its premises as the code has them.
 use mathlib.Core.Path.{◌≡◌, refl, sym, ap, ◌∙◌, subst}
 use mathlib.Core.Bool.{Bool, true, false, false≢true}
-use mathlib.Core.Option.{Option, none, some}
+use Rattle.std.specs.Prelude.{Option, None, Some}
 use mathlib.Core.List.{List, [], ◌∷◌}
 use Prim.Native.Nat.{ℕ, ◌≤◌, ◌<◌, ◌+◌}
 use native.Mathlib.Omega.{arith}
@@ -56,57 +56,57 @@ module _ (t : List ℕ) (r : Rule) (g : Target) (x : List ℕ) where
       → report_bits b ≡ bits_any (meant r) (target_of t g) x
   test-row i b q e = e ∙ ap (λ (y : Target). bits_any (meant r) (target_of t y) x) (sym q)
 
-  pub test-count : read_by_target (meant r) ≡ true → g ≡ Target.Count → none ≡ bits_any (meant r) (target_of t g) x
+  pub test-count : read_by_target (meant r) ≡ true → g ≡ Target.Count → None ≡ bits_any (meant r) (target_of t g) x
   unfolding bits_test
   test-count bits q = sym (ap (λ (y : Target). bits_any (meant r) (target_of t y) x) q ∙ rw (bits_no_count (meant r) bits))
 
-  pub test-nothing : g ≡ Target.No → none ≡ bits_any (meant r) (target_of t g) x
+  pub test-nothing : g ≡ Target.No → None ≡ bits_any (meant r) (target_of t g) x
   test-nothing q = ap (λ (y : Target). bits_any (meant r) (target_of t y) x) (sym q)
 
 -- ---- what is asserted there
-agree-none : (r : rule.Rule) (x : List ℕ) (o : Option Asserted) → Agree r x none o → o ≡ none
-agree-none r x none w = refl
-agree-none r x (some a) w = absurd w
+agree-none : (r : rule.Rule) (x : List ℕ) (o : Option Asserted) → Agree r x None o → o ≡ None
+agree-none r x None w = refl
+agree-none r x (Some a) w = absurd w
 
-agree_some : (r : rule.Rule) (x : List ℕ) (test : Test) (o : Option Asserted) → Agree r x (some test) o → (a : Asserted) × (o ≡ some a) × Accepting r x test a
-agree_some r x test none w = absurd w
-agree_some r x test (some a) w = (a, refl, w)
+agree_some : (r : rule.Rule) (x : List ℕ) (test : Test) (o : Option Asserted) → Agree r x (Some test) o → (a : Asserted) × (o ≡ Some a) × Accepting r x test a
+agree_some r x test None w = absurd w
+agree_some r x test (Some a) w = (a, refl, w)
 
 module _ (r : rule.Rule) (bits : read_by_target r ≡ true) (g : allowed.Target) (x : List ℕ) where
-  pub asserts-none : bits_test r g x ≡ none → if_for g x r ≡ none
+  pub asserts-none : bits_test r g x ≡ None → if_for g x r ≡ None
   unfolding bits_test
   asserts-none e = go (suits r g) refl e
     where
-      go : (u : Bool) → suits r g ≡ u → pick u (bits_test_by r (names_at g) x) none ≡ none
-          → pick u (bind (asserted_of r g x) (λ a. some (comparison r a))) none ≡ none
+      go : (u : Bool) → suits r g ≡ u → pick u (bits_test_by r (names_at g) x) None ≡ None
+          → pick u (bind (asserted_of r g x) (λ a. Some (comparison r a))) None ≡ None
       go false q h = refl
       go true q h =
           let o = agree-none r x (asserted_bits_by (names_at g) x) (subst (λ (y : Option Test). Agree r x y (asserted_bits_by (names_at g) x)) h
           (bits-agree x r bits (names_at g))) in
-          ap (λ (y : Option Asserted). bind y (λ a. some (comparison r a))) (asserted_by_names r g x bits ∙ o)
+          ap (λ (y : Option Asserted). bind y (λ a. Some (comparison r a))) (asserted_by_names r g x bits ∙ o)
 
-  pub asserts_some : (test : Test) → bits_test r g x ≡ some test → (suits r g ≡ true)
-      × ((a : Asserted) × (if_for g x r ≡ some (comparison r a)) × Accepting r x test a)
+  pub asserts_some : (test : Test) → bits_test r g x ≡ Some test → (suits r g ≡ true)
+      × ((a : Asserted) × (if_for g x r ≡ Some (comparison r a)) × Accepting r x test a)
   unfolding bits_test
   asserts_some test e = go (suits r g) refl e
     where
-      go : (u : Bool) → suits r g ≡ u → pick u (bits_test_by r (names_at g) x) none ≡ some test
-          → (u ≡ true) × ((a : Asserted) × (pick u (bind (asserted_of r g x) (λ y. some (comparison r y))) none ≡ some (comparison r a)) × Accepting r x test a)
+      go : (u : Bool) → suits r g ≡ u → pick u (bits_test_by r (names_at g) x) None ≡ Some test
+          → (u ≡ true) × ((a : Asserted) × (pick u (bind (asserted_of r g x) (λ y. Some (comparison r y))) None ≡ Some (comparison r a)) × Accepting r x test a)
       go false q h = none-some test h
       go true q h =
           let w = agree_some r x test (asserted_bits_by (names_at g) x) (subst (λ (y : Option Test). Agree r x y (asserted_bits_by (names_at g) x)) h
           (bits-agree x r bits (names_at g))) in
-          (refl, (w.0, ap (λ (y : Option Asserted). bind y (λ a. some (comparison r a))) (asserted_by_names r g x bits ∙ w.1), w.2))
+          (refl, (w.0, ap (λ (y : Option Asserted). bind y (λ a. Some (comparison r a))) (asserted_by_names r g x bits ∙ w.1), w.2))
 
 -- ---- no default is of bits
-pub nothing_left : (g : allowed.Target) → allowed.allowed_from [] g ≡ some g
+pub nothing_left : (g : allowed.Target) → allowed.allowed_from [] g ≡ Some g
 unfolding allowed.allowed_from
 nothing_left g = refl
 
 unfoldable pub no_default : (t w : List ℕ) → Worded t w → (r : rule.Rule) → read_by_target r ≡ true
     → (d : Bool) (a b : Task) (x : List ℕ) (is : List Id) (row j : ℕ)
     → row < length (table_rows t) → j < members_at t (place_at t row)
-    → ((g : allowed.Target) → allowed.allowed_from is (allowed.of_type (member_type_at t (row + 1 + j))) ≡ some g → suits r g ≡ true)
+    → ((g : allowed.Target) → allowed.allowed_from is (allowed.of_type (member_type_at t (row + 1 + j))) ≡ Some g → suits r g ≡ true)
     → absent_of d a x is (member_at t (row + 1 + j)).presence ≡ absent_of d b x is (member_at t (row + 1 + j)).presence
 no_default t w ok r bits d a b x (i ∷ is) row j here one led = refl
 no_default t w ok r bits d a b x [] row j here one led =
@@ -124,31 +124,31 @@ no_default t w ok r bits d a b x [] row j here one led =
         ∙ subst (λ (y : Ty). suits r (allowed.of_type y) ≡ true) f.is_basic_type s))
 
 -- where a reference leads somewhere, its identifiers are planned
-pub lands_some : (t : List ℕ) (g : Target) (h : allowed.Target) → target_of t g ≡ some h → Lands g
+pub lands_some : (t : List ℕ) (g : Target) (h : allowed.Target) → target_of t g ≡ Some h → Lands g
 lands_some t (Target.Row i) h e = tt
 lands_some t Target.Count h e = tt
 lands_some t Target.No h e = none-some h e
 
 -- the target where the test is
 abbrev pub Tested : rule.Rule → Option (List ℕ) → Ty → List ℕ → Test → Type 0
-Tested r component ty x test = (is : List Id) × (identifiers component ≡ some is) × (g : allowed.Target) × (allowed.allowed is ty ≡ some g)
-    × (bits_test r g x ≡ some test)
+Tested r component ty x test = (is : List Id) × (identifiers component ≡ Some is) × (g : allowed.Target) × (allowed.allowed is ty ≡ Some g)
+    × (bits_test r g x ≡ Some test)
 
 unfoldable pub tested-there : (r : rule.Rule) (component : Option (List ℕ)) (ty : Ty) (x : List ℕ) (test : Test)
-    → bits_any r (leads_by component ty) x ≡ some test → Tested r component ty x test
+    → bits_any r (leads_by component ty) x ≡ Some test → Tested r component ty x test
 tested-there r component ty x test e = go (identifiers component) refl e
   where
-    at : (is : List Id) → identifiers component ≡ some is → (o : Option allowed.Target) → allowed.allowed is ty ≡ o → bits_any r o x ≡ some test
+    at : (is : List Id) → identifiers component ≡ Some is → (o : Option allowed.Target) → allowed.allowed is ty ≡ o → bits_any r o x ≡ Some test
         → Tested r component ty x test
-    at is p none q h = none-some test h
-    at is p (some g) q h = (is, p, g, q, h)
+    at is p None q h = none-some test h
+    at is p (Some g) q h = (is, p, g, q, h)
 
-    go : (o : Option (List Id)) → identifiers component ≡ o → bits_any r (bind o (λ is. allowed.allowed is ty)) x ≡ some test → Tested r component ty x test
-    go none p h = none-some test h
-    go (some is) p h = at is p (allowed.allowed is ty) refl h
+    go : (o : Option (List Id)) → identifiers component ≡ o → bits_any r (bind o (λ is. allowed.allowed is ty)) x ≡ Some test → Tested r component ty x test
+    go None p h = none-some test h
+    go (Some is) p h = at is p (allowed.allowed is ty) refl h
 
 -- ---- the returns
-module _ (t w v f : List ℕ) (p : Parts) (r : Rule) (x : List ℕ) (known : rule_of known_rules (item_of f p).rule ≡ some (meant r))
+module _ (t w v f : List ℕ) (p : Parts) (r : Rule) (x : List ℕ) (known : rule_of known_rules (item_of f p).rule ≡ Some (meant r))
     (bits : read_by_target (meant r) ≡ true)
     (value : x ≡ (item_of f p).value) (g : Target) (leads : target_of t g ≡ leads_by (component_of f p.component) (type_at t 0))
     (b : BitsTest) (told : report_bits b ≡ bits_any (meant r) (target_of t g) x) where
@@ -168,19 +168,19 @@ module _ (t w v f : List ℕ) (p : Parts) (r : Rule) (x : List ℕ) (known : rul
     led-there = tested-there (meant r) (component_of f p.component) (type_at t 0) x (test_of k m) (sym there ∙ ap report_bits is)
 
     pub asserted-there : (suits (meant r) led-there.2 ≡ true)
-        × ((a : Asserted) × (if_for led-there.2 x (meant r) ≡ some (comparison (meant r) a)) × Accepting (meant r) x (test_of k m) a)
+        × ((a : Asserted) × (if_for led-there.2 x (meant r) ≡ Some (comparison (meant r) a)) × Accepting (meant r) x (test_of k m) a)
     asserted-there = asserts_some (meant r) bits led-there.2 x (test_of k m) led-there.4
 
     module _ (ready : Ready t w v f) (first q : List ℕ) (planned : PlannedFor t first x p.defaults (component_of f p.component) g)
         (steps : SameSteps first q) where
-      pub stored : (y : Value) × (stored_value (type_at t 0) v ≡ some y)
+      pub stored : (y : Value) × (stored_value (type_at t 0) v ≡ Some y)
       stored = some_there (stored_value (type_at t 0) v) ready.stored
 
-      pub led : (h : allowed.Target) → allowed.allowed_from led-there.0 (allowed.of_type (type_at t 0)) ≡ some h → suits (meant r) h ≡ true
+      pub led : (h : allowed.Target) → allowed.allowed_from led-there.0 (allowed.of_type (type_at t 0)) ≡ Some h → suits (meant r) h ≡ true
       unfolding allowed.allowed
       led h e = subst (λ (y : allowed.Target). suits (meant r) y ≡ true) (some_same led-there.2 h (sym led-there.3 ∙ e)) asserted-there.0
 
-      pub landed : target_of t g ≡ some led-there.2
+      pub landed : target_of t g ≡ Some led-there.2
       landed = leads ∙ rw led-there.1 led-there.3
 
       unfoldable pub bits-asks : Asks t q x v
@@ -197,7 +197,7 @@ module _ (t w v f : List ℕ) (p : Parts) (r : Rule) (x : List ℕ) (known : rul
           }
 
       module _ (budget n : ℕ) (within : n ≤ budget) where
-        asked-there : asked known_rules (type_at t 0) (item_of f p) ≡ some (record { ids = led-there.0; rule = meant r; asserted = asserted-there.1.0 })
+        asked-there : asked known_rules (type_at t 0) (item_of f p) ≡ Some (record { ids = led-there.0; rule = meant r; asserted = asserted-there.1.0 })
         asked-there =
             asked_by (type_at t 0) (item_of f p)
             ∙ rw (

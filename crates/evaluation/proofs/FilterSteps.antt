@@ -1,7 +1,7 @@
 -- Filters and lists: one lemma for each return and each turn of a loop; its premises are the facts as the code has them.
 use mathlib.Core.Path.{◌≡◌, refl, sym, ap, ◌∙◌, subst}
 use mathlib.Core.Bool.{Bool, true, false, not}
-use mathlib.Core.Option.{Option, none, some}
+use Rattle.std.specs.Prelude.{Option, None, Some}
 use mathlib.Core.List.{List}
 use Prim.Native.Nat.{ℕ, ◌≤◌, ◌<◌, ◌+◌, ◌-◌, ◌*◌}
 use native.Mathlib.Omega.{arith}
@@ -83,7 +83,7 @@ module _ (s : List ℕ) (j : filter.Join) (p : Progress) (w : Judging) where
   turn-bad h = sym (ap (turned s j p) h)
 
 -- ---- the assertion of an item
-made_some : (says : Item → Outcome) (live : Bool) (budget n : ℕ) (x : Option (Read Item)) (i : Item) (after : ℕ) → x ≡ some (record { is = i; after = after })
+made_some : (says : Item → Outcome) (live : Bool) (budget n : ℕ) (x : Option (Read Item)) (i : Item) (after : ℕ) → x ≡ Some (record { is = i; after = after })
     → judged_if live budget n (says i) after ≡ judged_filter says live budget n (made item x)
 unfolding judged_filter reading
 made_some says live budget n x i after e = rw e
@@ -127,7 +127,7 @@ module _ (ty : Ty) (v f : List ℕ) (at room : ℕ) (live : Bool) (budget n : �
         go : (y : Judged) → y ≡ charged budget n (stored_outcome ty v (item_of f p)) → placed after y ≡ judged_filter (stored_outcome ty v) live budget n (made item (assertion_at f at))
             → JudgedAs (stored_outcome ty v) 1 room live budget n (made item (assertion_at f at)) (placed_at after left y)
         go (Judged.Of u m) d z = (span, (charged-within budget n (stored_outcome ty v (item_of f p)) u m d, z))
-        go Judged.Over d z = λ some. z
+        go Judged.Over d z = λ Some. z
 
     pub assertion_judged : (w : Judged) (x : Judging) → not live ≡ false → w ≡ charged budget n (stored_outcome ty v (item_of f p)) → x ≡ placed_at after left w
         → Judges (stored_outcome ty v) 1 room live budget n (made item (assertion_at f at)) x
@@ -136,24 +136,24 @@ module _ (ty : Ty) (v f : List ℕ) (at room : ℕ) (live : Bool) (budget n : �
 
 -- ---- a filter, by its head
 made-is : {A B : Type 0} (f : A → B) (x : Option (Read A)) → is_some (made f x) ≡ true → is_some x ≡ true
-made-is f none e = e
-made-is f (some r) e = refl
+made-is f None e = e
+made-is f (Some r) e = refl
 
 list_judged : (says : Item → Outcome) (j : filter.Join) (live : Bool) (budget n : ℕ) (x : Option (Read (Filters Item)))
     → judged_filters says j (begun live) budget n x ≡ judged_filter says live budget n (made (list j) x)
 unfolding judged_filter judged_filters reading
-list_judged says j live budget n none = refl
-list_judged says j true budget n (some r) = refl
-list_judged says j false budget n (some r) = refl
+list_judged says j live budget n None = refl
+list_judged says j true budget n (Some r) = refl
+list_judged says j false budget n (Some r) = refl
 
 not_judged : (says : Item → Outcome) (live : Bool) (budget n : ℕ) (x : Option (Read (Filter Item)))
     → inverse (judged_filter says live budget n x) ≡ judged_filter says live budget n (made invert x)
 unfolding judged_filter reading
-not_judged says live budget n none = refl
-not_judged says live budget n (some r) = inverse_judged live budget n (reading says r.is) r.after
+not_judged says live budget n None = refl
+not_judged says live budget n (Some r) = inverse_judged live budget n (reading says r.is) r.after
 
 empty_judged : (says : Item → Outcome) (j : filter.Join) (live : Bool) (budget n after : ℕ) → n ≤ budget
-    → ends (at_end j (begun live)) n after ≡ judged_filter says live budget n (some (record { is = list j end_filters; after = after }))
+    → ends (at_end j (begun live)) n after ≡ judged_filter says live budget n (Some (record { is = list j end_filters; after = after }))
 unfolding judged_filter reading
 empty_judged says j true budget n after h = sym (at-end j Progress.Plain budget n after h)
 empty_judged says j false budget n after h = refl
@@ -233,7 +233,7 @@ TurnSays says f j p d room budget k i (Turn.Ends y) = JudgedInAs says j p d room
 
 module _ (says : Item → Outcome) (f : List ℕ) (j : filter.Join) (p : Progress) (d room budget k i : ℕ) (h : k ≤ budget) where
   -- the first filter was read
-  module _ (x : Read (Filter Item)) (first : filter_at f i ≡ some x) where
+  module _ (x : Read (Filter Item)) (first : filter_at f i ≡ Some x) where
     abbrev o : Outcome
     o = reading says x.is
 
@@ -248,8 +248,8 @@ module _ (says : Item → Outcome) (f : List ℕ) (j : filter.Join) (p : Progres
     over_in s = go (tail_at f x.after) (filters_by f i x first refl)
       where
         behind_it : (y : Option (Read (Filters Item))) → over ≡ judged_filters says j p budget k (made (next x.is) y)
-        behind_it none = refl
-        behind_it (some r) = sym (s (reading_in says j r.is) r.after)
+        behind_it None = refl
+        behind_it (Some r) = sym (s (reading_in says j r.is) r.after)
 
         go : (t : Tail) → filters_at f i ≡ by_tail (filters_at f) x.is t → over ≡ judged_filters says j p budget k (filters_at f i)
         go (another a) e = behind_it (filters_at f a) ∙ ap (judged_filters says j p budget k) (sym e)
@@ -264,12 +264,12 @@ module _ (says : Item → Outcome) (f : List ℕ) (j : filter.Join) (p : Progres
 
       rests : (y : Option (Read (Filters Item))) → judged_filters says j (joined_by j p u) budget c y ≡ judged_filters says j p budget k (made (next x.is) y)
       unfolding judged_filters reading
-      rests none = refl
-      rests (some r) = sym (law (reading_in says j r.is) r.after)
+      rests None = refl
+      rests (Some r) = sym (law (reading_in says j r.is) r.after)
 
       more : (y : Option (Read (Filters Item))) (w : Judging) → JudgedInAs says j (joined_by j p u) d l budget c y w → JudgedInAs says j p d room budget k (made (next x.is) y) w
       more y (Judging.At v m a n) s = (s.0 ∙ bounds y, (s.1.0, s.1.1 ∙ rests y))
-      more y Judging.Over s = λ some. s (made-is (next x.is) y some) ∙ rests y
+      more y Judging.Over s = λ Some. s (made-is (next x.is) y Some) ∙ rests y
       more y Judging.Bad s = s ∙ bounds y
 
       last : (a : ℕ) → JudgedInAs says j p d room budget k (by_tail (filters_at f) x.is (closed a)) (Judging.At (at_end j (joined_by j p u)) c a l)
@@ -349,7 +349,7 @@ placed_same after Judged.Over Judged.Over q = refl
 
 module _ (says : Item → Outcome) (f : List ℕ) (budget : ℕ) where
   -- the judging of a text that is a filter g
-  text_of : (g : Filter Item) → parse filter_limits f ≡ some g → (j : Judged) → placed (length f) j ≡ judged_filter says true budget 0 (filter_at f 0) → j ≡ charged budget 0 (reading says g)
+  text_of : (g : Filter Item) → parse filter_limits f ≡ Some g → (j : Judged) → placed (length f) j ≡ judged_filter says true budget 0 (filter_at f 0) → j ≡ charged budget 0 (reading says g)
   unfolding judged_filter
   text_of g e j q =
       placed_same (length f) j (charged budget 0 (reading says g)) (q ∙ ap (judged_filter says true budget 0) (parse-read filter_limits f g e).0.1)

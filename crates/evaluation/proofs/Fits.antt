@@ -1,7 +1,7 @@
 -- Each value that a reference names fits what the reference leads to; so the code's acceptance is the definition's, for what is named in a stored value.
 use mathlib.Core.Path.{◌≡◌, refl, sym, ap, ap₂, ◌∙◌, subst}
 use mathlib.Core.Bool.{Bool, true, false, false≢true}
-use mathlib.Core.Option.{Option, some}
+use Rattle.std.specs.Prelude.{Option, Some}
 use mathlib.Core.List.{List, [], ◌∷◌, ◌++◌}
 use Prim.Native.Nat.{ℕ, ◌≤◌, ◌+◌, ◌-◌}
 use native.Mathlib.Omega.{arith}
@@ -77,23 +77,23 @@ none-fit : (v : List ℕ) (g : Target) → AllFit v g []
 unfolding AllFit
 none-fit v g = tt
 
-one-fits : (v : List ℕ) (g : Target) (ty : Ty) (y : Value) → some (of_type ty) ≡ some g → Is ty v y → Fine ty → AllFit v g (value y ∷ [])
+one-fits : (v : List ℕ) (g : Target) (ty : Ty) (y : Value) → Some (of_type ty) ≡ Some g → Is ty v y → Fine ty → AllFit v g (value y ∷ [])
 unfolding AllFit Fits
 one-fits v g ty y e s f = subst (λ (k : Target). AllFit v k (value y ∷ [])) (some_same (of_type ty) g e) ((s, f), tt)
 
-missing_fits : (v : List ℕ) (g : Target) (ty : Ty) (place : ℕ) (m : Member) → some (of_type ty) ≡ some g → Defaulted ty (contents_of m.presence) → AllFit v g (default_value place m ∷ [])
+missing_fits : (v : List ℕ) (g : Target) (ty : Ty) (place : ℕ) (m : Member) → Some (of_type ty) ≡ Some g → Defaulted ty (contents_of m.presence) → AllFit v g (default_value place m ∷ [])
 unfolding AllFit Fits
 missing_fits v g ty place m e h = subst (λ (k : Target). AllFit v k (default_value place m ∷ [])) (some_same (of_type ty) g e) (h, tt)
 
-count_fits : (v : List ℕ) (g : Target) (place n : ℕ) → some of_count ≡ some g → n ≤ length v → AllFit v g (count_value place n ∷ [])
+count_fits : (v : List ℕ) (g : Target) (place n : ℕ) → Some of_count ≡ Some g → n ≤ length v → AllFit v g (count_value place n ∷ [])
 unfolding AllFit Fits
 count_fits v g place n e h = subst (λ (k : Target). AllFit v k (count_value place n ∷ [])) (some_same of_count g e) (h, tt)
 
 -- ---- members of a SEQUENCE
 abbrev type_named : List ℕ → Members → Option Target
-type_named x ms = bind (member_type x ms) (λ ty. some (of_type ty))
+type_named x ms = bind (member_type x ms) (λ ty. Some (of_type ty))
 
-absent_fit : (v : List ℕ) (g : Target) (ty : Ty) (defaults : Bool) (place : ℕ) (m : Member) → some (of_type ty) ≡ some g → (pr : Presence) → m.presence ≡ pr → DefaultFine ty pr
+absent_fit : (v : List ℕ) (g : Target) (ty : Ty) (defaults : Bool) (place : ℕ) (m : Member) → Some (of_type ty) ≡ Some g → (pr : Presence) → m.presence ≡ pr → DefaultFine ty pr
     → AllFit v g (absent_names defaults place m pr)
 absent_fit v g ty defaults place m e mandatory q h = none-fit v g
 absent_fit v g ty defaults place m e optional q h = none-fit v g
@@ -104,21 +104,21 @@ absent_fit v g ty defaults place m e (default c) q h = go defaults
     go false = none-fit v g
 
 module _ (defaults : Bool) (place : ℕ) (x v : List ℕ) (g : Target) where
-  member-fits : {stop : ℕ} {ms : Members} {i : ℕ} {fs : Fields} → Fielded v stop ms i fs → stop ≤ length v → FineIn ms → type_named x ms ≡ some g
+  member-fits : {stop : ℕ} {ms : Members} {i : ℕ} {fs : Fields} → Fielded v stop ms i fs → stop ≤ length v → FineIn ms → type_named x ms ≡ Some g
       → AllFit v g (member_named defaults place x fs)
   unfolding member_named member_type Fine
   member-fits (none_left q) l w e = none-some g e
   member-fits (there {m = m} {ty = ty} {ms = ms} {x = y} {fs = fs} q t d rest) l w e = go (same m.name x) (λ h. member-fits rest l w.1.1.1 h) e
     where
-      go : (b : Bool) → (type_named x ms ≡ some g → AllFit v g (member_named defaults place x fs))
-          → bind (pick b (some ty) (member_type x ms)) (λ ty. some (of_type ty)) ≡ some g
+      go : (b : Bool) → (type_named x ms ≡ Some g → AllFit v g (member_named defaults place x fs))
+          → bind (pick b (Some ty) (member_type x ms)) (λ ty. Some (of_type ty)) ≡ Some g
           → AllFit v g (pick b (value y ∷ []) (member_named defaults place x fs))
       go true f h = one-fits v g ty y h (tagged_is t l) w.1.1.0
       go false f h = f h
   member-fits (lacks {m = m} {ty = ty} {ms = ms} {fs = fs} q d rest) l w e = go (same m.name x) (λ h. member-fits rest l w.1.1.1 h) e
     where
-      go : (b : Bool) → (type_named x ms ≡ some g → AllFit v g (member_named defaults place x fs))
-          → bind (pick b (some ty) (member_type x ms)) (λ ty. some (of_type ty)) ≡ some g
+      go : (b : Bool) → (type_named x ms ≡ Some g → AllFit v g (member_named defaults place x fs))
+          → bind (pick b (Some ty) (member_type x ms)) (λ ty. Some (of_type ty)) ≡ Some g
           → AllFit v g (pick b (absent_names defaults place m m.presence) (member_named defaults place x fs))
       go true f h = absent_fit v g ty defaults place m h m.presence refl w.0
       go false f h = f h
@@ -131,30 +131,30 @@ module _ (defaults : Bool) (x v : List ℕ) where
   not_named (this {x = y} q t b) w = ap (λ (b : Bool). pick b (value y ∷ []) []) w.0
   not_named (other q c) w = not_named c w.1
 
-  choice-fits : (g : Target) {end at : ℕ} {ms : Members} {y : Value} {after : ℕ} → Chosen v end at ms y after → end ≤ length v → FineIn ms → type_named x ms ≡ some g
+  choice-fits : (g : Target) {end at : ℕ} {ms : Members} {y : Value} {after : ℕ} → Chosen v end at ms y after → end ≤ length v → FineIn ms → type_named x ms ≡ Some g
       → AllFit v g (step defaults (name x) (value y))
   unfolding Fine member_type step
   choice-fits g (this {m = m} {ty = ty} {ms = ms} {x = y} q t b) l w h = go (same m.name x) h
     where
-      go : (b : Bool) → bind (pick b (some ty) (member_type x ms)) (λ ty. some (of_type ty)) ≡ some g → AllFit v g (pick b (value y ∷ []) [])
+      go : (b : Bool) → bind (pick b (Some ty) (member_type x ms)) (λ ty. Some (of_type ty)) ≡ Some g → AllFit v g (pick b (value y ∷ []) [])
       go true k = one-fits v g ty y k (tagged_is t l) w.1.1.0
       go false k = none-fit v g
   choice-fits g (other {m = m} {ty = ty} {ms = ms} {x = y} q c) l w h = go (same m.name x) refl h (λ k. choice-fits g c l w.1.1.1 k)
     where
-      go : (b : Bool) → same m.name x ≡ b → bind (pick b (some ty) (member_type x ms)) (λ ty. some (of_type ty)) ≡ some g
-          → (type_named x ms ≡ some g → AllFit v g (step defaults (name x) (value y))) → AllFit v g (step defaults (name x) (value y))
+      go : (b : Bool) → same m.name x ≡ b → bind (pick b (Some ty) (member_type x ms)) (λ ty. Some (of_type ty)) ≡ Some g
+          → (type_named x ms ≡ Some g → AllFit v g (step defaults (name x) (value y))) → AllFit v g (step defaults (name x) (value y))
       go true r k f = subst (AllFit v g) (sym (not_named c (subst (λ (z : List ℕ). Fresh z ms) (same-is m.name x r) w.1.0))) (none-fit v g)
       go false r k f = f k
 
 -- ---- the elements of a list
 module _ (v : List ℕ) (g : Target) where
-  each-fit : {ty : Ty} {stop k i : ℕ} {xs : Values} → Elements v ty stop k i xs → stop ≤ length v → some (of_type ty) ≡ some g → Fine ty → AllFit v g (each xs)
+  each-fit : {ty : Ty} {stop k i : ℕ} {xs : Values} → Elements v ty stop k i xs → stop ≤ length v → Some (of_type ty) ≡ Some g → Fine ty → AllFit v g (each xs)
   unfolding each
   each-fit (ends h) l e fine = none-fit v g
   each-fit (goes {ty = ty} {x = x} {xs = xs} h d rest) l e fine =
       append-fit v g (value x ∷ []) (each xs) (one-fits v g ty x e (decoded-is d l) fine) (each-fit rest l e fine)
 
-  element-fits : (n : ℕ) {ty : Ty} {stop k i : ℕ} {xs : Values} → Elements v ty stop k i xs → stop ≤ length v → some (of_type ty) ≡ some g → Fine ty → AllFit v g (element_at n xs)
+  element-fits : (n : ℕ) {ty : Ty} {stop k i : ℕ} {xs : Values} → Elements v ty stop k i xs → stop ≤ length v → Some (of_type ty) ≡ Some g → Fine ty → AllFit v g (element_at n xs)
   unfolding element_at
   element-fits n (ends h) l e fine = none-fit v g
   element-fits n (goes {ty = ty} {x = x} {xs = xs} h d rest) l e fine = go (eqb n 1) (element-fits (n - 1) rest l e fine)
@@ -163,7 +163,7 @@ module _ (v : List ℕ) (g : Target) where
       go true f = one-fits v g ty x e (decoded-is d l) fine
       go false f = f
 
-  from_end-fits : (n : ℕ) {ty : Ty} {stop k i : ℕ} {xs : Values} → Elements v ty stop k i xs → stop ≤ length v → some (of_type ty) ≡ some g → Fine ty
+  from_end-fits : (n : ℕ) {ty : Ty} {stop k i : ℕ} {xs : Values} → Elements v ty stop k i xs → stop ≤ length v → Some (of_type ty) ≡ Some g → Fine ty
       → AllFit v g (pick (leb n (size xs)) (element_at (size xs + 1 - n) xs) [])
   from_end-fits n {xs = xs} es l e fine = go (leb n (size xs))
     where
@@ -185,19 +185,19 @@ module _ (defaults : Bool) (v : List ℕ) (g : Target) where
   behind-short {octet = octet} {at = at} {end = end} {start = start} {n = n} b l = omega (arith, inside-within octet v at end start n b.header)
 
   fields_fit : (i : Id) (s : Spot) {stop : ℕ} {ms : Members} {from : ℕ} {fs : Fields} → Fielded v stop ms from fs → stop ≤ length v → FineIn ms
-      → under i (of_type (sequence ms)) ≡ some g → AllFit v g (step defaults i (value (fields s fs)))
+      → under i (of_type (sequence ms)) ≡ Some g → AllFit v g (step defaults i (value (fields s fs)))
   unfolding step under
   fields_fit (name x) s w l f e = member-fits defaults s.place x v g w l f e
   fields_fit (index j) s w l f e = none-some g e
 
   alternative-fits : (i : Id) {end at : ℕ} {ms : Members} {x : Value} {after : ℕ} → Chosen v end at ms x after → end ≤ length v → FineIn ms
-      → under i (of_type (choice ms)) ≡ some g → AllFit v g (step defaults i (value x))
+      → under i (of_type (choice ms)) ≡ Some g → AllFit v g (step defaults i (value x))
   unfolding under
   alternative-fits (name x) c l f e = choice-fits defaults x v g c l f e
   alternative-fits (index j) c l f e = none-some g e
 
   elements_fit : (i : Id) (k : ℕ) (s : Spot) {ty : Ty} {stop n from : ℕ} {xs : Values} → Elements v ty stop n from xs → stop ≤ length v → n ≤ length v → Fine ty
-      → under i (of_type (list_of k ty)) ≡ some g → AllFit v g (step defaults i (value (elements s xs)))
+      → under i (of_type (list_of k ty)) ≡ Some g → AllFit v g (step defaults i (value (elements s xs)))
   unfolding step under
   elements_fit (name x) k s w l m f e = none-some g e
   elements_fit (index (position p)) k s w l m f e = element-fits v g p w l e f
@@ -206,7 +206,7 @@ module _ (defaults : Bool) (v : List ℕ) (g : Target) where
   elements_fit (index all) k s w l m f e = each-fit v g w l e f
 
   step_fits : (i : Id) {ty : Ty} {t : Tagging} {at end : ℕ} {x : Value} {after : ℕ} → Decodes v ty t at end x after → end ≤ length v → Fine ty
-      → under i (of_type ty) ≡ some g → AllFit v g (step defaults i (value x))
+      → under i (of_type ty) ≡ Some g → AllFit v g (step defaults i (value x))
   unfolding under Fine
   step_fits i (is_basic_type b h) l f e = none-some g e
   step_fits i (is-sequence {s = s} b w) l f e = fields_fit i s w (behind-within b l) f e
@@ -215,7 +215,7 @@ module _ (defaults : Bool) (v : List ℕ) (g : Target) where
 
 -- ---- along the identifiers
 module _ (defaults : Bool) (v : List ℕ) where
-  held-step : (i : Id) (g k : Target) (h : Held) → Fits v h g → under i g ≡ some k → AllFit v k (step defaults i h)
+  held-step : (i : Id) (g k : Target) (h : Held) → Fits v h g → under i g ≡ Some k → AllFit v k (step defaults i h)
   unfolding Fits step
   held-step i (of_type ty) k (value x) w e = step_fits defaults v k i w.0.decodes w.0.inside w.1 e
   held-step i of_count k (value x) w e = absurd w
@@ -224,18 +224,18 @@ module _ (defaults : Bool) (v : List ℕ) where
   held-step i (of_type ty) k (count_value p n) w e = absurd w
   held-step i of_count k (count_value p n) w e = none-fit v k
 
-  replaced-fit : (i : Id) (g k : Target) (hs : List Held) → AllFit v g hs → under i g ≡ some k → AllFit v k (replaced defaults i hs)
+  replaced-fit : (i : Id) (g k : Target) (hs : List Held) → AllFit v g hs → under i g ≡ Some k → AllFit v k (replaced defaults i hs)
   unfolding AllFit replaced
   replaced-fit i g k [] w e = tt
   replaced-fit i g k (h ∷ hs) w e = append-fit v k (step defaults i h) (replaced defaults i hs) (held-step i g k h w.0 e) (replaced-fit i g k hs w.1 e)
 
-  held-fit : (is : List Id) (g k : Target) (hs : List Held) → AllFit v g hs → allowed_from is g ≡ some k → AllFit v k (held defaults is hs)
+  held-fit : (is : List Id) (g k : Target) (hs : List Held) → AllFit v g hs → allowed_from is g ≡ Some k → AllFit v k (held defaults is hs)
   unfolding held allowed_from
   held-fit [] g k hs w e = subst (λ (y : Target). AllFit v y hs) (some_same g k e) w
   held-fit (i ∷ is) g k hs w e = let b = bind_view (under i g) (λ h. allowed_from is h) k e in held-fit is b.0 k (replaced defaults i hs) (replaced-fit i g b.0 hs w b.1) b.2
 
   -- what is named fits what the reference leads to
-  pub named-fit : (is : List Id) (ty : Ty) (k : Target) (x : Value) → Fine ty → stored_value ty v ≡ some x → allowed is ty ≡ some k → AllFit v k (named defaults is x)
+  pub named-fit : (is : List Id) (ty : Ty) (k : Target) (x : Value) → Fine ty → stored_value ty v ≡ Some x → allowed is ty ≡ Some k → AllFit v k (named defaults is x)
   unfolding allowed named
   named-fit is ty k x f e h = held-fit is (of_type ty) k (value x ∷ []) (one-fits v (of_type ty) ty x refl (decoded-is (decodes-stored ty v x e) (omega arith)) f) h
 
@@ -279,7 +279,7 @@ module _ (t : List ℕ) (r : Rule) (budget : ℕ) (v : List ℕ) (short : length
   held-passes of_count (count_value p n) e w = count-passes t n (omega (arith, short, w)) r e asserted
 
   -- with a rule that is for what the reference leads to and a text that conforms
-  pub named-tests : (defaults : Bool) (is : List Id) (ty : Ty) (k : Target) (x : Value) (n : ℕ) → Fine ty → stored_value ty v ≡ some x → allowed is ty ≡ some k → suits r k ≡ true
+  pub named-tests : (defaults : Bool) (is : List Id) (ty : Ty) (k : Target) (x : Value) (n : ℕ) → Fine ty → stored_value ty v ≡ Some x → allowed is ty ≡ Some k → suits r k ≡ true
       → testing (λ h. tests (component h)) n (named defaults is x) ≡ testing (accepts r (said r t)) n (named defaults is x)
   named-tests defaults is ty k x n f e h q = all_alike _ _ v k (λ y w. held-passes k y q w) (named defaults is x) n (named-fit defaults v is ty k x f e h)
 
@@ -305,7 +305,7 @@ module _ (r : Rule) (bits : read_by_target r ≡ true) (x : List ℕ) (test : Te
   bits-held (of_type ty) (count_value p n) e w = absurd w
   bits-held of_count (count_value p n) e w = absurd (false≢true (sym (bits_no_count r bits) ∙ e))
 
-  pub bits-tests : (defaults : Bool) (is : List Id) (ty : Ty) (k : Target) (y : Value) (n : ℕ) → Fine ty → stored_value ty v ≡ some y → allowed is ty ≡ some k
+  pub bits-tests : (defaults : Bool) (is : List Id) (ty : Ty) (k : Target) (y : Value) (n : ℕ) → Fine ty → stored_value ty v ≡ Some y → allowed is ty ≡ Some k
       → suits r k ≡ true
       → testing (λ h. passes (task.testing test budget) x (component h)) n (named defaults is y) ≡ testing (accepts r a) n (named defaults is y)
   bits-tests defaults is ty k y n f e h q = all_alike _ _ v k (λ z w. bits-held k z q w) (named defaults is y) n (named-fit defaults v is ty k y f e h)

@@ -1,7 +1,7 @@
 -- One assertion: one lemma for each return; its premises are the facts as the code has them.
 use mathlib.Core.Path.{◌≡◌, refl, sym, ap, ◌∙◌, subst}
 use mathlib.Core.Bool.{Bool, true, false, not, false≢true}
-use mathlib.Core.Option.{Option, none, some}
+use Rattle.std.specs.Prelude.{Option, None, Some}
 use mathlib.Core.List.{List}
 use Prim.Native.Nat.{ℕ, ◌≤◌, ◌+◌, ◌-◌}
 use native.Mathlib.Omega.{arith}
@@ -65,9 +65,9 @@ module _ (t : List ℕ) (r : Rule) (g : Target) (b : Bool) where
   suits_nothing_told q = ap (λ (y : Target). suits_any (meant r) (target_of t y)) (sym q)
 
 -- ---- the reference in the text
-quoted-ids : (f : List ℕ) (a b : ℕ) (r : List ℕ) → r ≡ within_quotes f a b → identifiers (some r) ≡ identifiers (component_of f (Component.Quoted a b))
+quoted-ids : (f : List ℕ) (a b : ℕ) (r : List ℕ) → r ≡ within_quotes f a b → identifiers (Some r) ≡ identifiers (component_of f (Component.Quoted a b))
 unfolding characters
-quoted-ids f a b r h = ap (λ (y : List ℕ). identifiers (some y)) h ∙ sym (undoubled-reference (within_quotes f a b))
+quoted-ids f a b r h = ap (λ (y : List ℕ). identifiers (Some y)) h ∙ sym (undoubled-reference (within_quotes f a b))
 
 module _ (t f : List ℕ) (c : Component) (g : Target) where
   pub missing_leads : c ≡ Component.Missing → target_of t g ≡ leads_to false f (type_at t 0) → target_of t g ≡ leads_by (component_of f c) (type_at t 0)
@@ -90,67 +90,67 @@ module _ (t f : List ℕ) (c : Component) (g : Target) where
 -- ---- what an assertion asks
 module _ (ty : Ty) (i : Item) where
   abbrev pub by_target : List Id → allowed.Target → Option Asked
-  by_target is g = bind (rule_for known_rules g i.rule i.value) (λ x. some (record { ids = is; rule = x.rule; asserted = x.asserted }))
+  by_target is g = bind (rule_for known_rules g i.rule i.value) (λ x. Some (record { ids = is; rule = x.rule; asserted = x.asserted }))
 
   pub asked_by : asked known_rules ty i ≡ bind (identifiers i.component) (λ is. bind (allowed.allowed is ty) (by_target is))
   unfolding asked
   asked_by = refl
 
   -- nothing, where the rule is not for what the reference leads to, or the text doesn't conform
-  pub asked-none : ((is : List Id) → identifiers i.component ≡ some is → (g : allowed.Target) → allowed.allowed is ty ≡ some g
-      → rule_for known_rules g i.rule i.value ≡ none)
-      → asked known_rules ty i ≡ none
+  pub asked-none : ((is : List Id) → identifiers i.component ≡ Some is → (g : allowed.Target) → allowed.allowed is ty ≡ Some g
+      → rule_for known_rules g i.rule i.value ≡ None)
+      → asked known_rules ty i ≡ None
   asked-none h = asked_by ∙ go (identifiers i.component) refl
     where
-      at : (is : List Id) → identifiers i.component ≡ some is → (o : Option allowed.Target) → allowed.allowed is ty ≡ o → bind o (by_target is) ≡ none
-      at is e none q = refl
-      at is e (some g) q = rw (h is e g q)
+      at : (is : List Id) → identifiers i.component ≡ Some is → (o : Option allowed.Target) → allowed.allowed is ty ≡ o → bind o (by_target is) ≡ None
+      at is e None q = refl
+      at is e (Some g) q = rw (h is e g q)
 
-      go : (o : Option (List Id)) → identifiers i.component ≡ o → bind o (λ is. bind (allowed.allowed is ty) (by_target is)) ≡ none
-      go none e = refl
-      go (some is) e = at is e (allowed.allowed is ty) refl
+      go : (o : Option (List Id)) → identifiers i.component ≡ o → bind o (λ is. bind (allowed.allowed is ty) (by_target is)) ≡ None
+      go None e = refl
+      go (Some is) e = at is e (allowed.allowed is ty) refl
 
   module _ (v : List ℕ) (budget n : ℕ) (within : n ≤ budget) where
     -- "an Undefined assertion makes no test"
-    pub undefined-then : asked known_rules ty i ≡ none → Judged.Of Verdict.Undefined n ≡ charged budget n (stored_outcome ty v i)
+    pub undefined-then : asked known_rules ty i ≡ None → Judged.Of Verdict.Undefined n ≡ charged budget n (stored_outcome ty v i)
     unfolding stored_outcome outcome charged
     undefined-then q = go (stored_value ty v)
       where
         go : (o : Option Value) → Judged.Of Verdict.Undefined n ≡ charged budget n (outcome_for ty o i)
-        go none = let z : n + 0 ≡ n = omega arith in rw (z, le-leb n budget within)
-        go (some x) = let z : n + 0 ≡ n = omega arith in rw (q, z, le-leb n budget within)
+        go None = let z : n + 0 ≡ n = omega arith in rw (z, le-leb n budget within)
+        go (Some x) = let z : n + 0 ≡ n = omega arith in rw (q, z, le-leb n budget within)
 
-    unruled_then : rule_of known_rules i.rule ≡ none → Judged.Of Verdict.Undefined n ≡ charged budget n (stored_outcome ty v i)
+    unruled_then : rule_of known_rules i.rule ≡ None → Judged.Of Verdict.Undefined n ≡ charged budget n (stored_outcome ty v i)
     unruled_then e = undefined-then (asked-none (λ is p g q. rule_for-none known_rules g i.rule i.value e))
 
-  module _ (r : rule.Rule) (known : rule_of known_rules i.rule ≡ some r) where
+  module _ (r : rule.Rule) (known : rule_of known_rules i.rule ≡ Some r) where
     by-rule : read_by_target r ≡ false → (g : allowed.Target) (a b : Bool) → suits r g ≡ a → conforms r i.value ≡ b
-        → rule_for known_rules g i.rule i.value ≡ pick (both a b) (some (comparison r (said r i.value))) none
+        → rule_for known_rules g i.rule i.value ≡ pick (both a b) (Some (comparison r (said r i.value))) None
     by-rule plain g a b e h = rule_for-is known_rules g i.rule i.value r plain known ∙ rw (e, h)
 
-    unconforming : read_by_target r ≡ false → conforms r i.value ≡ false → asked known_rules ty i ≡ none
+    unconforming : read_by_target r ≡ false → conforms r i.value ≡ false → asked known_rules ty i ≡ None
     unconforming plain e = asked-none (λ is p g q. by-rule plain g (suits r g) false refl e ∙ rw (never (suits r g)))
 
-    unsuited : suits_any r (leads_by i.component ty) ≡ false → asked known_rules ty i ≡ none
+    unsuited : suits_any r (leads_by i.component ty) ≡ false → asked known_rules ty i ≡ None
     unsuited e = asked-none (λ is p g q. rule_for-known known_rules g i.rule i.value r known ∙ not_for g (rw (p, q) at e))
       where
-        not_for : (g : allowed.Target) → suits r g ≡ false → if_for g i.value r ≡ none
+        not_for : (g : allowed.Target) → suits r g ≡ false → if_for g i.value r ≡ None
         not_for g h = rw h
 
 -- where a rule is for what a reference leads to, the reference leads somewhere
 abbrev pub Led : rule.Rule → Option (List ℕ) → Ty → Type 0
-Led r component ty = (is : List Id) × (identifiers component ≡ some is) × (g : allowed.Target) × (allowed.allowed is ty ≡ some g) × (suits r g ≡ true)
+Led r component ty = (is : List Id) × (identifiers component ≡ Some is) × (g : allowed.Target) × (allowed.allowed is ty ≡ Some g) × (suits r g ≡ true)
 
 unfoldable led : (r : rule.Rule) (component : Option (List ℕ)) (ty : Ty) → suits_any r (leads_by component ty) ≡ true → Led r component ty
 led r component ty e = go (identifiers component) refl e
   where
-    at : (is : List Id) → identifiers component ≡ some is → (o : Option allowed.Target) → allowed.allowed is ty ≡ o → suits_any r o ≡ true → Led r component ty
-    at is p none q h = absurd (false≢true h)
-    at is p (some g) q h = (is, p, g, q, h)
+    at : (is : List Id) → identifiers component ≡ Some is → (o : Option allowed.Target) → allowed.allowed is ty ≡ o → suits_any r o ≡ true → Led r component ty
+    at is p None q h = absurd (false≢true h)
+    at is p (Some g) q h = (is, p, g, q, h)
 
     go : (o : Option (List Id)) → identifiers component ≡ o → suits_any r (bind o (λ is. allowed.allowed is ty)) ≡ true → Led r component ty
-    go none p h = absurd (false≢true h)
-    go (some is) p h = at is p (allowed.allowed is ty) refl h
+    go None p h = absurd (false≢true h)
+    go (Some is) p h = at is p (allowed.allowed is ty) refl h
 
 pub lands-there : (t : List ℕ) (r : rule.Rule) (g : Target) → suits_any r (target_of t g) ≡ true → Lands g
 lands-there t r (Target.Row i) e = tt
@@ -158,9 +158,9 @@ lands-there t r Target.Count e = tt
 lands-there t r Target.No e = absurd (false≢true e)
 
 -- something that is there
-pub some_there : {A : Type 0} (o : Option A) → is_some o ≡ true → (a : A) × (o ≡ some a)
-some_there none e = absurd (false≢true e)
-some_there (some a) e = (a, refl)
+pub some_there : {A : Type 0} (o : Option A) → is_some o ≡ true → (a : A) × (o ≡ Some a)
+some_there None e = absurd (false≢true e)
+some_there (Some a) e = (a, refl)
 
 -- ---- the returns
 module _ (ty : Ty) (v f : List ℕ) (p : Parts) (budget n : ℕ) (within : n ≤ budget) where
@@ -168,7 +168,7 @@ module _ (ty : Ty) (v f : List ℕ) (p : Parts) (budget n : ℕ) (within : n ≤
       → Judged.Of Verdict.Undefined n ≡ charged budget n (stored_outcome ty v (item_of f p))
   parts_unknown name x h e q = unruled_then ty (item_of f p) v budget n within (ap (rule_of known_rules) (sym h) ∙ sym e ∙ ap report_rule q)
 
-  module _ (r : Rule) (known : rule_of known_rules (item_of f p).rule ≡ some (meant r)) where
+  module _ (r : Rule) (known : rule_of known_rules (item_of f p).rule ≡ Some (meant r)) where
     pub ruled_undefined : (text : List ℕ) (a b : Bool) → a ≡ read_by_target (meant r) → a ≡ false → text ≡ (item_of f p).value → b ≡ conforms (meant r) text
         → not b ≡ true
         → Judged.Of Verdict.Undefined n ≡ charged budget n (stored_outcome ty v (item_of f p))
@@ -177,14 +177,14 @@ module _ (ty : Ty) (v f : List ℕ) (p : Parts) (budget n : ℕ) (within : n ≤
         ∙ sym e ∙ not-true b q))
 
 pub parts-known : (f : List ℕ) (p : Parts) (name : List ℕ) (x : Named) (r : Rule) → name ≡ (item_of f p).rule → report_rule x ≡ rule_of known_rules name → x ≡ Named.Known r
-    → rule_of known_rules (item_of f p).rule ≡ some (meant r)
+    → rule_of known_rules (item_of f p).rule ≡ Some (meant r)
 parts-known f p name x r h e q = ap (rule_of known_rules) (sym h) ∙ sym e ∙ ap report_rule q
 
 module _ (t f : List ℕ) (p : Parts) (r : Rule) (g : Target) (leads : target_of t g ≡ leads_by (component_of f p.component) (type_at t 0)) (a : Bool) (suited : a ≡ suits_any (meant r) (target_of t g)) where
   suited_by : (b : Bool) → a ≡ b → suits_any (meant r) (leads_by (component_of f p.component) (type_at t 0)) ≡ b
   suited_by b e = ap (suits_any (meant r)) (sym leads) ∙ sym suited ∙ e
 
-  pub conforming_unsuited : (v : List ℕ) (budget n : ℕ) → n ≤ budget → rule_of known_rules (item_of f p).rule ≡ some (meant r) → not a ≡ true
+  pub conforming_unsuited : (v : List ℕ) (budget n : ℕ) → n ≤ budget → rule_of known_rules (item_of f p).rule ≡ Some (meant r) → not a ≡ true
       → Judged.Of Verdict.Undefined n ≡ charged budget n (stored_outcome (type_at t 0) v (item_of f p))
   conforming_unsuited v budget n within known q =
       undefined-then (type_at t 0) (item_of f p) v budget n within (unsuited (type_at t 0) (item_of f p) (meant r) known (suited_by false (not-true a q)))
@@ -193,7 +193,7 @@ module _ (t f : List ℕ) (p : Parts) (r : Rule) (g : Target) (leads : target_of
     pub there : Led (meant r) (component_of f p.component) (type_at t 0)
     there = led (meant r) (component_of f p.component) (type_at t 0) (suited_by true (not-false a on))
 
-    pub value : (y : Value) × (stored_value (type_at t 0) v ≡ some y)
+    pub value : (y : Value) × (stored_value (type_at t 0) v ≡ Some y)
     value = some_there (stored_value (type_at t 0) v) ready.stored
 
     unfoldable pub conforming_asks : Asks t q x v
@@ -207,9 +207,9 @@ module _ (t f : List ℕ) (p : Parts) (r : Rule) (g : Target) (leads : target_of
           stored = value.1;
         }
 
-    module _ (budget n : ℕ) (within : n ≤ budget) (known : rule_of known_rules (item_of f p).rule ≡ some (meant r)) (plain : read_by_target (meant r) ≡ false)
+    module _ (budget n : ℕ) (within : n ≤ budget) (known : rule_of known_rules (item_of f p).rule ≡ Some (meant r)) (plain : read_by_target (meant r) ≡ false)
         (conforming : conforms (meant r) (item_of f p).value ≡ true) (operand : x ≡ operand_of (meant r) (item_of f p).value) where
-      asked-there : asked known_rules (type_at t 0) (item_of f p) ≡ some (record { ids = there.0; rule = meant r; asserted = said (meant r) (item_of f p).value })
+      asked-there : asked known_rules (type_at t 0) (item_of f p) ≡ Some (record { ids = there.0; rule = meant r; asserted = said (meant r) (item_of f p).value })
       asked-there =
           asked_by (type_at t 0) (item_of f p)
           ∙ rw (there.1, there.3, by-rule (type_at t 0) (item_of f p) (meant r) known plain there.2 true true there.4 conforming)

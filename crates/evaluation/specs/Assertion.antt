@@ -1,7 +1,7 @@
 -- Rules: "An assertion is Undefined exactly if its reference is malformed or not allowed by the type, its rule is unknown or not for that type, or
 -- its value text doesn't conform. Else TRUE if some named value is accepted, FALSE if none."
 use Rattle.std.specs.Prelude.{ℕ, ◌+◌, Bool, List, [], ◌∷◌}
-use Rattle.std.proofs.Math.Option.{Option, none, some}
+use Rattle.std.specs.Prelude.{Option, None, Some}
 use Rattle.octets.specs.Pick.{pick, ◌>>=◌}
 use Rattle.types.specs.Types.{Ty}
 use Rattle.value.specs.Value.{Value}
@@ -28,7 +28,7 @@ asked ks ty i = do
   is ← identifiers i.component
   target ← allowed is ty
   x ← rule_for ks target i.rule i.value
-  some (record { ids = is; rule = x.rule; asserted = x.asserted })
+  Some (record { ids = is; rule = x.rule; asserted = x.asserted })
 
 -- "one [test] per value a rule is applied to. An assertion stops at its first accepted value": after n tests
 unfoldable pub testing : (Held → Bool) → ℕ → List Held → Outcome
@@ -39,8 +39,8 @@ testing accepted n (h ∷ hs) =
 
 -- "an Undefined assertion makes no test"; any other tests what its reference names in the decoded value
 abbrev pub outcome_of : Value → Item → Option Asked → Outcome
-outcome_of x i none = settled UNDEFINED 0
-outcome_of x i (some a) = testing (accepts a.rule a.asserted) 0 (named i.defaults a.ids x)
+outcome_of x i None = settled UNDEFINED 0
+outcome_of x i (Some a) = testing (accepts a.rule a.asserted) 0 (named i.defaults a.ids x)
 
 unfoldable pub outcome : List Known → Ty → Value → Item → Outcome
 outcome ks ty x i = outcome_of x i (asked ks ty i)

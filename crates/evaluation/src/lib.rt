@@ -2,7 +2,7 @@
 #![tactic(auto)]
 
 ghost use Rattle.std.specs.Prelude.{◌≤◌, ◌≡◌, true, false, length};
-ghost use Rattle.std.proofs.Math.Option.{some};
+ghost use Rattle.std.specs.Prelude.{Some};
 ghost use Rattle.rows.specs.Paper.{table_limits};
 ghost use Rattle.types.specs.Admitted.{admitted};
 ghost use Rattle.table.specs.Inner.Rows.{table_rows, type_at};
@@ -168,7 +168,7 @@ fn judge_operand(
     tests: Tests,
 ) -> Judged
     requires ready { work.Ready t.now w.now v.now f.now }
-    requires known { rule_of known_rules (item_of f.now p).rule ≡ some (meant rule) }
+    requires known { rule_of known_rules (item_of f.now p).rule ≡ Some (meant rule) }
     requires plain { read_by_target (meant rule) ≡ false }
     requires conforming { conforms (meant rule) (item_of f.now p).value ≡ true }
     requires operand { x.now ≡ operand_of (meant rule) (item_of f.now p).value }
@@ -198,7 +198,7 @@ fn judge_conforming(
     tests: Tests,
 ) -> Judged
     requires ready { work.Ready t.now w.now v.now f.now }
-    requires known { rule_of known_rules (item_of f.now p).rule ≡ some (meant rule) }
+    requires known { rule_of known_rules (item_of f.now p).rule ≡ Some (meant rule) }
     requires plain { read_by_target (meant rule) ≡ false }
     requires value { text.now ≡ (item_of f.now p).value }
     requires conforming { conforms (meant rule) text.now ≡ true }
@@ -227,7 +227,7 @@ fn judge_bits(
     tests: Tests,
 ) -> Judged
     requires ready { work.Ready t.now w.now v.now f.now }
-    requires known { rule_of known_rules (item_of f.now p).rule ≡ some (meant rule) }
+    requires known { rule_of known_rules (item_of f.now p).rule ≡ Some (meant rule) }
     requires bits { read_by_target (meant rule) ≡ true }
     requires value { text.now ≡ (item_of f.now p).value }
     requires within { tests.made ≤ tests.budget }
@@ -255,7 +255,7 @@ fn judge_ruled(
     tests: Tests,
 ) -> Judged
     requires ready { work.Ready t.now w.now v.now f.now }
-    requires known { rule_of known_rules (item_of f.now p).rule ≡ some (meant rule) }
+    requires known { rule_of known_rules (item_of f.now p).rule ≡ Some (meant rule) }
     requires within { tests.made ≤ tests.budget }
     ensures { result
         ≡ work.charged tests.budget tests.made (work.stored_outcome (type_at t.now 0) v.now (item_of f.now p)) }

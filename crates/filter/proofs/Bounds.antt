@@ -2,7 +2,7 @@
 use mathlib.Core.Path.{◌≡◌, refl, sym, ap, ◌∙◌}
 use mathlib.Core.Bool.{Bool, true, false}
 use mathlib.Core.List.{List}
-use mathlib.Core.Option.{Option, none, some}
+use Rattle.std.specs.Prelude.{Option, None, Some}
 use Prim.Native.Nat.{ℕ, ◌+◌, ◌-◌, ◌<◌, ◌≤◌}
 use native.Mathlib.Omega.{arith}
 use native.Mathlib.Nat.{sub-zero}
@@ -85,14 +85,14 @@ depth_positive (inverse f) = omega arith
 
 pub bounded-none : (d room : ℕ) (x : Option (Read (Filter Item))) → d ≡ 0 → Span.Bad ≡ bounded d room x
 unfolding bounded
-bounded-none d room none e = refl
-bounded-none d room (some r) e = let h : d < depth r.is = omega (arith, depth_positive r.is) in rw (lt-leb (depth r.is) d h)
+bounded-none d room None e = refl
+bounded-none d room (Some r) e = let h : d < depth r.is = omega (arith, depth_positive r.is) in rw (lt-leb (depth r.is) d h)
 
 module _ (d room : ℕ) (h : 0 < d) where
   pub bounded_item : (x : Option (Read Item)) → bounded 1 room (made item x) ≡ bounded d room (made item x)
   unfolding bounded depth
-  bounded_item none = refl
-  bounded_item (some r) = rw (le-leb 1 d h)
+  bounded_item None = refl
+  bounded_item (Some r) = rw (le-leb 1 d h)
 
   pub bounded-empty : (j : Join) (p : ℕ) → Span.Of p room ≡ bounded d room (read_to (list j end_filters) p)
   unfolding bounded depth items
@@ -100,29 +100,29 @@ module _ (d room : ℕ) (h : 0 < d) where
 
   pub bounded-list : (j : Join) (x : Option (Read (Filters Item))) → bounded_in (d - 1) room x ≡ bounded d room (made (list j) x)
   unfolding bounded bounded_in depth items
-  bounded-list j none = refl
-  bounded-list j (some r) = fit_deeper d room (depth_in r.is) (length (items_in r.is)) r.after h
+  bounded-list j None = refl
+  bounded-list j (Some r) = fit_deeper d room (depth_in r.is) (length (items_in r.is)) r.after h
 
   pub bounded-negation : (x : Option (Read (Filter Item))) → bounded (d - 1) room x ≡ bounded d room (made inverse x)
   unfolding bounded depth items
-  bounded-negation none = refl
-  bounded-negation (some r) = fit_deeper d room (depth r.is) (length (items r.is)) r.after h
+  bounded-negation None = refl
+  bounded-negation (Some r) = fit_deeper d room (depth r.is) (length (items r.is)) r.after h
 
 -- ---- lists: the first filter was read, and left so many items
 module _ (d room : ℕ) where
   pub bounded_of : (x : Option (Read (Filter Item))) (q rest : ℕ) → Span.Of q rest ≡ bounded d room x
-      → (r : Read (Filter Item)) × ((x ≡ some r) × (((depth r.is ≤ d) × (length (items r.is) ≤ room)) × ((q ≡ r.after) × (rest ≡ room - length (items r.is)))))
+      → (r : Read (Filter Item)) × ((x ≡ Some r) × (((depth r.is ≤ d) × (length (items r.is) ≤ room)) × ((q ≡ r.after) × (rest ≡ room - length (items r.is)))))
   unfolding bounded
-  bounded_of none q rest e = let z : ◌≡◌ {A = ℕ} 0 1 = cc in absurd (omega arith)
-  bounded_of (some r) q rest e = (r, (refl, of-fits d room (depth r.is) (length (items r.is)) r.after q rest e))
+  bounded_of None q rest e = let z : ◌≡◌ {A = ℕ} 0 1 = cc in absurd (omega arith)
+  bounded_of (Some r) q rest e = (r, (refl, of-fits d room (depth r.is) (length (items r.is)) r.after q rest e))
 
-  bad_tail : (f : Read (Filter Item)) (lists : ℕ → Option (Read (Filters Item))) (t : Tail) → Span.Bad ≡ bounded d room (some f) → Span.Bad ≡ bounded_in d room (by_tail lists f.is t)
+  bad_tail : (f : Read (Filter Item)) (lists : ℕ → Option (Read (Filters Item))) (t : Tail) → Span.Bad ≡ bounded d room (Some f) → Span.Bad ≡ bounded_in d room (by_tail lists f.is t)
   unfolding bounded bounded_in depth items
   bad_tail f lists (another p) e = go (lists p)
     where
       go : (x : Option (Read (Filters Item))) → Span.Bad ≡ bounded_in d room (made (next f.is) x)
-      go none = refl
-      go (some l) =
+      go None = refl
+      go (Some l) =
           let more = more-items f.is l.is in
           bad-fits d room (depth f.is) (length (items f.is)) f.after (larger (depth f.is) (depth_in l.is)) (length (items_in (next f.is l.is))) l.after
           (larger-least (depth f.is) (depth_in l.is)).0 (omega arith) e
@@ -133,14 +133,14 @@ module _ (d room : ℕ) where
 
   pub bad-first : (s : List ℕ) (lists : ℕ → Option (Read (Filters Item))) (x : Option (Read (Filter Item))) → Span.Bad ≡ bounded d room x → Span.Bad ≡ bounded_in d room (bind x (after_first s lists))
   unfolding bounded_in
-  bad-first s lists none e = refl
-  bad-first s lists (some f) e = bad_tail f lists (tail_at s f.after) e
+  bad-first s lists None e = refl
+  bad-first s lists (Some f) e = bad_tail f lists (tail_at s f.after) e
 
   module _ (f : Filter Item) (h : depth f ≤ d) (g : length (items f) ≤ room) where
     pub bounded-more : (x : Option (Read (Filters Item))) → bounded_in d (room - length (items f)) x ≡ bounded_in d room (made (next f) x)
     unfolding bounded_in depth items
-    bounded-more none = refl
-    bounded-more (some l) =
+    bounded-more None = refl
+    bounded-more (Some l) =
         fit-both d room (depth f) (length (items f)) (length (items_in l.is)) (depth_in l.is) l.after h g
         ∙ ap (λ (n : ℕ). fitting d room (larger (depth f) (depth_in l.is)) n l.after) (more-items f l.is)
 

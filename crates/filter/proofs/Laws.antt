@@ -3,7 +3,7 @@
 use mathlib.Core.Path.{◌≡◌, refl, sym, ap, ◌∙◌}
 use mathlib.Core.Bool.{Bool, true, false}
 use mathlib.Core.List.{List}
-use mathlib.Core.Option.{Option, none, some}
+use Rattle.std.specs.Prelude.{Option, None, Some}
 use Prim.Native.Nat.{ℕ, suc, ◌+◌, ◌≤◌}
 use native.Mathlib.Omega.{arith}
 use borrow.Author.Tests.{leb-true, eqb-true}
@@ -44,7 +44,7 @@ filters_step s at =
 
 -- ---- progress
 module _ (s : List ℕ) (at : ℕ) where
-  pub filter-further : (r : Read (Filter Item)) → filter_at s at ≡ some r → Further (length s) at r.after
+  pub filter-further : (r : Read (Filter Item)) → filter_at s at ≡ Some r → Further (length s) at r.after
   unfolding filter_at
   filter-further r e = read-on (length s) at (filter_at s at) r (from_on (length s + 1) s at) e
 
@@ -54,47 +54,47 @@ module _ (s : List ℕ) (at : ℕ) where
     filter-by = filter-step s at ∙ ap (by_head s (filters_at s) (filter_at s)) e
 
 -- what was made of something read
-pub made_some : {A B : Type 0} (f : A → B) (x : Option (Read A)) (r : Read B) → made f x ≡ some r → (a : Read A) × ((x ≡ some a) × ((f a.is ≡ r.is) × (a.after ≡ r.after)))
-made_some f none r e = absurd (none_not e)
-made_some f (some a) r e = (a, (refl, (ap (λ (q : Read _). q.is) (some_is e), ap (λ (q : Read _). q.after) (some_is e))))
+pub made_some : {A B : Type 0} (f : A → B) (x : Option (Read A)) (r : Read B) → made f x ≡ Some r → (a : Read A) × ((x ≡ Some a) × ((f a.is ≡ r.is) × (a.after ≡ r.after)))
+made_some f None r e = absurd (none_not e)
+made_some f (Some a) r e = (a, (refl, (ap (λ (q : Read _). q.is) (some_is e), ap (λ (q : Read _). q.after) (some_is e))))
 
 -- ---- the filters of a list by the first of them, and by what follows it
 module _ (s : List ℕ) (at : ℕ) where
-  pub filters_by : (f : Read (Filter Item)) {t : Tail} → filter_at s at ≡ some f → tail_at s f.after ≡ t → filters_at s at ≡ by_tail (filters_at s) f.is t
+  pub filters_by : (f : Read (Filter Item)) {t : Tail} → filter_at s at ≡ Some f → tail_at s f.after ≡ t → filters_at s at ≡ by_tail (filters_at s) f.is t
   filters_by f e q = filters_step s at ∙ ap (λ (x : Option (Read (Filter Item))). bind x (after_first s (filters_at s))) e ∙ ap (by_tail (filters_at s) f.is) q
 
-  pub read_first : (r : Read (Filters Item)) → filters_at s at ≡ some r → (f : Read (Filter Item)) × ((filter_at s at ≡ some f) × (by_tail (filters_at s) f.is (tail_at s f.after) ≡ some r))
+  pub read_first : (r : Read (Filters Item)) → filters_at s at ≡ Some r → (f : Read (Filter Item)) × ((filter_at s at ≡ Some f) × (by_tail (filters_at s) f.is (tail_at s f.after) ≡ Some r))
   read_first r e = bind-some (filter_at s at) (after_first s (filters_at s)) r (sym (filters_step s at) ∙ e)
 
 -- ---- a parsed text
-pub whole-read : (s : List ℕ) (f : Filter Item) → whole s ≡ some f → (utf8 s ≡ true) × (filter_at s 0 ≡ read_to f (length s))
+pub whole-read : (s : List ℕ) (f : Filter Item) → whole s ≡ Some f → (utf8 s ≡ true) × (filter_at s 0 ≡ read_to f (length s))
 unfolding whole
 whole-read s f e = go (utf8 s) refl e
   where
-    ends : (r : Read (Filter Item)) → filter_at s 0 ≡ some r → if_whole s r ≡ some f → filter_at s 0 ≡ read_to f (length s)
+    ends : (r : Read (Filter Item)) → filter_at s 0 ≡ Some r → if_whole s r ≡ Some f → filter_at s 0 ≡ read_to f (length s)
     ends r q e =
         let z = if_some (eqb r.after (length s)) r.is f e in
         let h : r.after ≡ length s = eqb-true r.after (length s) z.0 in
         q ∙ rw (← h, ← z.1)
 
-    go : (t : Bool) → utf8 s ≡ t → pick t (bind (filter_at s 0) (if_whole s)) none ≡ some f → (utf8 s ≡ true) × (filter_at s 0 ≡ read_to f (length s))
+    go : (t : Bool) → utf8 s ≡ t → pick t (bind (filter_at s 0) (if_whole s)) None ≡ Some f → (utf8 s ≡ true) × (filter_at s 0 ≡ read_to f (length s))
     go true u e = let z = bind-some (filter_at s 0) (if_whole s) f e in (u, ends z.0 z.1.0 z.1.1)
     go false u e = absurd (none_not e)
 
-pub parse-read : (l : Limits) (s : List ℕ) (f : Filter Item) → parse l s ≡ some f → ((utf8 s ≡ true) × (filter_at s 0 ≡ read_to f (length s))) × ((depth f ≤ l.depth) × (length (items f) ≤ l.items))
+pub parse-read : (l : Limits) (s : List ℕ) (f : Filter Item) → parse l s ≡ Some f → ((utf8 s ≡ true) × (filter_at s 0 ≡ read_to f (length s))) × ((depth f ≤ l.depth) × (length (items f) ≤ l.items))
 unfolding parse_within
 parse-read l s f e =
     let z = bind-some (whole s) (within_limits l.depth l.items) f e in
     let g = z.0 in
     let y = if_some (both (leb (depth g) l.depth) (leb (length (items g)) l.items)) g f z.1.1 in
     let t = both_true (leb (depth g) l.depth) (leb (length (items g)) l.items) y.0 in
-    (whole-read s f (z.1.0 ∙ ap some y.1), rw (← y.1) (leb-true _ _ t.0, leb-true _ _ t.1))
+    (whole-read s f (z.1.0 ∙ ap Some y.1), rw (← y.1) (leb-true _ _ t.0, leb-true _ _ t.1))
 
 -- the items that were counted are those of the filter that was parsed
-pub counted_some : (x : Option (Filter Item)) (k : ℕ) → some k ≡ items_of x → (f : Filter Item) × ((x ≡ some f) × (k ≡ length (items f)))
-counted_some none k e = absurd (none_not (sym e))
-counted_some (some f) k e = (f, (refl, some_is e))
+pub counted_some : (x : Option (Filter Item)) (k : ℕ) → Some k ≡ items_of x → (f : Filter Item) × ((x ≡ Some f) × (k ≡ length (items f)))
+counted_some None k e = absurd (none_not (sym e))
+counted_some (Some f) k e = (f, (refl, some_is e))
 
-pub counted_none : (x : Option (Filter Item)) → none ≡ items_of x → x ≡ none
-counted_none none e = refl
-counted_none (some f) e = absurd (none_not e)
+pub counted_none : (x : Option (Filter Item)) → None ≡ items_of x → x ≡ None
+counted_none None e = refl
+counted_none (Some f) e = absurd (none_not e)

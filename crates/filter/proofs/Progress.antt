@@ -2,7 +2,7 @@
 use mathlib.Core.Path.{◌≡◌, refl, ap, ◌∙◌, subst}
 use mathlib.Core.Bool.{true}
 use mathlib.Core.List.{List}
-use mathlib.Core.Option.{Option, none, some}
+use Rattle.std.specs.Prelude.{Option, None, Some}
 use Prim.Native.Nat.{ℕ, zero, suc, ◌+◌, ◌-◌, ◌<◌, ◌≤◌}
 use native.Mathlib.Omega.{arith}
 use borrow.Author.Tests.{eqb-true}
@@ -33,9 +33,9 @@ TailOn n at (another p) = Further n at p
 TailOn n at (closed p) = Further n at p
 TailOn n at no_tail = Unit
 
-braces_on : (s : List ℕ) (at : ℕ) (j : Join) (o : Option ℕ) → ((p : ℕ) → o ≡ some p → (at + 2 ≤ p) × (p ≤ length s)) → HeadOn (length s) at (in_braces s j o)
-braces_on s at j none f = tt
-braces_on s at j (some p) f =
+braces_on : (s : List ℕ) (at : ℕ) (j : Join) (o : Option ℕ) → ((p : ℕ) → o ≡ Some p → (at + 2 ≤ p) × (p ≤ length s)) → HeadOn (length s) at (in_braces s j o)
+braces_on s at j None f = tt
+braces_on s at j (Some p) f =
     let h = f p refl in
     pick_cases (HeadOn (length s) at) (eqb (octet s p) close_brace) (empty_list j (p + 1)) (open_list j p)
     (λ e. let o = eqb-true (octet s p) close_brace e in let i = octet-inside s p (omega arith) in (omega arith, omega arith))
@@ -63,31 +63,31 @@ unfolding tail_at
 tail_on s at = go (mark_at comma s at) refl
   where
     go : (o : Option ℕ) → mark_at comma s at ≡ o → TailOn (length s) at (or_closed s (skip s at) o)
-    go none e =
+    go None e =
         pick_cases (TailOn (length s) at) (eqb (octet s (skip s at)) close_brace) (closed (skip s at + 1)) no_tail
         (λ e. let o = eqb-true (octet s (skip s at)) close_brace e in let i = octet-inside s (skip s at) (omega arith) in let k = skip-from s at in (omega arith, omega arith))
         (λ e. tt)
-    go (some q) e = mark-further s at q comma (omega arith) e
+    go (Some q) e = mark-further s at q comma (omega arith) e
 
 -- ---- progress
 abbrev pub ReadOn : {A : Type 0} → ℕ → ℕ → Option (Read A) → Type 0
-ReadOn n at none = Unit
-ReadOn n at (some r) = Further n at r.after
+ReadOn n at None = Unit
+ReadOn n at (Some r) = Further n at r.after
 
-pub read-on : {A : Type 0} (n at : ℕ) (x : Option (Read A)) (r : Read A) → ReadOn n at x → x ≡ some r → Further n at r.after
-read-on n at none r h e = absurd (none_not e)
-read-on n at (some p) r h e = subst (λ (q : Read _). Further n at q.after) (some_is e) h
+pub read-on : {A : Type 0} (n at : ℕ) (x : Option (Read A)) (r : Read A) → ReadOn n at x → x ≡ Some r → Further n at r.after
+read-on n at None r h e = absurd (none_not e)
+read-on n at (Some p) r h e = subst (λ (q : Read _). Further n at q.after) (some_is e) h
 
 assertion-on : (s : List ℕ) (at : ℕ) → ReadOn (length s) at (assertion_at s at)
 assertion-on s at = go (assertion_at s at) refl
   where
     go : (x : Option (Read Item)) → assertion_at s at ≡ x → ReadOn (length s) at x
-    go none e = tt
-    go (some r) e = assertion-further s at r e
+    go None e = tt
+    go (Some r) e = assertion-further s at r e
 
 made-on : {A B : Type 0} (n at : ℕ) (f : A → B) (p : ℕ) → at ≤ p → (x : Option (Read A)) → ReadOn n p x → ReadOn n at (made f x)
-made-on n at f p h none g = tt
-made-on n at f p h (some r) g = (omega arith, omega arith)
+made-on n at f p h None g = tt
+made-on n at f p h (Some r) g = (omega arith, omega arith)
 
 module _ (s : List ℕ) (at : ℕ) (lists : ℕ → Option (Read (Filters Item))) (on : (p : ℕ) → ReadOn (length s) p (lists p)) where
   by_head-on : (filters : ℕ → Option (Read (Filter Item))) → ((p : ℕ) → ReadOn (length s) p (filters p)) → (h : Head) → HeadOn (length s) at h → ReadOn (length s) at (by_head s lists filters h)
@@ -103,8 +103,8 @@ module _ (s : List ℕ) (at : ℕ) (lists : ℕ → Option (Read (Filters Item))
   by_tail-on f q e no_tail h = tt
 
   first_on : (x : Option (Read (Filter Item))) → ReadOn (length s) at x → ReadOn (length s) at (bind x (after_first s lists))
-  first_on none h = tt
-  first_on (some r) h = by_tail-on r.is r.after h.0 (tail_at s r.after) (tail_on s r.after)
+  first_on None h = tt
+  first_on (Some r) h = by_tail-on r.is r.after h.0 (tail_at s r.after) (tail_on s r.after)
 
 mutual
   unfolding filter_from
@@ -134,8 +134,8 @@ module _ (s : List ℕ) (at : ℕ) (l m : ℕ → Option (Read (Filters Item))) 
     same_tail f q e no_tail h = refl
 
     pub same_first : (x : Option (Read (Filter Item))) → ReadOn (length s) at x → bind x (after_first s l) ≡ bind x (after_first s m)
-    same_first none h = refl
-    same_first (some r) h = same_tail r.is r.after h.0 (tail_at s r.after) (tail_on s r.after)
+    same_first None h = refl
+    same_first (Some r) h = same_tail r.is r.after h.0 (tail_at s r.after) (tail_on s r.after)
 
 -- enough for a filter at a place of a text of l octets, and for the filters of a list
 abbrev pub Enough : ℕ → ℕ → ℕ → Type 0

@@ -2,7 +2,7 @@
 use mathlib.Core.Path.{◌≡◌, refl, sym, ap, ◌∙◌, subst}
 use mathlib.Core.Bool.{Bool, true, false, not}
 use mathlib.Core.List.{List}
-use mathlib.Core.Option.{Option, none, some}
+use Rattle.std.specs.Prelude.{Option, None, Some}
 use Prim.Native.Nat.{ℕ, ◌+◌, ◌-◌, ◌<◌, ◌≤◌}
 use native.Mathlib.Omega.{arith}
 use borrow.Author.Tests.{eq-eqb, ne_eqb, le-leb, not-true, not-false}
@@ -107,13 +107,13 @@ unfolding bounded depth items
 item_full s at room e = go (assertion_at s at)
   where
     go : (x : Option (Read filter.Item)) → Span.Bad ≡ bounded 1 room (made item x)
-    go none = refl
-    go (some i) = rw e
+    go None = refl
+    go (Some i) = rw e
 
 module _ (s : List ℕ) (at room : ℕ) (n : room ≡ 0 → ⊥) (a : Assertion) (e : report_assertion s a ≡ assertion_at s at) where
   pub item_bad : a ≡ Assertion.Bad → Span.Bad ≡ bounded 1 room (made item (assertion_at s at))
   unfolding bounded
-  item_bad q = let z : assertion_at s at ≡ none = sym e ∙ ap (report_assertion s) q in rw z
+  item_bad q = let z : assertion_at s at ≡ None = sym e ∙ ap (report_assertion s) q in rw z
 
   pub item_is : (p : Parts) → a ≡ Assertion.Good p → Span.Of p.after (room - 1) ≡ bounded 1 room (made item (assertion_at s at))
   unfolding bounded depth items
@@ -155,7 +155,7 @@ module _ (s : List ℕ) (at d room i left : ℕ) (inv : Listed s at d room i lef
   list_stop q = bad-first d left s (filters_at s) (filter_at s i) (sym q ∙ e) ∙ ap (bounded_in d left) (sym (filters_step s i)) ∙ inv
 
   module _ (q rest : ℕ) (o : x ≡ Span.Of q rest) (t : Tail) (g : report_tail t ≡ tail_at s q) where
-    first : (f : Read (Filter Item)) × ((filter_at s i ≡ some f) × (((depth f.is ≤ d) × (length (items f.is) ≤ left)) × ((q ≡ f.after) × (rest ≡ left - length (items f.is)))))
+    first : (f : Read (Filter Item)) × ((filter_at s i ≡ Some f) × (((depth f.is ≤ d) × (length (items f.is) ≤ left)) × ((q ≡ f.after) × (rest ≡ left - length (items f.is)))))
     first = bounded_of d left (filter_at s i) q rest (sym o ∙ e)
 
     follows : tail_at s first.0.after ≡ report_tail t
@@ -194,17 +194,17 @@ module _ (s : List ℕ) (at d room i left : ℕ) (inv : Listed s at d room i lef
 abbrev of_whole : List ℕ → Limits → Option (Read (Filter Item)) → Option (Filter Item)
 of_whole s l x = bind (bind x (if_whole s)) (within_limits l.depth l.items)
 
-whole-bad : (s : List ℕ) (l : Limits) (x : Option (Read (Filter Item))) → Span.Bad ≡ bounded l.depth l.items x → none ≡ items_of (of_whole s l x)
+whole-bad : (s : List ℕ) (l : Limits) (x : Option (Read (Filter Item))) → Span.Bad ≡ bounded l.depth l.items x → None ≡ items_of (of_whole s l x)
 unfolding bounded
-whole-bad s l none e = refl
-whole-bad s l (some r) e = whole (eqb r.after (length s))
+whole-bad s l None e = refl
+whole-bad s l (Some r) e = whole (eqb r.after (length s))
   where
-    fits : (a b : Bool) → Span.Bad ≡ pick (both a b) (Span.Of r.after (l.items - length (items r.is))) Span.Bad → none ≡ items_of (pick (both a b) (some r.is) none)
+    fits : (a b : Bool) → Span.Bad ≡ pick (both a b) (Span.Of r.after (l.items - length (items r.is))) Span.Bad → None ≡ items_of (pick (both a b) (Some r.is) None)
     fits true true e = let z : ◌≡◌ {A = ℕ} 0 1 = cc in absurd (omega arith)
     fits true false e = refl
     fits false b e = refl
 
-    whole : (t : Bool) → none ≡ items_of (bind (pick t (some r.is) none) (within_limits l.depth l.items))
+    whole : (t : Bool) → None ≡ items_of (bind (pick t (Some r.is) None) (within_limits l.depth l.items))
     whole true = fits (leb (depth r.is) l.depth) (leb (length (items r.is)) l.items) e
     whole false = refl
 
@@ -215,7 +215,7 @@ read_left d room x y end left e q =
     omega arith
 
 module _ (s : List ℕ) (u : Bool) (valid : u ≡ utf8 s) where
-  pub read-other : not u ≡ true → none ≡ items_of (parse filter_limits s)
+  pub read-other : not u ≡ true → None ≡ items_of (parse filter_limits s)
   unfolding parse_within whole
   read-other h = rw (sym valid ∙ not-true u h)
 
@@ -224,17 +224,17 @@ module _ (s : List ℕ) (u : Bool) (valid : u ≡ utf8 s) where
     unfolding parse_within whole
     parsed = rw (sym valid ∙ not-false u h)
 
-    pub read-bad : x ≡ Span.Bad → none ≡ items_of (parse filter_limits s)
+    pub read-bad : x ≡ Span.Bad → None ≡ items_of (parse filter_limits s)
     read-bad q = whole-bad s filter_limits (filter_at s 0) (sym q ∙ e) ∙ ap items_of (sym parsed)
 
     module _ (end left : ℕ) (q : x ≡ Span.Of end left) where
-      found : (f : Read (Filter Item)) × ((filter_at s 0 ≡ some f) × (((depth f.is ≤ filter_limits.depth) × (length (items f.is) ≤ filter_limits.items)) × ((end ≡ f.after) × (left ≡ filter_limits.items - length (items f.is)))))
+      found : (f : Read (Filter Item)) × ((filter_at s 0 ≡ Some f) × (((depth f.is ≤ filter_limits.depth) × (length (items f.is) ≤ filter_limits.items)) × ((end ≡ f.after) × (left ≡ filter_limits.items - length (items f.is)))))
       found = bounded_of filter_limits.depth filter_limits.items (filter_at s 0) end left (sym q ∙ e)
 
-      pub read_trailing : (end ≡ length s → ⊥) → none ≡ items_of (parse filter_limits s)
+      pub read_trailing : (end ≡ length s → ⊥) → None ≡ items_of (parse filter_limits s)
       read_trailing n = rw (parsed, found.1.0, ← found.1.1.1.0, ne_eqb end (length s) n)
 
-      pub read_whole : (k : ℕ) → end ≡ length s → k ≡ filter_limits.items - left → some k ≡ items_of (parse filter_limits s)
+      pub read_whole : (k : ℕ) → end ≡ length s → k ≡ filter_limits.items - left → Some k ≡ items_of (parse filter_limits s)
       read_whole k w g =
           let f = found.0.is in
           let a : length (items f) ≤ filter_limits.items = found.1.1.0.1 in

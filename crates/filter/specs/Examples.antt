@@ -1,6 +1,6 @@
 -- Computed examples.
 use Rattle.std.specs.Prelude.{◌≡◌, refl, Bool, true, false, List, [], ◌∷◌, ◌++◌, map, ℕ, zero, suc}
-use Rattle.std.proofs.Math.Option.{Option, none, some}
+use Rattle.std.specs.Prelude.{Option, None, Some}
 use Prim.Native.String.{String}
 use Rattle.octets.specs.Pick.{is_some}
 use Rattle.octets.specs.Octets.{bytes, hex}
@@ -14,17 +14,17 @@ read : String → Option (Filter Item)
 read s = parse filter_limits (bytes s)
 
 one : read "item:{component \"parts.*.copies\",rule integerMatch,value 3}"
-    ≡ some (item (record { component = some (bytes "parts.*.copies"); defaults = true; rule = bytes "integerMatch"; value = bytes "3" }))
+    ≡ Some (item (record { component = Some (bytes "parts.*.copies"); defaults = true; rule = bytes "integerMatch"; value = bytes "3" }))
 unfolding filter_computes read
 one = refl
 
 full : read "item:{ component  \"a\"\"b\",  useDefaultValues FALSE, rule 2.5.13.14,   value   { x \"}\" }   }"
-    ≡ some (item (record { component = some (bytes "a\"b"); defaults = false; rule = bytes "2.5.13.14"; value = bytes "{ x \"}\" }" }))
+    ≡ Some (item (record { component = Some (bytes "a\"b"); defaults = false; rule = bytes "2.5.13.14"; value = bytes "{ x \"}\" }" }))
 unfolding filter_computes read
 full = refl
 
 lists : read "and:{ item:{rule x,value 1},  not:or:{} }"
-    ≡ some (list and (next (item (record { component = none; defaults = true; rule = bytes "x"; value = bytes "1" }))
+    ≡ Some (list and (next (item (record { component = None; defaults = true; rule = bytes "x"; value = bytes "1" }))
     (next (inverse (list or end_filters)) end_filters)))
 unfolding filter_computes read
 lists = refl

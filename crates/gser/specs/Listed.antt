@@ -1,7 +1,7 @@
 -- Document 02, Q-2: "a GSER list of the names in braces". RFC 3641, 3.5: "{" [ sp identifier *( "," sp identifier ) ] sp "}", sp any number of spaces.
 -- Here the texts where identifiers are to stand, whatever they are.
 use Rattle.std.specs.Prelude.{ℕ, ◌-◌, Bool, List, [], ◌∷◌, map, length, leb, eqb}
-use Rattle.std.proofs.Math.Option.{Option, none, some}
+use Rattle.std.specs.Prelude.{Option, None, Some}
 use Rattle.octets.specs.Pick.{pick, both}
 use Rattle.octets.specs.Octets.{octet, part}
 
@@ -38,4 +38,4 @@ parted (b ∷ bs) = let r = parted bs in pick (eqb b 44) ([] ∷ r) (on_first b 
 unfoldable pub listed : List ℕ → Option (List (List ℕ))
 listed t =
     let parts = pick (eqb (length (inside t)) 0) [] (map after_spaces (parted (inside t))) in
-    pick (in_braces t) (some parts) none
+    pick (in_braces t) (Some parts) None

@@ -1,7 +1,7 @@
 -- What the walk reaches is what the reference names: for a value that decodes, the trail has no fault, and its components are those of `named`.
 use mathlib.Core.Path.{◌≡◌, refl, sym, ap, ap₂, ◌∙◌, subst}
 use mathlib.Core.Bool.{Bool, true, false}
-use mathlib.Core.Option.{some}
+use Rattle.std.specs.Prelude.{Some}
 use mathlib.Core.List.{List, [], ◌∷◌, ◌++◌}
 use Prim.Native.Nat.{ℕ, zero, suc, ◌≤◌, ◌+◌, ◌-◌}
 use native.Mathlib.Omega.{arith}
@@ -147,23 +147,23 @@ module _ (defaults : Bool) (is : List Id) (v : List ℕ) (f : Ty → Opened → 
       (ap₂ then (right ty s.0 x s.2) (each-named rest)
       ∙ laid_then (held defaults is (value x ∷ [])) (held defaults is (each xs)) ∙ ap laid (sym (held-append defaults is (value x ∷ []) (each xs))))
 
-  count-named : (n : ℕ) {ty : Ty} {stop k i : ℕ} {xs : Values} → Elements v ty stop k i xs → count_from (open_at ty untagged v) k stop n i ≡ some (n + size xs)
+  count-named : (n : ℕ) {ty : Ty} {stop k i : ℕ} {xs : Values} → Elements v ty stop k i xs → count_from (open_at ty untagged v) k stop n i ≡ Some (n + size xs)
   unfolding count_from size
   count-named n (ends {ty = ty} {stop = stop} {k = k} {i = i} h) = count-end k h
     where
-      none_more : some n ≡ some (n + 0)
-      none_more = let q : n ≡ n + 0 = omega arith in ap some q
+      none_more : Some n ≡ Some (n + 0)
+      none_more = let q : n ≡ n + 0 = omega arith in ap Some q
 
-      count-end : (k : ℕ) → stop ≤ i → count_from (open_at ty untagged v) k stop n i ≡ some (n + 0)
+      count-end : (k : ℕ) → stop ≤ i → count_from (open_at ty untagged v) k stop n i ≡ Some (n + 0)
       count-end zero h = rw (le-ltb i stop h) none_more
       count-end (suc k) h = rw (le-ltb i stop h) none_more
   count-named n (goes {ty = ty} {stop = stop} {i = i} {xs = xs} h d rest) =
       let s = open_decoded (bare refl d) in
       let q : n + 1 + size xs ≡ n + suc (size xs) = omega arith in
-      rw (lt-ltb i stop h, s.1, s.3) (count-named (n + 1) rest ∙ ap some q)
+      rw (lt-ltb i stop h, s.1, s.3) (count-named (n + 1) rest ∙ ap Some q)
 
-  count-all : {ty : Ty} {stop k i : ℕ} {xs : Values} → Elements v ty stop k i xs → count_from (open_at ty untagged v) k stop 0 i ≡ some (size xs)
-  count-all {xs = xs} es = let q : 0 + size xs ≡ size xs = omega arith in count-named 0 es ∙ ap some q
+  count-all : {ty : Ty} {stop k i : ℕ} {xs : Values} → Elements v ty stop k i xs → count_from (open_at ty untagged v) k stop 0 i ≡ Some (size xs)
+  count-all {xs = xs} es = let q : 0 + size xs ≡ size xs = omega arith in count-named 0 es ∙ ap Some q
 
   position-named : (n : ℕ) {ty : Ty} {stop k i : ℕ} {xs : Values} → Elements v ty stop k i xs
       → position_from (open_at ty untagged v) (f ty) k stop n i ≡ laid (held defaults is (element_at n xs))
@@ -245,6 +245,6 @@ along-named defaults (i ∷ is) ty v o x s =
     step-named defaults is v (λ u p. along defaults is u v p) (λ u p y q. along-named defaults is u v p y q) i ty o x s ∙ ap laid (sym (held-step defaults i is (value x)))
 
 -- a value that is stored: the walk from its first octet has no fault, and reaches what the reference names
-pub trail-named : (defaults : Bool) (is : List Id) (ty : Ty) (v : List ℕ) (x : Value) → stored_value ty v ≡ some x → trail defaults is ty v ≡ laid (named defaults is x)
+pub trail-named : (defaults : Bool) (is : List Id) (ty : Ty) (v : List ℕ) (x : Value) → stored_value ty v ≡ Some x → trail defaults is ty v ≡ laid (named defaults is x)
 unfolding trail named
 trail-named defaults is ty v x e = let s = open_decoded (bare refl (decodes-stored ty v x e)) in rw s.1 (along-named defaults is ty v s.0 x s.2)

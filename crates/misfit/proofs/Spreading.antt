@@ -1,7 +1,7 @@
 -- The places of what a reference names rise strictly, at least two octets apart, so it names at most half as many values as the stored value has octets.
 use mathlib.Core.Path.{◌≡◌}
 use mathlib.Core.Bool.{Bool, true, false}
-use mathlib.Core.Option.{some}
+use Rattle.std.specs.Prelude.{Some}
 use mathlib.Core.List.{List, [], ◌∷◌, ◌++◌, map}
 use Prim.Native.Nat.{ℕ, ◌≤◌, ◌+◌, ◌-◌, ◌*◌}
 use native.Mathlib.Omega.{arith}
@@ -167,7 +167,7 @@ spread lo hi (default_value p m ∷ hs) w = (w.0, spread (p + 2) hi hs w.1)
 spread lo hi (count_value p n ∷ hs) w = (w.0, spread (p + 2) hi hs w.1)
 
 -- what a reference names in a stored value: places rise, from the first octet on, within the value
-pub named_spread : (defaults : Bool) (is : List Id) (ty : Ty) (v : List ℕ) (x : Value) → stored_value ty v ≡ some x → Spread 0 (length v) (map component (named defaults is x))
+pub named_spread : (defaults : Bool) (is : List Id) (ty : Ty) (v : List ℕ) (x : Value) → stored_value ty v ≡ Some x → Spread 0 (length v) (map component (named defaults is x))
 unfolding named
 named_spread defaults is ty v x e =
     spread 0 (length v) (held defaults is (value x ∷ []))

@@ -1,7 +1,7 @@
 -- Decoded values on the octets: a value that is decoded at a place is opened there, and its parts stand where the walk opens them.
 use mathlib.Core.Path.{◌≡◌, sym, ap, ap₂, ◌∙◌, subst}
 use mathlib.Core.Bool.{true}
-use mathlib.Core.Option.{Option, some}
+use Rattle.std.specs.Prelude.{Option, Some}
 use mathlib.Core.List.{List}
 use Prim.Native.Nat.{ℕ, ◌+◌}
 use borrow.Author.Tests.{eq-eqb}
@@ -52,7 +52,7 @@ own-opened (is-list b w r) h = same-inside b h
 
 -- opened inside its wrapper, where there is one
 abbrev Standing : Ty → List ℕ → Option Opened → Value → ℕ → Type 0
-Standing ty v found x last = (o : Opened) × (found ≡ some o) × (Stands ty v o x) × (after o ≡ last)
+Standing ty v found x last = (o : Opened) × (found ≡ Some o) × (Stands ty v o x) × (after o ≡ last)
 
 open_inner : {ty : Ty} {g : Tagging} {v : List ℕ} {at end : ℕ} {x : Value} {last : ℕ} → Decodes v ty g at end x last
     → Standing ty v (open_own ty g v at end) x last

@@ -1,6 +1,6 @@
 -- Headers on the way along a reference: a value's own header, behind its member's explicit wrapper where there is one.
 use Rattle.std.specs.Prelude.{ℕ, ◌+◌, List}
-use Rattle.std.proofs.Math.Option.{Option, some}
+use Rattle.std.specs.Prelude.{Option, Some}
 use Rattle.octets.specs.Pick.{pick}
 use Rattle.octets.specs.Octets.{octet}
 use Rattle.der.specs.Kind as kind
@@ -34,7 +34,7 @@ own_header (choice ms) g v at end = pick (begins (choice ms) (tag_of (octet v at
 own_header (list_of k ty) g v at end = inside_at (tag_octet g k) v at end
 
 abbrev pub opened_as : ℕ → ℕ → ℕ → Option Opened
-opened_as at start n = some (record { place = at; start = start; span = n })
+opened_as at start n = Some (record { place = at; start = start; span = n })
 
 abbrev pub open_own : Ty → Tagging → List ℕ → ℕ → ℕ → Option Opened
 open_own ty g v at end = opened (own_header ty g v at end) (opened_as at)

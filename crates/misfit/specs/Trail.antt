@@ -1,7 +1,7 @@
 -- The walk along a reference, on the octets. Refusal 7: "walking a checked value from its first octet along the reference, each header being
 -- where the type and the lengths before it put it, the engine reaches one that doesn't fit its row or its enclosing length".
 use Rattle.std.specs.Prelude.{ℕ, zero, suc, ◌+◌, ◌-◌, Bool, true, false, List, [], ◌∷◌, length, ltb, leb, eqb}
-use Rattle.std.proofs.Math.Option.{Option, none, some}
+use Rattle.std.specs.Prelude.{Option, None, Some}
 use Rattle.octets.specs.Pick.{pick, either, bind}
 use Rattle.octets.specs.Octets.{same}
 use Rattle.types.specs.Types.{untagged, Presence, mandatory, optional, default, Member, Ty, basic, sequence, choice, list_of, Members, no_more, more}
@@ -25,8 +25,8 @@ then (reach c a) b = reach c (then a b)
 
 -- what f makes of a thing, where the headers fit
 abbrev pub or_misfit : {A : Type 0} → (A → Trail) → Option A → Trail
-or_misfit f none = misfit
-or_misfit f (some a) = f a
+or_misfit f None = misfit
+or_misfit f (Some a) = f a
 
 -- ---- elements of a list: o opens one, and they are from i up to stop, at most k of them
 unfoldable pub each_from : (ℕ → ℕ → Option Opened) → (Opened → Trail) → ℕ → ℕ → ℕ → Trail
@@ -37,10 +37,10 @@ each_from o f (suc k) stop i =
 
 -- their number, after n of them; none where a header doesn't fit
 unfoldable pub count_from : (ℕ → ℕ → Option Opened) → ℕ → ℕ → ℕ → ℕ → Option ℕ
-count_from o zero stop n i = pick (ltb i stop) none (some n)
+count_from o zero stop n i = pick (ltb i stop) None (Some n)
 count_from o (suc k) stop n i =
     let elements = bind (o i stop) (λ x. count_from o k stop (n + 1) (after x)) in
-    pick (ltb i stop) elements (some n)
+    pick (ltb i stop) elements (Some n)
 
 -- the one at a position from 1
 abbrev pub at_position : ℕ → (Opened → Trail) → (ℕ → Trail) → Opened → Trail
@@ -62,8 +62,8 @@ pub data Found : Type 0 where
   broken : Found
 
 abbrev pub or_broken : (Opened → Found) → Option Opened → Found
-or_broken f none = broken
-or_broken f (some o) = f o
+or_broken f None = broken
+or_broken f (Some o) = f o
 
 abbrev pub member_then : Bool → Ty → (ℕ → Found) → Opened → Found
 member_then named ty rest o = pick named (found ty o) (rest (after o))

@@ -1,7 +1,7 @@
 -- Laws of elements that are read one after another, and of marks.
 use mathlib.Core.Path.{◌≡◌, refl, sym, ap, ap₂, ◌∙◌}
 use mathlib.Core.Bool.{Bool, true, false}
-use mathlib.Core.Option.{Option, none, some}
+use Rattle.std.specs.Prelude.{Option, None, Some}
 use mathlib.Core.List.{List, [], ◌∷◌, map, map-map}
 use Prim.Native.Nat.{ℕ, zero, suc, ◌≤◌, ◌<◌, ◌+◌, ◌-◌, ◌*◌, ◌/◌, ◌%◌}
 use native.Mathlib.Omega.{arith}
@@ -39,7 +39,7 @@ name_elements c = map-map (map stored) (λ e. stored-names.rdn_of e.contents) (e
 abbrev pub how_many : ℕ → ℕ → List ℕ → ℕ → ℕ
 how_many m o c at = length (elements_of (elements_from m o c at))
 
-nothing : (u : Bool) → length (elements_of (pick u (some []) none)) ≡ 0
+nothing : (u : Bool) → length (elements_of (pick u (Some []) None)) ≡ 0
 nothing true = refl
 nothing false = refl
 
@@ -50,8 +50,8 @@ none_left zero o c at e = nothing (leb (length c) at)
 none_left (suc m) o c at e = rw e (nothing (leb (length c) at))
 
 first_of : (b : Element) (o : Option (List Element)) → 0 < length (elements_of (consed b o)) → elements_of (consed b o) ≡ b ∷ elements_of o
-first_of b none h = absurd (omega arith)
-first_of b (some es) h = refl
+first_of b None h = absurd (omega arith)
+first_of b (Some es) h = refl
 
 -- the element at a place, and those behind it: i of n lie before it
 pub next_element : (most o : ℕ) (c : List ℕ) (n i at start len : ℕ) → i < n → n ≤ most → i + how_many (most - i) o c at ≡ n
@@ -77,11 +77,11 @@ few_elements zero o c at = let e = nothing (leb (length c) at) in omega arith
 few_elements (suc m) o c at = go (leb (length c) at) (inside_at o c at (length c)) (λ p. few_elements m o c p)
   where
     long : (b : Element) (q : Option (List Element)) → length (elements_of q) ≤ m → length (elements_of (consed b q)) ≤ suc m
-    long b none h = omega arith
-    long b (some es) h = omega arith
+    long b None h = omega arith
+    long b (Some es) h = omega arith
 
     go : (u : Bool) (i : Inside) → ((p : ℕ) → how_many m o c p ≤ m)
-        → length (elements_of (pick u (some []) (opened i (λ start n. consed (element_at c at start n) (elements_from m o c (start + n)))))) ≤ suc m
+        → length (elements_of (pick u (Some []) (opened i (λ start n. consed (element_at c at start n) (elements_from m o c (start + n)))))) ≤ suc m
     go true i f = omega arith
     go false Inside.Misfit f = omega arith
     go false (Inside.Of start n) f = long (element_at c at start n) (elements_from m o c (start + n)) (f (start + n))
@@ -93,8 +93,8 @@ none-marked [] = refl
 none-marked (b ∷ l) = ap (λ (r : List Compared). b ∷ r) (none-marked l)
 
 abbrev pub taken : (ℕ → List Compared) → Option ℕ → Option (List Compared)
-taken f none = none
-taken f (some m) = some (f m)
+taken f None = None
+taken f (Some m) = Some (f m)
 
 unused_bit : (b : Compared) (l : List Compared) (d m : ℕ) → d < 2 → unused (b ∷ l) (d + 2 * m) ≡ pick (eqb d 0) (b ∷ unused l m) (unused l m)
 unfolding unused
@@ -113,14 +113,14 @@ without-marked a (b ∷ l) m = go (eqb (m % 2) 0) (same_pair a b) refl refl (wit
     low = omega arith
 
     later : (d : ℕ) (o : Option ℕ) → d < 2 → pick (eqb d 0) (consed b (taken (unused l) o)) (taken (unused l) o) ≡ taken (unused (b ∷ l)) (behind d o)
-    later d none h = flat (eqb d 0)
+    later d None h = flat (eqb d 0)
       where
-        flat : (u : Bool) → pick {A = Option (List Compared)} u none none ≡ none
+        flat : (u : Bool) → pick {A = Option (List Compared)} u None None ≡ None
         flat true = refl
         flat false = refl
-    later d (some k) h = out (eqb d 0) ∙ ap some (sym (unused_bit b l d k h))
+    later d (Some k) h = out (eqb d 0) ∙ ap Some (sym (unused_bit b l d k h))
       where
-        out : (u : Bool) → pick u (some (b ∷ unused l k)) (some (unused l k)) ≡ some (pick u (b ∷ unused l k) (unused l k))
+        out : (u : Bool) → pick u (Some (b ∷ unused l k)) (Some (unused l k)) ≡ Some (pick u (b ∷ unused l k) (unused l k))
         out true = refl
         out false = refl
 
@@ -133,14 +133,14 @@ without-marked a (b ∷ l) m = go (eqb (m % 2) 0) (same_pair a b) refl refl (wit
     -- by whether the attribute is unmarked, and the same
     go : (u v : Bool) → eqb (m % 2) 0 ≡ u → same_pair a b ≡ v → without a (unused l (m / 2)) ≡ taken (unused l) (marked a l (m / 2))
         → without a (pick u (b ∷ unused l (m / 2)) (unused l (m / 2)))
-        ≡ taken (unused (b ∷ l)) (pick (both u v) (some (m + 1)) (behind (m % 2) (marked a l (m / 2))))
+        ≡ taken (unused (b ∷ l)) (pick (both u v) (Some (m + 1)) (behind (m % 2) (marked a l (m / 2))))
     go true true e f ih =
         without-cons a b (unused l (m / 2))
-        ∙ ap (λ (x : Bool). pick x (some (unused l (m / 2))) (consed b (without a (unused l (m / 2))))) f
-        ∙ ap some (sym (marking e))
+        ∙ ap (λ (x : Bool). pick x (Some (unused l (m / 2))) (consed b (without a (unused l (m / 2))))) f
+        ∙ ap Some (sym (marking e))
     go true false e f ih =
         without-cons a b (unused l (m / 2))
-        ∙ ap (λ (x : Bool). pick x (some (unused l (m / 2))) (consed b (without a (unused l (m / 2))))) f
+        ∙ ap (λ (x : Bool). pick x (Some (unused l (m / 2))) (consed b (without a (unused l (m / 2))))) f
         ∙ ap (consed b) ih
         ∙ ap (λ (x : Bool). pick x (consed b (taken (unused l) (marked a l (m / 2)))) (taken (unused l) (marked a l (m / 2)))) (sym e)
         ∙ later (m % 2) (marked a l (m / 2)) low
@@ -151,19 +151,19 @@ without-marked a (b ∷ l) m = go (eqb (m % 2) 0) (same_pair a b) refl refl (wit
 
 -- ---- marks from a place on, of weight w, above the marks `low` of the places before
 abbrev pub above : ℕ → ℕ → Option ℕ → Option ℕ
-above low w none = none
-above low w (some m) = some (low + w * m)
+above low w None = None
+above low w (Some m) = Some (low + w * m)
 
 pub spread : (w d m : ℕ) → w * (d + 2 * m) ≡ w * d + w * 2 * m
 spread w d m = mul-add w d (2 * m) ∙ ap (λ (y : ℕ). w * d + y) (sym (mul_assoc w 2 m))
 
 pub above-start : (o : Option ℕ) → above 0 1 o ≡ o
-above-start none = refl
-above-start (some m) = let e : 0 + 1 * m ≡ m = omega arith in ap some e
+above-start None = refl
+above-start (Some m) = let e : 0 + 1 * m ≡ m = omega arith in ap Some e
 
 pub above-behind : (low w d : ℕ) (o : Option ℕ) → above low w (behind d o) ≡ above (low + w * d) (w * 2) o
-above-behind low w d none = refl
-above-behind low w d (some m) = let e = spread w d m in let q : low + w * (d + 2 * m) ≡ low + w * d + w * 2 * m = omega arith in ap some q
+above-behind low w d None = refl
+above-behind low w d (Some m) = let e = spread w d m in let q : low + w * (d + 2 * m) ≡ low + w * d + w * 2 * m = omega arith in ap Some q
 
 -- ---- attributes
 pub attributes_length : (n : ℕ) (x : List ℕ) (end : ℕ) → length (attributes_back n x end) ≡ n

@@ -1,7 +1,7 @@
 -- Stored names against the operand: one lemma for each return and each turn of a loop.
 use mathlib.Core.Path.{◌≡◌, refl, sym, ap, ap₂, ◌∙◌, subst}
 use mathlib.Core.Bool.{Bool, true, false, not}
-use mathlib.Core.Option.{Option, none, some}
+use Rattle.std.specs.Prelude.{Option, None, Some}
 use mathlib.Core.List.{List, [], ◌∷◌, map}
 use Prim.Native.Nat.{ℕ, suc, ◌≤◌, ◌<◌, ◌+◌, ◌-◌, ◌*◌, ◌/◌, ◌%◌, ◌^◌}
 use native.Mathlib.Omega.{arith}
@@ -36,20 +36,20 @@ always false = refl
 
 -- ---- how many elements there are: n of them lie before place at
 abbrev pub counted : ℕ → Option (List Element) → ℕ
-counted n none = 0
-counted n (some es) = n + length es
+counted n None = 0
+counted n (Some es) = n + length es
 
 pub record Counting (tag most : ℕ) (c : List ℕ) (n at : ℕ) : Type 0 where
   pub few : n ≤ most
   pub so_far : counted n (elements_from (most - n) tag c at) ≡ length (elements_of (elements_from most tag c 0))
 
 counted_start : (o : Option (List Element)) → counted 0 o ≡ length (elements_of o)
-counted_start none = refl
-counted_start (some es) = omega arith
+counted_start None = refl
+counted_start (Some es) = omega arith
 
 counted_next : (n : ℕ) (b : Element) (o : Option (List Element)) → counted n (consed b o) ≡ counted (n + 1) o
-counted_next n b none = refl
-counted_next n b (some es) = omega arith
+counted_next n b None = refl
+counted_next n b (Some es) = omega arith
 
 pub count-start : (tag most : ℕ) (c : List ℕ) → Counting tag most c 0 0
 count-start tag most c =
@@ -162,7 +162,7 @@ use_start a x end n used =
     }
 
 module _ (a : Compared) (x : List ℕ) (end n used place rest weight j : ℕ) (s : Using a x end n used place rest weight j) where
-  pub use_none : n ≤ j → none ≡ marked a (attributes_back n x end) used
+  pub use_none : n ≤ j → None ≡ marked a (attributes_back n x end) used
   unfolding attributes_back marked
   use_none h =
       let z : n - j ≡ 0 = omega arith in
@@ -186,22 +186,22 @@ module _ (a : Compared) (x : List ℕ) (end n used place rest weight j : ℕ) (s
     weight-fits l = let w = weight-low l in omega arith
 
     module _ (u : Bool) (told : u ≡ same_unused a (attribute_back x place) rest) where
-      first : above s.low weight (pick u (some (rest + 1)) (behind (rest % 2) (marked a (attributes_back (n - (j + 1)) x (type_start x place)) (rest / 2))))
+      first : above s.low weight (pick u (Some (rest + 1)) (behind (rest % 2) (marked a (attributes_back (n - (j + 1)) x (type_start x place)) (rest / 2))))
           ≡ marked a (attributes_back n x end) used
       unfolding attributes_back marked
       first =
           let z : n - j ≡ suc (n - (j + 1)) = omega arith in
           ap (λ (y : Bool). above s.low weight
-          (pick y (some (rest + 1)) (behind (rest % 2) (marked a (attributes_back (n - (j + 1)) x (type_start x place)) (rest / 2))))) told
+          (pick y (Some (rest + 1)) (behind (rest % 2) (marked a (attributes_back (n - (j + 1)) x (type_start x place)) (rest / 2))))) told
           ∙ sym (ap (λ (k : ℕ). above s.low weight (marked a (attributes_back k x place) rest)) z)
           ∙ s.so_far
 
-      pub use_found : u ≡ true → some (used + weight) ≡ marked a (attributes_back n x end) used
+      pub use_found : u ≡ true → Some (used + weight) ≡ marked a (attributes_back n x end) used
       use_found e =
           let w = s.whole in
           let m : weight * (rest + 1) ≡ weight * rest + weight * 1 = mul-add weight rest 1 in
           let q : used + weight ≡ s.low + weight * (rest + 1) = omega arith in
-          ap some q ∙ (rw e at first)
+          ap Some q ∙ (rw e at first)
 
       pub use_more : (p : ℕ) → u ≡ false → p ≡ type_start x place → Using a x end n used p (rest / 2) (weight * 2) (j + 1)
       use_more p e f = record {

@@ -1,6 +1,6 @@
 -- Computed examples of comparing names (document 02, Q-3): each by the asserted text, and by the operand that is made of it.
 use Rattle.std.specs.Prelude.{◌≡◌, refl, Bool, true, false, List, [], ◌∷◌, ◌++◌, map, ℕ, length}
-use Rattle.std.proofs.Math.Option.{Option, none, some}
+use Rattle.std.specs.Prelude.{Option, None, Some}
 use Prim.Native.String.{String}
 use Rattle.octets.specs.Octets.{bytes, hex}
 use Rattle.names.specs.Rfc4514.{distinguished_name, relative_distinguished_name}
@@ -48,45 +48,45 @@ AskedRdn ps ts answers = (rdns ps ts ≡ answers) × (rdns_by_operand ps ts ≡ 
 order : Asked
     (rdn (pair "550406" 19 "AU" ∷ []) ∷ rdn (pair "55040A" 12 "Adacel" ∷ []) ∷ rdn (cn "Steven Legg" ∷ []) ∷ [])
     ("2.5.4.3=steven  legg,2.5.4.10=Adacel,2.5.4.6=AU" ∷ "2.5.4.6=AU,2.5.4.10=Adacel,2.5.4.3=Steven Legg" ∷ "2.5.4.10=Adacel,2.5.4.6=AU" ∷ "" ∷ [])
-    (some true ∷ some false ∷ some false ∷ some false ∷ [])
+    (Some true ∷ Some false ∷ Some false ∷ Some false ∷ [])
 unfolding matching_computes
 order = (refl, refl)
 
 -- an attribute type twice, in any order
 twice : AskedRdn (cn "a" ∷ cn "b" ∷ []) ("2.5.4.3=b+2.5.4.3=a" ∷ "2.5.4.3=a+2.5.4.3=b" ∷ "2.5.4.3=b+2.5.4.3=b" ∷ "2.5.4.3=a+2.5.4.4=b" ∷ [])
-    (some true ∷ some true ∷ some false ∷ some false ∷ [])
+    (Some true ∷ Some true ∷ Some false ∷ Some false ∷ [])
 unfolding matching_computes
 twice = (refl, refl)
 
 -- equal pairs are used up one by one
 equals : AskedRdn (cn "a" ∷ cn "a" ∷ []) ("2.5.4.3=a+2.5.4.3=A" ∷ "2.5.4.3=a" ∷ "2.5.4.3=a+2.5.4.3=b" ∷ "2.5.4.3=a+2.5.4.3=a+2.5.4.3=a" ∷ [])
-    (some true ∷ some false ∷ some false ∷ some false ∷ [])
+    (Some true ∷ Some false ∷ Some false ∷ Some false ∷ [])
 unfolding matching_computes
 equals = (refl, refl)
 
 -- empty values
-empty-value : AskedRdn (cn " " ∷ []) ("2.5.4.3=" ∷ "2.5.4.3=a" ∷ []) (some true ∷ some false ∷ [])
+empty-value : AskedRdn (cn " " ∷ []) ("2.5.4.3=" ∷ "2.5.4.3=a" ∷ []) (Some true ∷ Some false ∷ [])
 unfolding matching_computes
 empty-value = (refl, refl)
 
 -- an arc above 2^32 conforms, and equals no stored one
-large_arc : AskedRdn (cn "a" ∷ []) ("2.5.4.4294967299=a" ∷ "2.5.4.3=a" ∷ "1.40=a" ∷ []) (some false ∷ some true ∷ none ∷ [])
+large_arc : AskedRdn (cn "a" ∷ []) ("2.5.4.4294967299=a" ∷ "2.5.4.3=a" ∷ "1.40=a" ∷ []) (Some false ∷ Some true ∷ None ∷ [])
 unfolding matching_computes
 large_arc = (refl, refl)
 
 -- a name without RDNs; one RDN has a pair at least
-no-rdn : Asked [] ("" ∷ "2.5.4.3=a" ∷ []) (some true ∷ some false ∷ [])
+no-rdn : Asked [] ("" ∷ "2.5.4.3=a" ∷ []) (Some true ∷ Some false ∷ [])
 unfolding matching_computes
 no-rdn = (refl, refl)
 
-no-pair : AskedRdn [] ("" ∷ "2.5.4.3=a" ∷ []) (none ∷ some false ∷ [])
+no-pair : AskedRdn [] ("" ∷ "2.5.4.3=a" ∷ []) (None ∷ Some false ∷ [])
 unfolding matching_computes
 no-pair = (refl, refl)
 
 -- the kind of a stored string doesn't matter
-kinds : (AskedRdn (pair "550403" 12 "a" ∷ []) ("2.5.4.3=A" ∷ []) (some true ∷ []))
-    × (AskedRdn (pair "550403" 19 "a" ∷ []) ("2.5.4.3=A" ∷ []) (some true ∷ []))
-    × (AskedRdn (pair "550403" 22 "a" ∷ []) ("2.5.4.3=A" ∷ []) (some true ∷ []))
+kinds : (AskedRdn (pair "550403" 12 "a" ∷ []) ("2.5.4.3=A" ∷ []) (Some true ∷ []))
+    × (AskedRdn (pair "550403" 19 "a" ∷ []) ("2.5.4.3=A" ∷ []) (Some true ∷ []))
+    × (AskedRdn (pair "550403" 22 "a" ∷ []) ("2.5.4.3=A" ∷ []) (Some true ∷ []))
 unfolding matching_computes
 kinds = ((refl, refl), (refl, refl), (refl, refl))
 
@@ -94,6 +94,6 @@ kinds = ((refl, refl), (refl, refl), (refl, refl))
 four : AskedRdn (cn "a" ∷ cn "b" ∷ pair "550404" 12 "a" ∷ pair "55040A" 19 "a" ∷ [])
     ("2.5.4.3=a+2.5.4.3=b+2.5.4.4=a+2.5.4.10=a" ∷ "2.5.4.10=a+2.5.4.4=a+2.5.4.3=b+2.5.4.3=a" ∷ "2.5.4.4=a+2.5.4.3=b+2.5.4.10=a+2.5.4.3=a"
     ∷ "2.5.4.4=a+2.5.4.3=b+2.5.4.10=a+2.5.4.3=b" ∷ "2.5.4.4=b+2.5.4.3=b+2.5.4.10=a+2.5.4.3=a" ∷ "2.5.4.3=a+2.5.4.3=b+2.5.4.4=a" ∷ [])
-    (some true ∷ some true ∷ some true ∷ some false ∷ some false ∷ some false ∷ [])
+    (Some true ∷ Some true ∷ Some true ∷ Some false ∷ Some false ∷ Some false ∷ [])
 unfolding matching_computes
 four = (refl, refl)

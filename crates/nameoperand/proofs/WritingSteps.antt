@@ -1,7 +1,8 @@
 -- Writing RDNs and names: laws of one attribute and one RDN more, then one lemma for each need.
 use mathlib.Core.Path.{◌≡◌, refl, sym, ap, ap₂, ◌∙◌, subst}
 use mathlib.Core.Bool.{Bool, true, false, false≢true}
-use mathlib.Core.Option.{Option, none, some, none-ne-some}
+use Rattle.std.specs.Prelude.{Option, None, Some}
+use Rattle.std.proofs.lemmas.Option.{none-some}
 use mathlib.Core.List.{List, [], ◌∷◌, ◌++◌, append_assoc, append-nil, map}
 use Prim.Native.Nat.{ℕ, zero, suc, ◌≤◌, ◌<◌, ◌+◌, ◌-◌, ◌*◌}
 use native.Mathlib.Omega.{arith}
@@ -64,25 +65,25 @@ dotted-long (a ∷ b ∷ []) e = absurd (go (eqb a 46) (eqb b 46) e)
 dotted-long (a ∷ b ∷ c ∷ t) e = omega arith
 
 abbrev type_or : Option (Read rfc.Attribute) → List ℕ
-type_or none = []
-type_or (some a) = a.got.type
+type_or None = []
+type_or (Some a) = a.got.type
 
 type-dotted : (ls : List rfc.Letter) (a : rfc.Attribute) (rest : List rfc.Letter)
-    → attribute_from ls ≡ some (record { got = a; rest = rest }) → is_dotted a.type ≡ true
+    → attribute_from ls ≡ Some (record { got = a; rest = rest }) → is_dotted a.type ≡ true
 unfolding attribute_from
 type-dotted ls a rest = go (type_from ls)
   where
-    go : (o : Option (Read (List ℕ))) → bind o with_value ≡ some (record { got = a; rest = rest }) → is_dotted a.type ≡ true
-    go none e = absurd (none-ne-some _ e)
-    go (some t) e = tested (is_dotted t.got) refl (is_string (up_to_end t.rest)) e
+    go : (o : Option (Read (List ℕ))) → bind o with_value ≡ Some (record { got = a; rest = rest }) → is_dotted a.type ≡ true
+    go None e = absurd (none-some _ e)
+    go (Some t) e = tested (is_dotted t.got) refl (is_string (up_to_end t.rest)) e
       where
         tested : (u : Bool) → is_dotted t.got ≡ u → (v : Bool)
             → pick {A = Option (Read rfc.Attribute)} (both u v)
-            (some (record { got = record { type = t.got; value = map rfc.octet_of (up_to_end t.rest) }; rest = rfc.from_end t.rest })) none
-            ≡ some (record { got = a; rest = rest }) → is_dotted a.type ≡ true
+            (Some (record { got = record { type = t.got; value = map rfc.octet_of (up_to_end t.rest) }; rest = rfc.from_end t.rest })) None
+            ≡ Some (record { got = a; rest = rest }) → is_dotted a.type ≡ true
         tested true q true f = ap is_dotted (sym (ap type_or f)) ∙ q
-        tested true q false f = absurd (none-ne-some _ f)
-        tested false q v f = absurd (none-ne-some _ f)
+        tested true q false f = absurd (none-some _ f)
+        tested false q v f = absurd (none-some _ f)
 
 pub type-long : (p : List ℕ) (at : ℕ) (r : AttributeAt) (a : Attribute)
     → report_attribute p at r ≡ attribute_from (letters_at p at) → AttributePlaces at (length p) r
@@ -97,7 +98,7 @@ type-long p at (AttributeAt.Of b) a told places e =
 
 -- ---- one attribute more
 abbrev read_as : {A : Type 0} → A → List rfc.Letter → Option (Read A)
-read_as a rest = some (record { got = a; rest = rest })
+read_as a rest = Some (record { got = a; rest = rest })
 
 -- the attributes behind the first, where a plus sign stands between
 pub record Behind (most : ℕ) (ls : List rfc.Letter) (a : rfc.Attribute) (l : List rfc.Attribute) (rest : List rfc.Letter) : Type 0 where
@@ -106,12 +107,12 @@ pub record Behind (most : ℕ) (ls : List rfc.Letter) (a : rfc.Attribute) (l : L
   pub read : rdn_from most ls ≡ read_as others rest
 
 abbrev got_or : {A : Type 0} → Option (Read (List A)) → List A
-got_or none = []
-got_or (some r) = r.got
+got_or None = []
+got_or (Some r) = r.got
 
 abbrev rest_or : {A : Type 0} → Option (Read A) → List rfc.Letter
-rest_or none = []
-rest_or (some r) = r.rest
+rest_or None = []
+rest_or (Some r) = r.rest
 
 module _ (most : ℕ) (ls : List rfc.Letter) (a : rfc.Attribute) (after : List rfc.Letter) (l : List rfc.Attribute) (rest : List rfc.Letter)
     (first : attribute_from ls ≡ read_as a after) (e : rdn_from (suc most) ls ≡ read_as l rest) where
@@ -123,8 +124,8 @@ module _ (most : ℕ) (ls : List rfc.Letter) (a : rfc.Attribute) (after : List r
   more q = go (rdn_from most (behind after)) refl (rw q at choice)
     where
       go : (o : Option (Read (List rfc.Attribute))) → rdn_from most (behind after) ≡ o → with_first a o ≡ read_as l rest → Behind most (behind after) a l rest
-      go none f g = absurd (none-ne-some _ g)
-      go (some r) f g = record { others = r.got; is = sym (ap got_or g); read = f ∙ ap (λ (x : List rfc.Letter). read_as r.got x) (ap rest_or g) }
+      go None f g = absurd (none-some _ g)
+      go (Some r) f g = record { others = r.got; is = sym (ap got_or g); read = f ∙ ap (λ (x : List rfc.Letter). read_as r.got x) (ap rest_or g) }
 
   alone-is : is_before 43 after ≡ false → l ≡ a ∷ []
   alone-is q = sym (ap got_or (rw q at choice))
@@ -134,7 +135,7 @@ module _ (most : ℕ) (ls : List rfc.Letter) (a : rfc.Attribute) (after : List r
 
 some_left : (most : ℕ) (ls : List rfc.Letter) (l : List rfc.Attribute) (rest : List rfc.Letter) → rdn_from most ls ≡ read_as l rest → 0 < most
 unfolding rdn_from
-some_left zero ls l rest e = absurd (none-ne-some _ e)
+some_left zero ls l rest e = absurd (none-some _ e)
 some_left (suc most) ls l rest e = omega arith
 
 -- ---- the attributes of an RDN: `count` of them stand in the memory up to n, and what is left from place `at` on is known
@@ -156,8 +157,8 @@ pub writing_start : (p : List ℕ) (first from : ℕ) (m : List ℕ) → length 
 writing_start p first from m l b h = go (rdn_from most_pairs (letters_at p first)) refl h
   where
     go : (o : Option (Read (List rfc.Attribute))) → rdn_from most_pairs (letters_at p first) ≡ o → is_some o ≡ true → Writing p first from m first from 0 m
-    go none e q = absurd (false≢true q)
-    go (some r) e q = record {
+    go None e q = absurd (false≢true q)
+    go (Some r) e q = record {
       long = l;
       behind = b;
       begun = omega arith;
@@ -185,8 +186,8 @@ module _ (p : List ℕ) (first from : ℕ) (m₀ : List ℕ) (at n count : ℕ) 
   -- an attribute is there
   pub writing_none : (x : Written) → r ≡ AttributeAt.No → RdnWritten p first from m₀ x m
   unfolding rdn_from
-  writing_none x e = absurd (none-ne-some _ (ap (λ (o : Option (Read rfc.Attribute)). bind o (λ a.
-      pick (is_before 43 a.rest) (with_first a.got (rdn_from most (behind a.rest))) (some (record { got = a.got ∷ []; rest = a.rest }))))
+  writing_none x e = absurd (none-some _ (ap (λ (o : Option (Read rfc.Attribute)). bind o (λ a.
+      pick (is_before 43 a.rest) (with_first a.got (rdn_from most (behind a.rest))) (Some (record { got = a.got ∷ []; rest = a.rest }))))
       (sym (ap (report_attribute p at) e) ∙ told) ∙ read-on))
 
   pub writing_long : length m ≡ 5120
@@ -312,8 +313,8 @@ unfolding relative_distinguished_name letters_at
 single-read p h = go (rdn_from most_pairs (letters (undoubled p))) h
   where
     go : (o : Option (Read (List rfc.Attribute))) → is_some (alone o) ≡ true → is_some o ≡ true
-    go none e = e
-    go (some r) e = refl
+    go None e = e
+    go (Some r) e = refl
 
 -- ---- a name: what is left from place `at` on is known
 pub record Naming (p : List ℕ) (at n : ℕ) (m : List ℕ) : Type 0 where
@@ -321,7 +322,7 @@ pub record Naming (p : List ℕ) (at n : ℕ) (m : List ℕ) : Type 0 where
   pub behind : 2 * n ≤ 5 * at
   pub most : ℕ
   pub left : List (List rfc.Attribute)
-  pub read : rdns_from most (letters_at p at) ≡ some left
+  pub read : rdns_from most (letters_at p at) ≡ Some left
   pub octets : take n m ++ name_octets left ≡ name_octets (or_none (distinguished_name (undoubled p)))
 
 whole-name : (p : List ℕ) → (length p ≡ 0 → ⊥) → rdns_from most_rdns (letters_at p 0) ≡ distinguished_name (undoubled p)
@@ -337,8 +338,8 @@ pub naming_start : (p m : List ℕ) → (length p ≡ 0 → ⊥) → length m �
 naming_start p m n l h = go (distinguished_name (undoubled p)) refl h
   where
     go : (o : Option (List (List rfc.Attribute))) → distinguished_name (undoubled p) ≡ o → is_some o ≡ true → Naming p 0 0 m
-    go none e q = absurd (false≢true q)
-    go (some rs) e q = record {
+    go None e q = absurd (false≢true q)
+    go (Some rs) e q = record {
       long = l;
       behind = omega arith;
       most = most_rdns;
@@ -348,14 +349,14 @@ naming_start p m n l h = go (distinguished_name (undoubled p)) refl h
     }
 
 abbrev first_or : Option (List (List rfc.Attribute)) → List (List rfc.Attribute)
-first_or none = []
-first_or (some l) = l
+first_or None = []
+first_or (Some l) = l
 
 -- the RDNs behind the first, where a comma stands between
 record Following (most : ℕ) (ls : List rfc.Letter) (r : List rfc.Attribute) (left : List (List rfc.Attribute)) : Type 0 where
   pub others : List (List rfc.Attribute)
   pub is : left ≡ r ∷ others
-  pub read : rdns_from most ls ≡ some others
+  pub read : rdns_from most ls ≡ Some others
 
 module _ (p : List ℕ) (at n : ℕ) (m : List ℕ) (v : Naming p at n m) where
   pub naming_long : length m ≡ 5120
@@ -365,23 +366,23 @@ module _ (p : List ℕ) (at n : ℕ) (m : List ℕ) (v : Naming p at n m) where
   naming_behind = v.behind
 
   abbrev further : ℕ → Read (List rfc.Attribute) → Option (List (List rfc.Attribute))
-  further k r = pick (is_before 44 r.rest) (consed r.got (rdns_from k (behind r.rest))) (some (r.got ∷ []))
+  further k r = pick (is_before 44 r.rest) (consed r.got (rdns_from k (behind r.rest))) (Some (r.got ∷ []))
 
   -- an RDN is there
-  one-read : (k : ℕ) → rdns_from k (letters_at p at) ≡ some v.left → bind (rdn_from most_pairs (letters_at p at)) (further (k - 1)) ≡ some v.left
+  one-read : (k : ℕ) → rdns_from k (letters_at p at) ≡ Some v.left → bind (rdn_from most_pairs (letters_at p at)) (further (k - 1)) ≡ Some v.left
   unfolding rdns_from
-  one-read zero e = absurd (none-ne-some _ e)
+  one-read zero e = absurd (none-some _ e)
   one-read (suc k) e = let z : suc k - 1 ≡ k = omega arith in ap (λ (y : ℕ). bind (rdn_from most_pairs (letters_at p at)) (further y)) z ∙ e
 
   pub naming_read : is_some (rdn_from most_pairs (letters_at p at)) ≡ true
   naming_read = go (rdn_from most_pairs (letters_at p at)) (one-read v.most v.read)
     where
-      go : (o : Option (Read (List rfc.Attribute))) → bind o (further (v.most - 1)) ≡ some v.left → is_some o ≡ true
-      go none e = absurd (none-ne-some _ e)
-      go (some r) e = refl
+      go : (o : Option (Read (List rfc.Attribute))) → bind o (further (v.most - 1)) ≡ Some v.left → is_some o ≡ true
+      go None e = absurd (none-some _ e)
+      go (Some r) e = refl
 
   module _ (r : Written) (m₁ : List ℕ) (w : RdnWritten p at n m r m₁) (b : ℕ) (sign : b ≡ octet p r.end) where
-    after : pick (eqb b 44) (consed w.rdn (rdns_from (v.most - 1) (behind (letters_at p r.end)))) (some (w.rdn ∷ [])) ≡ some v.left
+    after : pick (eqb b 44) (consed w.rdn (rdns_from (v.most - 1) (behind (letters_at p r.end)))) (Some (w.rdn ∷ [])) ≡ Some v.left
     after =
         rw (sign, sym (before-is p r.end 44 (omega arith) (λ q. omega arith)))
         (sym (ap (λ (o : Option (Read (List rfc.Attribute))). bind o (further (v.most - 1))) w.read) ∙ one-read v.most v.read)
@@ -409,10 +410,10 @@ module _ (p : List ℕ) (at n : ℕ) (m : List ℕ) (v : Naming p at n m) where
       following : Following (v.most - 1) (behind (letters_at p r.end)) w.rdn v.left
       following = go (rdns_from (v.most - 1) (behind (letters_at p r.end))) refl (rw (eq-eqb b 44 q) at after)
         where
-          go : (o : Option (List (List rfc.Attribute))) → rdns_from (v.most - 1) (behind (letters_at p r.end)) ≡ o → consed w.rdn o ≡ some v.left
+          go : (o : Option (List (List rfc.Attribute))) → rdns_from (v.most - 1) (behind (letters_at p r.end)) ≡ o → consed w.rdn o ≡ Some v.left
               → Following (v.most - 1) (behind (letters_at p r.end)) w.rdn v.left
-          go none e f = absurd (none-ne-some _ f)
-          go (some l) e f = record { others = l; is = sym (ap first_or f); read = e }
+          go None e f = absurd (none-some _ f)
+          go (Some l) e f = record { others = l; is = sym (ap first_or f); read = e }
 
       pub naming_more : Naming p (r.end + 1) r.place m₁
       unfolding name_octets

@@ -1,7 +1,7 @@
 -- Attributes: laws of dotted types, then one lemma for each return and each turn; its premises are the facts as the code has them.
 use mathlib.Core.Path.{◌≡◌, refl, sym, ap, ◌∙◌}
 use mathlib.Core.Bool.{Bool, true, false, not, false≢true}
-use mathlib.Core.Option.{Option, none, some}
+use Rattle.std.specs.Prelude.{Option, None, Some}
 use mathlib.Core.List.{List, [], ◌∷◌}
 use Prim.Native.Nat.{ℕ, ◌≤◌, ◌<◌, ◌+◌}
 use native.Mathlib.Omega.{arith}
@@ -69,19 +69,19 @@ dotted-plain s e = pieces-plain s (numbers-digits (pieces s) (both_true (every_n
 -- ---- types
 plain_with : (b : ℕ) (o : Option (Read (List ℕ))) → is_type_octet b ≡ true → plain_type (with_first b o) ≡ with_first b (plain_type o)
 unfolding every
-plain_with b none e = refl
-plain_with b (some t) e = rw e (go (every is_type_octet t.got))
+plain_with b None e = refl
+plain_with b (Some t) e = rw e (go (every is_type_octet t.got))
   where
-    go : (u : Bool) → pick u (some (record { got = b ∷ t.got; rest = t.rest })) none ≡ with_first b (pick u (some t) none)
+    go : (u : Bool) → pick u (Some (record { got = b ∷ t.got; rest = t.rest })) None ≡ with_first b (pick u (Some t) None)
     go true = refl
     go false = refl
 
-plain-without : (b : ℕ) (o : Option (Read (List ℕ))) → is_type_octet b ≡ false → plain_type (with_first b o) ≡ none
+plain-without : (b : ℕ) (o : Option (Read (List ℕ))) → is_type_octet b ≡ false → plain_type (with_first b o) ≡ None
 unfolding every
-plain-without b none e = refl
-plain-without b (some t) e = rw e
+plain-without b None e = refl
+plain-without b (Some t) e = rw e
 
-type-nil : type_from [] ≡ none
+type-nil : type_from [] ≡ None
 unfolding type_from
 type-nil = refl
 
@@ -93,11 +93,11 @@ type_equals : (ls : List rfc.Letter) → type_from (bare 61 ∷ ls) ≡ read [] 
 unfolding type_from
 type_equals ls = refl
 
-type-wrong : type_from (wrong ∷ []) ≡ none
+type-wrong : type_from (wrong ∷ []) ≡ None
 unfolding type_from
 type-wrong = refl
 
-type-escaped : (c : ℕ) (ls : List rfc.Letter) → type_from (escaped c ∷ ls) ≡ none
+type-escaped : (c : ℕ) (ls : List rfc.Letter) → type_from (escaped c ∷ ls) ≡ None
 unfolding type_from
 type-escaped c ls = refl
 
@@ -121,7 +121,7 @@ pub typed-start : (p : List ℕ) (at : ℕ) → Typed p at at
 typed-start p at = record { from = omega arith; on = λ r b e. e }
 
 module _ (p : List ℕ) (at i : ℕ) (inv : Typed p at i) where
-  typeless : plain_type (type_from (letters_at p i)) ≡ none → report_type p at Place.Nowhere ≡ plain_type (type_from (letters_at p at))
+  typeless : plain_type (type_from (letters_at p i)) ≡ None → report_type p at Place.Nowhere ≡ plain_type (type_from (letters_at p at))
   typeless e = inv.on Place.Nowhere tt (sym e)
 
   pub type-over : length p ≤ i → report_type p at Place.Nowhere ≡ plain_type (type_from (letters_at p at))
@@ -146,7 +146,7 @@ module _ (p : List ℕ) (at i : ℕ) (inv : Typed p at i) where
     module _ (n : octet p i ≡ 61 → ⊥) (u : Bool) (asked : u ≡ is_type_octet (octet p i)) where
       pub type-none : not u ≡ true → report_type p at Place.Nowhere ≡ plain_type (type_from (letters_at p at))
       type-none e =
-          typeless (letters_cases p i (λ (ls : List rfc.Letter). plain_type (type_from ls) ≡ none) (λ _. ap plain_type type-nil)
+          typeless (letters_cases p i (λ (ls : List rfc.Letter). plain_type (type_from ls) ≡ None) (λ _. ap plain_type type-nil)
           (λ _ _. ap plain_type type-wrong) (λ _ _ c ls. ap plain_type (type-escaped c ls))
           (λ _ _. ap plain_type (type-other (octet p i) (letters_at p (next_place p i)) n)
           ∙ plain-without (octet p i) (type_from (letters_at p (next_place p i))) (sym asked ∙ not-true u e)))
@@ -179,23 +179,23 @@ module _ (p : List ℕ) (at i : ℕ) (inv : Typed p at i) where
 
 -- ---- attributes
 abbrev with_type : List ℕ → Option (Read (List ℕ)) → Option (Read rfc.Attribute)
-with_type t none = none
-with_type t (some v) = some (record { got = record { type = t; value = v.got }; rest = v.rest })
+with_type t None = None
+with_type t (Some v) = Some (record { got = record { type = t; value = v.got }; rest = v.rest })
 
-value_law : (t : Read (List ℕ)) → with_value t ≡ pick (is_dotted t.got) (with_type t.got (value_from t.rest)) none
+value_law : (t : Read (List ℕ)) → with_value t ≡ pick (is_dotted t.got) (with_type t.got (value_from t.rest)) None
 unfolding value_from
 value_law t = go (is_dotted t.got) (is_string (up_to_end t.rest))
   where
-    go : (d s : Bool) → pick (both d s) (some (record { got = record { type = t.got; value = value_octets t.rest }; rest = from_end t.rest })) none
-        ≡ pick d (with_type t.got (pick s (read (value_octets t.rest) (from_end t.rest)) none)) none
+    go : (d s : Bool) → pick (both d s) (Some (record { got = record { type = t.got; value = value_octets t.rest }; rest = from_end t.rest })) None
+        ≡ pick d (with_type t.got (pick s (read (value_octets t.rest) (from_end t.rest)) None)) None
     go true true = refl
     go true false = refl
     go false s = refl
 
-undotted : (t : Read (List ℕ)) → every is_type_octet t.got ≡ false → with_value t ≡ none
+undotted : (t : Read (List ℕ)) → every is_type_octet t.got ≡ false → with_value t ≡ None
 undotted t e = value_law t ∙ go (is_dotted t.got) (dotted-plain t.got)
   where
-    go : (d : Bool) → (d ≡ true → every is_type_octet t.got ≡ true) → pick d (with_type t.got (value_from t.rest)) none ≡ none
+    go : (d : Bool) → (d ≡ true → every is_type_octet t.got ≡ true) → pick d (with_type t.got (value_from t.rest)) None ≡ None
     go true f = absurd (false≢true (sym e ∙ f refl))
     go false f = refl
 
@@ -204,10 +204,10 @@ unfolding attribute_from
 attribute_law ls = go (type_from ls)
   where
     go : (o : Option (Read (List ℕ))) → bind o with_value ≡ bind (plain_type o) with_value
-    go none = refl
-    go (some t) = choose (every is_type_octet t.got) (undotted t)
+    go None = refl
+    go (Some t) = choose (every is_type_octet t.got) (undotted t)
       where
-        choose : (u : Bool) → (u ≡ false → with_value t ≡ none) → with_value t ≡ bind (pick u (some t) none) with_value
+        choose : (u : Bool) → (u ≡ false → with_value t ≡ None) → with_value t ≡ bind (pick u (Some t) None) with_value
         choose true f = refl
         choose false f = f refl
 
@@ -219,7 +219,7 @@ module _ (p : List ℕ) (at : ℕ) (r : Place) (told : report_type p at r ≡ pl
   attribute_typeless e = sym (attribute-by ∙ rw e)
 
   module _ (equals : ℕ) (e : r ≡ Place.At equals) (t : List ℕ) (u : Bool) (part : t ≡ between p at equals) (asked : u ≡ is_dotted t) where
-    here : attribute_from (letters_at p at) ≡ pick u (with_type (between p at equals) (value_from (letters_at p (equals + 1)))) none
+    here : attribute_from (letters_at p at) ≡ pick u (with_type (between p at equals) (value_from (letters_at p (equals + 1)))) None
     here = attribute-by ∙ ap (λ (x : Place). bind (report_type p at x) with_value) e
         ∙ value_law (record { got = between p at equals; rest = letters_at p (equals + 1) }) ∙ rw (asked, part)
 

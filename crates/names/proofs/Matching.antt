@@ -1,7 +1,7 @@
 -- Pairs one to one, in any order.
 use mathlib.Core.Path.{◌≡◌, refl, sym, ap, ap₂, ◌∙◌, subst}
 use mathlib.Core.Bool.{Bool, true, false, false≢true}
-use mathlib.Core.Option.{Option, none, some}
+use Rattle.std.specs.Prelude.{Option, None, Some}
 use mathlib.Core.List.{List, [], ◌∷◌, ◌++◌, map}
 use Prim.Native.Nat.{ℕ, suc, ◌+◌}
 use native.Mathlib.Omega.{arith}
@@ -15,40 +15,40 @@ use Rattle.names.specs.Compared.{Compared, same_pair, without, others, same_rdn,
 
 -- ---- one pair taken out
 abbrev held : {A : Type 0} → A → Option A → A
-held d none = d
-held d (some a) = a
+held d None = d
+held d (Some a) = a
 
-pub none-some : {A : Type 0} (a : A) → none ≡ some a → ⊥
+pub none-some : {A : Type 0} (a : A) → None ≡ Some a → ⊥
 none-some a e = false≢true (ap is_some e)
 
-pub some_same : {A : Type 0} (a b : A) → some a ≡ some b → a ≡ b
+pub some_same : {A : Type 0} (a b : A) → Some a ≡ Some b → a ≡ b
 some_same a b e = ap (held a) e
 
-pub consed_view : {A : Type 0} (b : A) (o : Option (List A)) (cs : List A) → consed b o ≡ some cs → (ds : List A) × (o ≡ some ds) × ((b ∷ ds) ≡ cs)
-consed_view b none cs e = absurd (none-some cs e)
-consed_view b (some ds) cs e = (ds, refl, some_same (b ∷ ds) cs e)
+pub consed_view : {A : Type 0} (b : A) (o : Option (List A)) (cs : List A) → consed b o ≡ Some cs → (ds : List A) × (o ≡ Some ds) × ((b ∷ ds) ≡ cs)
+consed_view b None cs e = absurd (none-some cs e)
+consed_view b (Some ds) cs e = (ds, refl, some_same (b ∷ ds) cs e)
 
-pub without-cons : (a b : Compared) (bs : List Compared) → without a (b ∷ bs) ≡ pick (same_pair a b) (some bs) (consed b (without a bs))
+pub without-cons : (a b : Compared) (bs : List Compared) → without a (b ∷ bs) ≡ pick (same_pair a b) (Some bs) (consed b (without a bs))
 unfolding without
 without-cons a b bs = refl
 
-pub without-length : (a : Compared) (bs cs : List Compared) → without a bs ≡ some cs → length bs ≡ suc (length cs)
+pub without-length : (a : Compared) (bs cs : List Compared) → without a bs ≡ Some cs → length bs ≡ suc (length cs)
 unfolding without
 without-length a [] cs e = absurd (none-some cs e)
 without-length a (b ∷ bs) cs e = go (same_pair a b) (λ ds q. without-length a bs ds q) (sym (without-cons a b bs) ∙ e)
   where
-    go : (u : Bool) → ((ds : List Compared) → without a bs ≡ some ds → length bs ≡ suc (length ds))
-        → pick u (some bs) (consed b (without a bs)) ≡ some cs → suc (length bs) ≡ suc (length cs)
+    go : (u : Bool) → ((ds : List Compared) → without a bs ≡ Some ds → length bs ≡ suc (length ds))
+        → pick u (Some bs) (consed b (without a bs)) ≡ Some cs → suc (length bs) ≡ suc (length cs)
     go true f q = ap (λ (l : List Compared). suc (length l)) (some_same bs cs q)
     go false f q =
         let w = consed_view b (without a bs) cs q in
         ap suc (f w.0 w.1) ∙ ap (λ (l : List Compared). suc (length l)) w.2
 
-others_view : (f : List Compared → Bool) (o : Option (List Compared)) → others f o ≡ true → (cs : List Compared) × (o ≡ some cs) × (f cs ≡ true)
-others_view f none e = absurd (false≢true e)
-others_view f (some cs) e = (cs, refl, e)
+others_view : (f : List Compared → Bool) (o : Option (List Compared)) → others f o ≡ true → (cs : List Compared) × (o ≡ Some cs) × (f cs ≡ true)
+others_view f None e = absurd (false≢true e)
+others_view f (Some cs) e = (cs, refl, e)
 
-pub rdn_view : (a : Compared) (l bs : List Compared) → same_rdn (a ∷ l) bs ≡ true → (cs : List Compared) × (without a bs ≡ some cs) × (same_rdn l cs ≡ true)
+pub rdn_view : (a : Compared) (l bs : List Compared) → same_rdn (a ∷ l) bs ≡ true → (cs : List Compared) × (without a bs ≡ Some cs) × (same_rdn l cs ≡ true)
 unfolding same_rdn
 rdn_view a l bs e = others_view (same_rdn l) (without a bs) e
 
@@ -101,13 +101,13 @@ occurrences p [] = 0
 occurrences p (a ∷ l) = once (same_pair p a) + occurrences p l
 
 -- a pair taken out is one occurrence less of it
-without_inserts : (a : Compared) (bs cs : List Compared) → without a bs ≡ some cs → Inserted a cs bs
+without_inserts : (a : Compared) (bs cs : List Compared) → without a bs ≡ Some cs → Inserted a cs bs
 unfolding without
 without_inserts a [] cs e = absurd (none-some cs e)
 without_inserts a (b ∷ bs) cs e = go (same_pair a b) refl (λ ds q. without_inserts a bs ds q) (sym (without-cons a b bs) ∙ e)
   where
-    go : (u : Bool) → same_pair a b ≡ u → ((ds : List Compared) → without a bs ≡ some ds → Inserted a ds bs)
-        → pick u (some bs) (consed b (without a bs)) ≡ some cs → Inserted a cs (b ∷ bs)
+    go : (u : Bool) → same_pair a b ≡ u → ((ds : List Compared) → without a bs ≡ Some ds → Inserted a ds bs)
+        → pick u (Some bs) (consed b (without a bs)) ≡ Some cs → Inserted a cs (b ∷ bs)
     go true s f q =
         subst (λ (l : List Compared). Inserted a l (b ∷ bs)) (some_same bs cs q)
         (subst (λ (x : Compared). Inserted a bs (x ∷ bs)) (pair-equal a b s) here)
@@ -120,18 +120,18 @@ unfolding occurrences
 inserted_once p a l m here = refl
 inserted_once p a l m (later {b} {l = k} {m = n} i) = let e = inserted_once p a k n i in omega arith
 
-without-none : (a : Compared) (bs : List Compared) → without a bs ≡ none → occurrences a bs ≡ 0
+without-none : (a : Compared) (bs : List Compared) → without a bs ≡ None → occurrences a bs ≡ 0
 unfolding without occurrences
 without-none a [] e = refl
 without-none a (b ∷ bs) e = go (same_pair a b) (λ q. without-none a bs q) (sym (without-cons a b bs) ∙ e)
   where
-    go : (u : Bool) → (without a bs ≡ none → occurrences a bs ≡ 0) → pick u (some bs) (consed b (without a bs)) ≡ none → once u + occurrences a bs ≡ 0
+    go : (u : Bool) → (without a bs ≡ None → occurrences a bs ≡ 0) → pick u (Some bs) (consed b (without a bs)) ≡ None → once u + occurrences a bs ≡ 0
     go true f q = absurd (none-some bs (sym q))
     go false f q = back (without a bs) q f
       where
-        back : (o : Option (List Compared)) → consed b o ≡ none → (o ≡ none → occurrences a bs ≡ 0) → 0 + occurrences a bs ≡ 0
-        back none r g = let z = g refl in omega arith
-        back (some ds) r g = absurd (none-some (b ∷ ds) (sym r))
+        back : (o : Option (List Compared)) → consed b o ≡ None → (o ≡ None → occurrences a bs ≡ 0) → 0 + occurrences a bs ≡ 0
+        back None r g = let z = g refl in omega arith
+        back (Some ds) r g = absurd (none-some (b ∷ ds) (sym r))
 
 -- ---- the theorem: pairs match one to one exactly if one list is the other in some order, exactly if each pair stands in both as often
 pub match_permutes : (l bs : List Compared) → same_rdn l bs ≡ true → Permutation l bs
@@ -163,8 +163,8 @@ counts_match (a ∷ l) bs f = go (without a bs) refl (λ cs g. counts_match l cs
 
     go : (o : Option (List Compared)) → without a bs ≡ o → ((cs : List Compared) → ((p : Compared) → occurrences p l ≡ occurrences p cs) → same_rdn l cs ≡ true)
         → others (λ cs. same_rdn l cs) o ≡ true
-    go none e g = let z = without-none a bs e in let q : once (same_pair a a) + occurrences a l ≡ occurrences a bs = f a in absurd (let k = first in omega arith)
-    go (some cs) e g = g cs rest
+    go None e g = let z = without-none a bs e in let q : once (same_pair a a) + occurrences a l ≡ occurrences a bs = f a in absurd (let k = first in omega arith)
+    go (Some cs) e g = g cs rest
       where
         rest : (p : Compared) → occurrences p l ≡ occurrences p cs
         rest p =

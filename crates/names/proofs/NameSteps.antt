@@ -2,7 +2,7 @@
 -- them.
 use mathlib.Core.Path.{◌≡◌, refl, sym, ap, ◌∙◌}
 use mathlib.Core.Bool.{Bool, true, false}
-use mathlib.Core.Option.{Option, none, some}
+use Rattle.std.specs.Prelude.{Option, None, Some}
 use mathlib.Core.List.{List, [], ◌∷◌}
 use Prim.Native.Nat.{ℕ, suc, ◌≤◌, ◌<◌, ◌+◌, ◌-◌}
 use native.Mathlib.Omega.{arith}
@@ -43,26 +43,26 @@ module _ (p : List ℕ) (at b : ℕ) (some-sign : 0 < b) (bare-sign : b ≡ 92 �
 -- ---- RDNs
 -- the letters after an RDN, from those after its first attribute
 abbrev after_first : ℕ → List rfc.Letter → Option (List rfc.Letter)
-after_first most ls = pick (is_before 43 ls) (rest_of (rdn_from most (behind ls))) (some ls)
+after_first most ls = pick (is_before 43 ls) (rest_of (rdn_from most (behind ls))) (Some ls)
 
 rest-first : (a : rfc.Attribute) (o : Option (Read (List rfc.Attribute))) → rest_of (with_first a o) ≡ rest_of o
-rest-first a none = refl
-rest-first a (some r) = refl
+rest-first a None = refl
+rest-first a (Some r) = refl
 
 rdn-step : (most : ℕ) (ls : List rfc.Letter) → rest_of (rdn_from (suc most) ls) ≡ bind (rest_of (attribute_from ls)) (after_first most)
 unfolding rdn_from
 rdn-step most ls = go (attribute_from ls)
   where
     choose : (a : Read rfc.Attribute) (t : Bool)
-        → rest_of (pick t (with_first a.got (rdn_from most (behind a.rest))) (some (record { got = a.got ∷ []; rest = a.rest })))
-        ≡ pick t (rest_of (rdn_from most (behind a.rest))) (some a.rest)
+        → rest_of (pick t (with_first a.got (rdn_from most (behind a.rest))) (Some (record { got = a.got ∷ []; rest = a.rest })))
+        ≡ pick t (rest_of (rdn_from most (behind a.rest))) (Some a.rest)
     choose a true = rest-first a.got (rdn_from most (behind a.rest))
     choose a false = refl
 
     go : (o : Option (Read rfc.Attribute)) → rest_of (bind o (λ a. pick (is_before 43 a.rest) (with_first a.got (rdn_from most (behind a.rest)))
-        (some (record { got = a.got ∷ []; rest = a.rest })))) ≡ bind (rest_of o) (after_first most)
-    go none = refl
-    go (some a) = choose a (is_before 43 a.rest)
+        (Some (record { got = a.got ∷ []; rest = a.rest })))) ≡ bind (rest_of o) (after_first most)
+    go None = refl
+    go (Some a) = choose a (is_before 43 a.rest)
 
 -- the loop: it is at place i, and so many attributes may come
 module _ (p : List ℕ) (at i left : ℕ) (inv : rest_of (rdn_from left (letters_at p i)) ≡ rest_of (rdn_from most_pairs (letters_at p at))) where
@@ -81,7 +81,7 @@ module _ (p : List ℕ) (at i left : ℕ) (inv : rest_of (rdn_from left (letters
     rdn-none e = rw e at next
 
     module _ (a : Attribute) (b : ℕ) (e : r ≡ AttributeAt.Of a) (sign : b ≡ octet p a.end) where
-      after : pick (eqb b 43) (rest_of (rdn_from (left - 1) (behind (letters_at p a.end)))) (some (letters_at p a.end))
+      after : pick (eqb b 43) (rest_of (rdn_from (left - 1) (behind (letters_at p a.end)))) (Some (letters_at p a.end))
           ≡ rest_of (rdn_from most_pairs (letters_at p at))
       after =
           rw (sign, sym (before-is p a.end 43 (omega arith) (λ q. omega arith)))
@@ -114,8 +114,8 @@ module _ (p : List ℕ) (r : RdnEnd) (told : report_rest p r ≡ rest_of (rdn_fr
       ended l (x ∷ ls) = refl
 
       go : (o : Option (Read (List rfc.Attribute))) → is_some (alone o) ≡ is_some (bind (rest_of o) (if_ended []))
-      go none = refl
-      go (some x) = ended x.got x.rest
+      go None = refl
+      go (Some x) = ended x.got x.rest
 
   by_end : is_some (bind (report_rest p r) (if_ended [])) ≡ is_some (relative_distinguished_name (undoubled p))
   by_end = ap (λ (o : Option (List rfc.Letter)). is_some (bind o (if_ended []))) told ∙ sym alone_law
@@ -137,27 +137,27 @@ module _ (p : List ℕ) (r : RdnEnd) (told : report_rest p r ≡ rest_of (rdn_fr
 -- ---- names
 -- whether a name conforms, from the letters after its first RDN
 abbrev conforms : ℕ → Option (List rfc.Letter) → Bool
-conforms most none = false
-conforms most (some ls) = pick (is_before 44 ls) (is_some (rdns_from most (behind ls))) true
+conforms most None = false
+conforms most (Some ls) = pick (is_before 44 ls) (is_some (rdns_from most (behind ls))) true
 
 rdns-step : (most : ℕ) (ls : List rfc.Letter) → is_some (rdns_from (suc most) ls) ≡ conforms most (rest_of (rdn_from most_pairs ls))
 unfolding rdns_from
 rdns-step most ls = go (rdn_from most_pairs ls)
   where
     some_consed : (a : List rfc.Attribute) (o : Option (List (List rfc.Attribute))) → is_some (consed a o) ≡ is_some o
-    some_consed a none = refl
-    some_consed a (some l) = refl
+    some_consed a None = refl
+    some_consed a (Some l) = refl
 
-    choose : (r : Read (List rfc.Attribute)) (t : Bool) → is_some (pick t (consed r.got (rdns_from most (behind r.rest))) (some (r.got ∷ [])))
+    choose : (r : Read (List rfc.Attribute)) (t : Bool) → is_some (pick t (consed r.got (rdns_from most (behind r.rest))) (Some (r.got ∷ [])))
         ≡ pick t (is_some (rdns_from most (behind r.rest))) true
     choose r true = some_consed r.got (rdns_from most (behind r.rest))
     choose r false = refl
 
     go : (o : Option (Read (List rfc.Attribute)))
-        → is_some (bind o (λ r. pick (is_before 44 r.rest) (consed r.got (rdns_from most (behind r.rest))) (some (r.got ∷ []))))
+        → is_some (bind o (λ r. pick (is_before 44 r.rest) (consed r.got (rdns_from most (behind r.rest))) (Some (r.got ∷ []))))
         ≡ conforms most (rest_of o)
-    go none = refl
-    go (some r) = choose r (is_before 44 r.rest)
+    go None = refl
+    go (Some r) = choose r (is_before 44 r.rest)
 
 pub name-empty : (p : List ℕ) → length p ≡ 0 → true ≡ is_some (distinguished_name (undoubled p))
 name-empty [] e = rw undoubled-nil

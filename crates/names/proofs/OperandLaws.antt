@@ -1,7 +1,7 @@
 -- What is written of an asserted name is read back, from its end: the RDNs turned, and the attributes of each.
 use mathlib.Core.Path.{◌≡◌, refl, sym, ap, ap₂, ◌∙◌}
 use mathlib.Core.Bool.{Bool, true, false}
-use mathlib.Core.Option.{Option, none, some}
+use Rattle.std.specs.Prelude.{Option, None, Some}
 use mathlib.Core.List.{List, [], ◌∷◌, ◌++◌, map, map-map, map-append, append_assoc, append-nil}
 use Prim.Native.Nat.{ℕ, zero, suc, ◌≤◌, ◌+◌, ◌-◌, ◌*◌, ◌/◌, ◌%◌}
 use native.Mathlib.Omega.{arith}
@@ -263,11 +263,11 @@ name_by_operand c rs h =
 
 -- ---- a text that conforms: at most 16 RDNs, so that its operand is compared as the text is
 few-read : (m : ℕ) (got : List Attribute) (rest : List Letter) (rs : List (List Attribute))
-    → ((l : List Letter) (qs : List (List Attribute)) → rdns_from m l ≡ some qs → length qs ≤ m)
-    → pick (is_before 44 rest) (consed got (rdns_from m (behind rest))) (some (got ∷ [])) ≡ some rs → length rs ≤ suc m
+    → ((l : List Letter) (qs : List (List Attribute)) → rdns_from m l ≡ Some qs → length qs ≤ m)
+    → pick (is_before 44 rest) (consed got (rdns_from m (behind rest))) (Some (got ∷ [])) ≡ Some rs → length rs ≤ suc m
 few-read m got rest rs f e = go (is_before 44 rest) e
   where
-    go : (u : Bool) → pick u (consed got (rdns_from m (behind rest))) (some (got ∷ [])) ≡ some rs → length rs ≤ suc m
+    go : (u : Bool) → pick u (consed got (rdns_from m (behind rest))) (Some (got ∷ [])) ≡ Some rs → length rs ≤ suc m
     go true q =
         let w = consed_view got (rdns_from m (behind rest)) rs q in
         let l = f (behind rest) w.0 w.1 in
@@ -275,16 +275,16 @@ few-read m got rest rs f e = go (is_before 44 rest) e
         omega arith
     go false q = let k : 1 ≡ length rs = ap length (some_same (got ∷ []) rs q) in omega arith
 
-few-rdns : (m : ℕ) (ls : List Letter) (rs : List (List Attribute)) → rdns_from m ls ≡ some rs → length rs ≤ m
+few-rdns : (m : ℕ) (ls : List Letter) (rs : List (List Attribute)) → rdns_from m ls ≡ Some rs → length rs ≤ m
 unfolding rdns_from
 few-rdns zero ls rs e = absurd (none-some rs e)
 few-rdns (suc m) ls rs e = go (rdn_from most_pairs ls) (λ l qs q. few-rdns m l qs q) e
   where
-    go : (o : Option (Read (List Attribute))) → ((l : List Letter) (qs : List (List Attribute)) → rdns_from m l ≡ some qs → length qs ≤ m)
-        → bind o (λ r. pick (is_before 44 r.rest) (consed r.got (rdns_from m (behind r.rest))) (some (r.got ∷ []))) ≡ some rs → length rs ≤ suc m
-    go none f q = absurd (none-some rs q)
-    go (some r) f q = few-read m r.got r.rest rs f q
+    go : (o : Option (Read (List Attribute))) → ((l : List Letter) (qs : List (List Attribute)) → rdns_from m l ≡ Some qs → length qs ≤ m)
+        → bind o (λ r. pick (is_before 44 r.rest) (consed r.got (rdns_from m (behind r.rest))) (Some (r.got ∷ []))) ≡ Some rs → length rs ≤ suc m
+    go None f q = absurd (none-some rs q)
+    go (Some r) f q = few-read m r.got r.rest rs f q
 
-pub few-asserted : (s : List ℕ) (rs : List (List Attribute)) → distinguished_name s ≡ some rs → length rs ≤ 16
+pub few-asserted : (s : List ℕ) (rs : List (List Attribute)) → distinguished_name s ≡ Some rs → length rs ≤ 16
 few-asserted [] rs e = let k : 0 ≡ length rs = ap length (some_same [] rs e) in omega arith
 few-asserted (b ∷ s) rs e = few-rdns 16 (letters (b ∷ s)) rs e

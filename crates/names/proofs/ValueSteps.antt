@@ -1,7 +1,7 @@
 -- Values: laws of the letters up to a value's end, then one lemma for each return and each turn; its premises are the facts as the code has them.
 use mathlib.Core.Path.{◌≡◌, refl, sym, ap, ap₂, ◌∙◌}
 use mathlib.Core.Bool.{Bool, true, false, not}
-use mathlib.Core.Option.{none}
+use Rattle.std.specs.Prelude.{None}
 use mathlib.Core.List.{List, [], ◌∷◌, map}
 use Prim.Native.Nat.{ℕ, ◌≤◌, ◌<◌, ◌-◌}
 use native.Mathlib.Omega.{arith}
@@ -116,7 +116,7 @@ module _ (p : List ℕ) (at i : ℕ) (trailing : Bool) (a : Awaiting) (inv : Val
     closed r e = rw (e, sym inv.test ∙ s.test (eqb i at) trailing a) (go (both trailing (may_end a)))
       where
         go : (t : Bool) → report_value p at (pick t (ValueEnd.Of i) ValueEnd.No)
-            ≡ pick t (read (value_octets (letters_at p at)) (from_end (letters_at p at))) none
+            ≡ pick t (read (value_octets (letters_at p at)) (from_end (letters_at p at))) None
         go true = ap₂ read stopped_octets (sym s.rest ∙ inv.rest)
         go false = refl
 

@@ -1,7 +1,7 @@
 -- How names are compared (document 02, Q-3): "compared as caseIgnoreMatch"; "Pairs in an RDN match one to one, in any order." Source document 004
 -- section 4.2.10: the same number of RDNs, and each is the same as the one at its place.
 use Rattle.std.specs.Prelude.{ℕ, Bool, true, false, List, [], ◌∷◌, ◌++◌, map}
-use Rattle.std.proofs.Math.Option.{Option, none, some}
+use Rattle.std.specs.Prelude.{Option, None, Some}
 use Rattle.octets.specs.Pick.{pick, both, consed}
 use Rattle.octets.specs.Octets.{same}
 use Rattle.der.specs.Meaning.{arcs_of}
@@ -27,12 +27,12 @@ same_pair a b = both (same a.arcs b.arcs) (same a.text b.text)
 -- ---- one to one, in any order
 -- pairs without the first that is the same as a; none where none is
 unfoldable pub without : Compared → List Compared → Option (List Compared)
-without a [] = none
-without a (b ∷ bs) = let r = without a bs in pick (same_pair a b) (some bs) (consed b r)
+without a [] = None
+without a (b ∷ bs) = let r = without a bs in pick (same_pair a b) (Some bs) (consed b r)
 
 abbrev pub others : (List Compared → Bool) → Option (List Compared) → Bool
-others f none = false
-others f (some bs) = f bs
+others f None = false
+others f (Some bs) = f bs
 
 unfoldable pub same_rdn : List Compared → List Compared → Bool
 same_rdn [] [] = true
@@ -58,8 +58,8 @@ turned [] = []
 turned (a ∷ l) = turned l ++ (a ∷ [])
 
 abbrev pub mapped : {A B : Type 0} → (A → B) → Option A → Option B
-mapped f none = none
-mapped f (some a) = some (f a)
+mapped f None = None
+mapped f (Some a) = Some (f a)
 
 unfoldable pub asserted_name : List ℕ → Option (List (List Compared))
 asserted_name s = mapped (λ rs. turned (map (map asserted) rs)) (distinguished_name s)

@@ -6,7 +6,7 @@
 --   string                    = [ ( leadchar / pair ) [ *( stringchar / pair ) ( trailchar / pair ) ] ]
 --   pair                      = ESC ( ESC / special / hexpair )
 use Rattle.std.specs.Prelude.{ℕ, zero, suc, ◌+◌, ◌*◌, Bool, true, false, List, [], ◌∷◌, map, eqb}
-use Rattle.std.proofs.Math.Option.{Option, none, some}
+use Rattle.std.specs.Prelude.{Option, None, Some}
 use Rattle.octets.specs.Pick.{pick, both, either, no, bind, consed}
 use Rattle.octets.specs.Text.{is_hex, hex_value}
 use Rattle.octets.specs.Utf8.{utf8}
@@ -115,21 +115,21 @@ pub record Read (A : Type 0) : Type 0 where
   pub rest : List Letter
 
 abbrev pub with_first : {A : Type 0} → A → Option (Read (List A)) → Option (Read (List A))
-with_first a none = none
-with_first a (some r) = some (record { got = a ∷ r.got; rest = r.rest })
+with_first a None = None
+with_first a (Some r) = Some (record { got = a ∷ r.got; rest = r.rest })
 
 -- attributeType and EQUALS: octets that stand for themselves up to the first `=`
 unfoldable pub type_from : List Letter → Option (Read (List ℕ))
-type_from [] = none
-type_from (bare b ∷ ls) = let r = type_from ls in pick (eqb b 61) (some (record { got = []; rest = ls })) (with_first b r)
-type_from (escaped b ∷ ls) = none
-type_from (wrong ∷ ls) = none
+type_from [] = None
+type_from (bare b ∷ ls) = let r = type_from ls in pick (eqb b 61) (Some (record { got = []; rest = ls })) (with_first b r)
+type_from (escaped b ∷ ls) = None
+type_from (wrong ∷ ls) = None
 
 abbrev pub with_value : Read (List ℕ) → Option (Read Attribute)
 with_value t =
     pick (both (is_dotted t.got) (is_string (up_to_end t.rest)))
-    (some (record { got = record { type = t.got; value = map octet_of (up_to_end t.rest) }; rest = from_end t.rest }))
-    none
+    (Some (record { got = record { type = t.got; value = map octet_of (up_to_end t.rest) }; rest = from_end t.rest }))
+    None
 
 unfoldable pub attribute_from : List Letter → Option (Read Attribute)
 attribute_from ls = bind (type_from ls) with_value
@@ -146,33 +146,33 @@ behind [] = []
 behind (l ∷ ls) = ls
 
 unfoldable pub rdn_from : ℕ → List Letter → Option (Read (List Attribute))
-rdn_from zero ls = none
+rdn_from zero ls = None
 rdn_from (suc most) ls =
     bind (attribute_from ls) (λ a.
     pick (is_before 43 a.rest) (with_first a.got (rdn_from most (behind a.rest)))
-    (some (record { got = a.got ∷ []; rest = a.rest })))
+    (Some (record { got = a.got ∷ []; rest = a.rest })))
 
 -- ---- distinguishedName: RDNs, at most so many, each but the last before a comma
 unfoldable pub rdns_from : ℕ → List Letter → Option (List (List Attribute))
-rdns_from zero ls = none
+rdns_from zero ls = None
 rdns_from (suc most) ls =
     bind (rdn_from most_pairs ls) (λ r.
     pick (is_before 44 r.rest) (consed r.got (rdns_from most (behind r.rest)))
-    (some (r.got ∷ [])))
+    (Some (r.got ∷ [])))
 
 -- the RDNs of a text in its order, the last RDN of the name first; none where it doesn't conform
 abbrev pub distinguished_name : List ℕ → Option (List (List Attribute))
-distinguished_name [] = some []
+distinguished_name [] = Some []
 distinguished_name (b ∷ s) = rdns_from most_rdns (letters (b ∷ s))
 
 -- one RDN
 abbrev pub if_ended : List Attribute → List Letter → Option (List Attribute)
-if_ended attributes [] = some attributes
-if_ended attributes (l ∷ ls) = none
+if_ended attributes [] = Some attributes
+if_ended attributes (l ∷ ls) = None
 
 abbrev pub alone : Option (Read (List Attribute)) → Option (List Attribute)
-alone none = none
-alone (some r) = if_ended r.got r.rest
+alone None = None
+alone (Some r) = if_ended r.got r.rest
 
 unfoldable pub relative_distinguished_name : List ℕ → Option (List Attribute)
 relative_distinguished_name s = alone (rdn_from most_pairs (letters s))

@@ -1,7 +1,7 @@
 -- Quoted strings: the definitions by their cases, and texts without a quote, as laws for the layers above.
 use mathlib.Core.Path.{◌≡◌, refl, sym, ap, ◌∙◌}
 use mathlib.Core.Bool.{Bool, true, false, false≢true}
-use mathlib.Core.Option.{none, some}
+use Rattle.std.specs.Prelude.{None, Some}
 use mathlib.Core.List.{List, [], ◌∷◌}
 use Prim.Native.Nat.{ℕ, suc, ◌+◌, ◌-◌}
 use native.Mathlib.Omega.{arith}
@@ -73,15 +73,15 @@ undoubled-quoted (b ∷ c ∷ s) e = go (eqb b 34) (eqb c 34) refl (undoubled-qu
 
 -- ---- a text that is one quoted string
 module _ (s : List ℕ) where
-  pub unquoted-none : closing_at s 0 ≡ none → unquoted s ≡ none
+  pub unquoted-none : closing_at s 0 ≡ None → unquoted s ≡ None
   unfolding unquoted
   unquoted-none e = rw e
 
-  module _ (close : ℕ) (e : closing_at s 0 ≡ some close) where
-    pub unquoted_longer : (close + 1 ≡ length s → ⊥) → unquoted s ≡ none
+  module _ (close : ℕ) (e : closing_at s 0 ≡ Some close) where
+    pub unquoted_longer : (close + 1 ≡ length s → ⊥) → unquoted s ≡ None
     unfolding unquoted
     unquoted_longer n = rw (e, ne_eqb (close + 1) (length s) n)
 
-    pub unquoted-whole : close + 1 ≡ length s → unquoted s ≡ some (undoubled (part s 1 (close - 1)))
+    pub unquoted-whole : close + 1 ≡ length s → unquoted s ≡ Some (undoubled (part s 1 (close - 1)))
     unfolding unquoted characters
     unquoted-whole q = rw (e, eq-eqb (close + 1) (length s) q)

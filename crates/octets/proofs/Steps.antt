@@ -1,7 +1,7 @@
 -- One lemma for each return and each turn of a loop; its premises are the facts as the code has them.
 use mathlib.Core.Path.{◌≡◌, refl, sym, ap, ap₂, ◌∙◌}
 use mathlib.Core.Bool.{Bool, true, false, not}
-use mathlib.Core.Option.{Option, none, some}
+use Rattle.std.specs.Prelude.{Option, None, Some}
 use mathlib.Core.List.{List, [], ◌∷◌}
 use Prim.Native.Nat.{ℕ, suc, ◌≤◌, ◌<◌, ◌+◌, ◌-◌, ◌*◌}
 use native.Mathlib.Omega.{arith}
@@ -212,7 +212,7 @@ utf8_ascii s most e h = let g : highest s < 128 = omega arith in sym (ascii_from
 
 -- ---- quoted strings
 module _ (s : List ℕ) (at i : ℕ) (inv : closing (drop i s) i ≡ closing (drop at s) at) where
-  pub closing-none : length s ≤ i → none ≡ closing (drop at s) at
+  pub closing-none : length s ≤ i → None ≡ closing (drop at s) at
   unfolding closing
   closing-none h = rw (rest-none s i h) at inv
 
@@ -229,7 +229,7 @@ module _ (s : List ℕ) (at i : ℕ) (inv : closing (drop i s) i ≡ closing (dr
         go (c ∷ l) = rw (ne_eqb _ _ e)
 
     module _ (quote : octet s i ≡ 34) where
-      pub closing-last : length s - i < 2 → some i ≡ closing (drop at s) at
+      pub closing-last : length s - i < 2 → Some i ≡ closing (drop at s) at
       unfolding closing
       closing-last e =
           let g : length s ≤ i + 1 = omega arith in
@@ -242,7 +242,7 @@ module _ (s : List ℕ) (at i : ℕ) (inv : closing (drop i s) i ≡ closing (dr
             let next : i + 1 + 1 ≡ i + 2 = omega arith in
             ap (λ (l : List ℕ). closing (octet s i ∷ l) i) (rest-cons s (i + 1) z ∙ ap (λ (n : ℕ). octet s (i + 1) ∷ drop n s) next)
 
-        pub closing-found : (octet s (i + 1) ≡ 34 → ⊥) → some i ≡ closing (drop at s) at
+        pub closing-found : (octet s (i + 1) ≡ 34 → ⊥) → Some i ≡ closing (drop at s) at
         unfolding closing
         closing-found e = here _ (two ∙ rw (eq-eqb _ _ quote, ne_eqb _ _ e))
 
@@ -250,11 +250,11 @@ module _ (s : List ℕ) (at i : ℕ) (inv : closing (drop i s) i ≡ closing (dr
         unfolding closing
         closing-double e = here _ (two ∙ rw (eq-eqb _ _ quote, eq-eqb _ _ e))
 
-pub opening_past : (s : List ℕ) (at : ℕ) → length s ≤ at → none ≡ closing_at s at
+pub opening_past : (s : List ℕ) (at : ℕ) → length s ≤ at → None ≡ closing_at s at
 unfolding closing_at
 opening_past s at h = rw (← octet-past s at h)
 
-pub opening_other : (s : List ℕ) (at : ℕ) → (octet s at ≡ 34 → ⊥) → none ≡ closing_at s at
+pub opening_other : (s : List ℕ) (at : ℕ) → (octet s at ≡ 34 → ⊥) → None ≡ closing_at s at
 unfolding closing_at
 opening_other s at e = rw (ne_eqb _ _ e)
 

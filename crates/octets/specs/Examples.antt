@@ -1,6 +1,6 @@
 -- Computed examples.
 use Rattle.std.specs.Prelude.{◌≡◌, refl, true, false, [], ◌∷◌, map}
-use Rattle.std.proofs.Math.Option.{none, some}
+use Rattle.std.specs.Prelude.{None, Some}
 use Rattle.octets.specs.Octets.{bytes, hex, below}
 use Rattle.octets.specs.Text.{is_name, is_number, trimmed, decimal, skip, pieces, lower, starts}
 use Rattle.octets.specs.Utf8.{utf8}
@@ -50,7 +50,7 @@ dots = refl
 
 -- the texts "a", "", "a""b", """", "a, a"b", "a"x
 quoted : map unquoted (bytes "\"a\"" ∷ bytes "\"\"" ∷ bytes "\"a\"\"b\"" ∷ bytes "\"\"\"\"" ∷ bytes "\"a" ∷ bytes "a\"b\"" ∷ bytes "\"a\"x" ∷ [])
-    ≡ some (bytes "a") ∷ some [] ∷ some (bytes "a\"b") ∷ some (bytes "\"") ∷ none ∷ none ∷ none ∷ []
+    ≡ Some (bytes "a") ∷ Some [] ∷ Some (bytes "a\"b") ∷ Some (bytes "\"") ∷ None ∷ None ∷ None ∷ []
 unfolding octets_compute
 quoted = refl
 

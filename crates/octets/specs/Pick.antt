@@ -1,6 +1,6 @@
 -- Choices by a test, and tests of all numbers below a given one.
 use Rattle.std.specs.Prelude.{ℕ, zero, suc, Bool, true, false, List, ◌∷◌}
-use Rattle.std.proofs.Math.Option.{Option, none, some}
+use Rattle.std.specs.Prelude.{Option, None, Some}
 
 abbrev pub pick : {A : Type 0} → Bool → A → A → A
 pick true a b = a
@@ -22,8 +22,8 @@ all f (suc n) = let r = all f n in both (f n) r
 
 -- what f makes of a thing, where there is one
 abbrev pub bind : {A B : Type 0} → Option A → (A → Option B) → Option B
-bind none f = none
-bind (some a) f = f a
+bind None f = None
+bind (Some a) f = f a
 
 -- the same for `do`
 abbrev pub ◌>>=◌ : {A B : Type 0} → Option A → (A → Option B) → Option B
@@ -31,9 +31,9 @@ abbrev pub ◌>>=◌ : {A B : Type 0} → Option A → (A → Option B) → Opti
 
 -- a thing before a list, where there are both
 abbrev pub consed : {A : Type 0} → A → Option (List A) → Option (List A)
-consed a none = none
-consed a (some l) = some (a ∷ l)
+consed a None = None
+consed a (Some l) = Some (a ∷ l)
 
 abbrev pub is_some : {A : Type 0} → Option A → Bool
-is_some none = false
-is_some (some a) = true
+is_some None = false
+is_some (Some a) = true

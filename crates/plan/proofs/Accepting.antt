@@ -2,7 +2,7 @@
 -- rule is for, and counts.
 use mathlib.Core.Path.{◌≡◌, refl, sym, ap, ◌∙◌, subst}
 use mathlib.Core.Bool.{Bool, true, false, false≢true}
-use mathlib.Core.Option.{Option, none, some}
+use Rattle.std.specs.Prelude.{Option, None, Some}
 use mathlib.Core.List.{List, map}
 use Prim.Native.Nat.{ℕ, ◌≤◌, ◌<◌}
 use native.Mathlib.Omega.{arith}
@@ -65,8 +65,8 @@ operand_folds fold s = go (is_plain true s) refl
 
 -- ---- the operand
 is_mapped : {A B : Type 0} (f : A → B) (o : Option A) → is_some (mapped f o) ≡ is_some o
-is_mapped f none = refl
-is_mapped f (some a) = refl
+is_mapped f None = refl
+is_mapped f (Some a) = refl
 
 abbrev is_name : Form → Bool
 is_name Form.Whole = false
@@ -133,13 +133,13 @@ module _ (t p : List ℕ) where
   -- a conforming text of a rule of names is one that is read
   name-read : (o : Option (List ℕ)) → is_some (bind o asserted_name) ≡ true → undoubled p ≡ text_or o → is_some (distinguished_name (undoubled p)) ≡ true
   unfolding asserted_name
-  name-read none h w = absurd (false≢true h)
-  name-read (some s) h w = ap (λ (y : List ℕ). is_some (distinguished_name y)) w ∙ sym (is_mapped (λ rs. turned (map (map asserted) rs)) (distinguished_name s)) ∙ h
+  name-read None h w = absurd (false≢true h)
+  name-read (Some s) h w = ap (λ (y : List ℕ). is_some (distinguished_name y)) w ∙ sym (is_mapped (λ rs. turned (map (map asserted) rs)) (distinguished_name s)) ∙ h
 
   rdn-read : (o : Option (List ℕ)) → is_some (bind o asserted_rdn) ≡ true → undoubled p ≡ text_or o → is_some (relative_distinguished_name (undoubled p)) ≡ true
   unfolding asserted_rdn
-  rdn-read none h w = absurd (false≢true h)
-  rdn-read (some s) h w = ap (λ (y : List ℕ). is_some (relative_distinguished_name y)) w ∙ sym (is_mapped (map asserted) (relative_distinguished_name s)) ∙ h
+  rdn-read None h w = absurd (false≢true h)
+  rdn-read (Some s) h w = ap (λ (y : List ℕ). is_some (relative_distinguished_name y)) w ∙ sym (is_mapped (map asserted) (relative_distinguished_name s)) ∙ h
 
   read_in : (s : Syntax) → is_name (syntax_form s) ≡ true → conforms_to s t ≡ true → undoubled p ≡ asserted_text t → is_some (distinguished_name (undoubled p)) ≡ true
   unfolding conforms_to asserted_text
@@ -257,16 +257,16 @@ module _ (t c : List ℕ) where
   unfolding accepted equal_test is_equal said_in asserted_text asserted_name
   name-same = quoted (unquoted t)
     where
-      read : (o : Option (List (List Attribute))) → ((rs : List (List Attribute)) → o ≡ some rs → length rs ≤ 16)
+      read : (o : Option (List (List Attribute))) → ((rs : List (List Attribute)) → o ≡ Some rs → length rs ≤ 16)
           → is_some (mapped (λ rs. turned (map (map asserted) rs)) o) ≡ true
           → same_name (stored_name c) (operand_name (name_octets (or_none o))) ≡ is_equal (name_or (mapped (λ rs. turned (map (map asserted) rs)) o)) c
-      read none few h = absurd (false≢true h)
-      read (some rs) few h = name_by_operand (stored_name c) rs (omega (arith, few rs refl))
+      read None few h = absurd (false≢true h)
+      read (Some rs) few h = name_by_operand (stored_name c) rs (omega (arith, few rs refl))
 
       quoted : (o : Option (List ℕ)) → is_some (bind o asserted_name) ≡ true
           → same_name (stored_name c) (operand_name (name_octets (or_none (distinguished_name (text_or o))))) ≡ is_equal (name_or (bind o asserted_name)) c
-      quoted none h = absurd (false≢true h)
-      quoted (some s) h = read (distinguished_name s) (few-asserted s) h
+      quoted None h = absurd (false≢true h)
+      quoted (Some s) h = read (distinguished_name s) (few-asserted s) h
 
   rdn-same : is_some (bind (unquoted t) asserted_rdn) ≡ true → accepted (equal_test rdns (operand_in Form.Rdn t)) (operand_in Form.Rdn t) c ≡ is_equal (said_in rdns t) c
   unfolding accepted equal_test is_equal said_in asserted_text asserted_rdn
@@ -274,13 +274,13 @@ module _ (t c : List ℕ) where
     where
       read : (o : Option (List Attribute)) → is_some (mapped (map asserted) o) ≡ true
           → same_rdn (stored_rdn c) (operand_rdn (rdn_octets (or_none o))) ≡ is_equal (rdn_or (mapped (map asserted) o)) c
-      read none h = absurd (false≢true h)
-      read (some l) h = rdn_by_operand (stored_rdn c) l
+      read None h = absurd (false≢true h)
+      read (Some l) h = rdn_by_operand (stored_rdn c) l
 
       quoted : (o : Option (List ℕ)) → is_some (bind o asserted_rdn) ≡ true
           → same_rdn (stored_rdn c) (operand_rdn (rdn_octets (or_none (relative_distinguished_name (text_or o))))) ≡ is_equal (rdn_or (bind o asserted_rdn)) c
-      quoted none h = absurd (false≢true h)
-      quoted (some s) h = read (relative_distinguished_name s) h
+      quoted None h = absurd (false≢true h)
+      quoted (Some s) h = read (relative_distinguished_name s) h
 
   octets-same : accepted (equal_test octet_strings t) t c ≡ is_equal (said_in octet_strings t) c
   unfolding accepted equal_test is_equal said_in asserted_octets
@@ -316,13 +316,13 @@ module _ (t c : List ℕ) where
   basic_less names k h f l = go (bind (unquoted t) asserted_name)
     where
       go : (o : Option (List (List Compared))) → false ≡ is_less (name_or o) c
-      go none = refl
-      go (some n) = refl
+      go None = refl
+      go (Some n) = refl
   basic_less rdns k h f l = go (bind (unquoted t) asserted_rdn)
     where
       go : (o : Option (List Compared)) → false ≡ is_less (rdn_or o) c
-      go none = refl
-      go (some n) = refl
+      go None = refl
+      go (Some n) = refl
 
   -- of a basic type that the rule is for
   pub basic_passes : (r : Rule) (k : ℕ) (ns : List NamedBit) → suits r (of_type (basic k ns)) ≡ true → conforms r t ≡ true → legal k c ≡ true

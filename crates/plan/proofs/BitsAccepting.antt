@@ -1,7 +1,7 @@
 -- The test of a rule of bits accepts what the rule accepts, and there is none where the text asserts nothing.
 use mathlib.Core.Path.{◌≡◌, refl, ap, ◌∙◌}
 use mathlib.Core.Bool.{Bool, true, false, false≢true}
-use mathlib.Core.Option.{Option, none, some}
+use Rattle.std.specs.Prelude.{Option, None, Some}
 use mathlib.Core.List.{List}
 use Prim.Native.Nat.{ℕ, ◌≤◌}
 use native.Mathlib.Omega.{arith}
@@ -80,10 +80,10 @@ pub record Accepting (r : Rule) (x : List ℕ) (test : Test) (a : Asserted) : Ty
   pub contents : (c : List ℕ) → length c ≤ 65536 → accepted test x c ≡ accepts_contents r a c
 
 abbrev pub Agree : Rule → List ℕ → Option Test → Option Asserted → Type 0
-Agree r x none none = Unit {0}
-Agree r x none (some a) = ⊥
-Agree r x (some test) none = ⊥
-Agree r x (some test) (some a) = Accepting r x test a
+Agree r x None None = Unit {0}
+Agree r x None (Some a) = ⊥
+Agree r x (Some test) None = ⊥
+Agree r x (Some test) (Some a) = Accepting r x test a
 
 -- the bits of digits
 bits_in_lem : (x : List ℕ) → bits_in (no (is_bit_text x)) (digits x) ≡ asserted_bits x
@@ -125,40 +125,40 @@ module _ (x : List ℕ) where
   unfolding accepted accepts_contents is_less
   less-named l = record { contents = λ c n. refl }
 
-  plain-agree : (r : Rule) → read_by_target r ≡ true → Agree r x (bits_test_by r none x) (asserted_bits_by none x)
+  plain-agree : (r : Rule) → read_by_target r ≡ true → Agree r x (bits_test_by r None x) (asserted_bits_by None x)
   unfolding bits_test_by asserted_bits_by test_for
-  plain-agree = both_rules (λ (r : Rule). Agree r x (pick (is_bits x) (some (test_for r x)) none) (pick (is_bits x) (some (bits (asserted_bits x))) none))
+  plain-agree = both_rules (λ (r : Rule). Agree r x (pick (is_bits x) (Some (test_for r x)) None) (pick (is_bits x) (Some (bits (asserted_bits x))) None))
       (go (is_bits x)) (go_less (is_bits x))
     where
-      go : (u : Bool) → Agree (equal bit_strings) x (pick u (some (equal_test bit_strings x)) none) (pick u (some (bits (asserted_bits x))) none)
+      go : (u : Bool) → Agree (equal bit_strings) x (pick u (Some (equal_test bit_strings x)) None) (pick u (Some (bits (asserted_bits x))) None)
       go true = equal-plain
       go false = tt
 
-      go_less : (u : Bool) → Agree (less bit_strings) x (pick u (some (less_test bit_strings x)) none) (pick u (some (bits (asserted_bits x))) none)
+      go_less : (u : Bool) → Agree (less bit_strings) x (pick u (Some (less_test bit_strings x)) None) (pick u (Some (bits (asserted_bits x))) None)
       go_less true = less-plain
       go_less false = tt
 
-  named-agree : (ns : List NamedBit) (r : Rule) → read_by_target r ≡ true → Agree r x (bits_test_by r (some ns) x) (asserted_bits_by (some ns) x)
+  named-agree : (ns : List NamedBit) (r : Rule) → read_by_target r ≡ true → Agree r x (bits_test_by r (Some ns) x) (asserted_bits_by (Some ns) x)
   unfolding bits_test_by asserted_bits_by
   named-agree ns = both_rules
-      (λ (r : Rule). Agree r x (pick (is_bits x) (some (of_rule r (Test.named_bits (no (is_bit_text x)) count)))
-      (bind (bitnames.listed_bits ns x) (λ l. some (of_rule r (Test.listed l)))))
-      (pick (is_bits x) (some (named_bits (asserted_bits x))) (bind (bitnames.listed_bits ns x) (λ l. some (named_bits l)))))
+      (λ (r : Rule). Agree r x (pick (is_bits x) (Some (of_rule r (Test.named_bits (no (is_bit_text x)) count)))
+      (bind (bitnames.listed_bits ns x) (λ l. Some (of_rule r (Test.listed l)))))
+      (pick (is_bits x) (Some (named_bits (asserted_bits x))) (bind (bitnames.listed_bits ns x) (λ l. Some (named_bits l)))))
       (go (is_bits x) (bitnames.listed_bits ns x)) (go_less (is_bits x) (bitnames.listed_bits ns x))
     where
       go : (u : Bool) (o : Option (List ℕ))
-          → Agree (equal bit_strings) x (pick u (some (Test.named_bits (no (is_bit_text x)) count)) (bind o (λ l. some (Test.listed l))))
-          (pick u (some (named_bits (asserted_bits x))) (bind o (λ l. some (named_bits l))))
+          → Agree (equal bit_strings) x (pick u (Some (Test.named_bits (no (is_bit_text x)) count)) (bind o (λ l. Some (Test.listed l))))
+          (pick u (Some (named_bits (asserted_bits x))) (bind o (λ l. Some (named_bits l))))
       go true o = equal-named
-      go false none = tt
-      go false (some l) = equal-listed l
+      go false None = tt
+      go false (Some l) = equal-listed l
 
-      go_less : (u : Bool) (o : Option (List ℕ)) → Agree (less bit_strings) x (pick u (some Test.no_value) (bind o (λ l. some Test.no_value)))
-          (pick u (some (named_bits (asserted_bits x))) (bind o (λ l. some (named_bits l))))
+      go_less : (u : Bool) (o : Option (List ℕ)) → Agree (less bit_strings) x (pick u (Some Test.no_value) (bind o (λ l. Some Test.no_value)))
+          (pick u (Some (named_bits (asserted_bits x))) (bind o (λ l. Some (named_bits l))))
       go_less true o = less-named (asserted_bits x)
-      go_less false none = tt
-      go_less false (some l) = less-named l
+      go_less false None = tt
+      go_less false (Some l) = less-named l
 
   pub bits-agree : (r : Rule) → read_by_target r ≡ true → (ns : Option (List NamedBit)) → Agree r x (bits_test_by r ns x) (asserted_bits_by ns x)
-  bits-agree r h none = plain-agree r h
-  bits-agree r h (some ns) = named-agree ns r h
+  bits-agree r h None = plain-agree r h
+  bits-agree r h (Some ns) = named-agree ns r h

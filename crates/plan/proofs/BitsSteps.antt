@@ -1,7 +1,7 @@
 -- The test of a rule of bits on the type of a row: one lemma for each return, its premises as the code has them.
 use mathlib.Core.Path.{◌≡◌, refl, sym, ap, ◌∙◌}
 use mathlib.Core.Bool.{Bool, true, false, not}
-use mathlib.Core.Option.{Option, none, some}
+use Rattle.std.specs.Prelude.{Option, None, Some}
 use mathlib.Core.List.{List}
 use Prim.Native.Nat.{ℕ, ◌<◌}
 use native.Mathlib.Omega.{arith}
@@ -33,14 +33,14 @@ use Rattle.plan.specs.declared.TestNumbers.{TestNumbers}
 
 -- ---- with names
 module _ (rule : Rule) (k n : ℕ) where
-  pub named-present : rule ≡ Rule.Present → some (test_of 0 0) ≡ some (of_rule (meant rule) (test_of k n))
+  pub named-present : rule ≡ Rule.Present → Some (test_of 0 0) ≡ Some (of_rule (meant rule) (test_of k n))
   unfolding test_of
   named-present e = rw e
 
-  pub named-equal : (s : Syntax) → rule ≡ Rule.Equal s → some (test_of k n) ≡ some (of_rule (meant rule) (test_of k n))
+  pub named-equal : (s : Syntax) → rule ≡ Rule.Equal s → Some (test_of k n) ≡ Some (of_rule (meant rule) (test_of k n))
   named-equal s e = rw e
 
-  pub named-less : (s : Syntax) → rule ≡ Rule.Less s → some (test_of 1 0) ≡ some (of_rule (meant rule) (test_of k n))
+  pub named-less : (s : Syntax) → rule ≡ Rule.Less s → Some (test_of 1 0) ≡ Some (of_rule (meant rule) (test_of k n))
   unfolding test_of
   named-less s e = rw e
 
@@ -49,37 +49,37 @@ module _ (r : rules.Rule) (names : List NamedBit) (x : List ℕ) (u : Bool) (bin
   counted d n inside count = count ∙ ap (λ (y : List ℕ). significant (length y) y) inside
 
   pub names_binary : (b : BitsTest) (d : List ℕ) (n : ℕ) → u ≡ true → d ≡ digits x → n ≡ significant (length d) d
-      → report_bits b ≡ some (of_rule r (test_of 20 n)) → report_bits b ≡ bits_test_by r (some names) x
+      → report_bits b ≡ Some (of_rule r (test_of 20 n)) → report_bits b ≡ bits_test_by r (Some names) x
   unfolding bits_test_by is_bits test_of
   names_binary b d n h inside count e = rw (sym binary ∙ h, ← counted d n inside count) e
 
   module _ (h : u ≡ false) (v : Bool) (hexadecimal : v ≡ is_hex_string x) where
     pub names_hexadecimal : (b : BitsTest) (d : List ℕ) (n : ℕ) → v ≡ true → d ≡ digits x → n ≡ significant (length d) d
-        → report_bits b ≡ some (of_rule r (test_of 19 n)) → report_bits b ≡ bits_test_by r (some names) x
+        → report_bits b ≡ Some (of_rule r (test_of 19 n)) → report_bits b ≡ bits_test_by r (Some names) x
     unfolding bits_test_by is_bits test_of
     names_hexadecimal b d n g inside count e = rw (sym binary ∙ h, sym hexadecimal ∙ g, ← counted d n inside count) e
 
     module _ (g : v ≡ false) (s : BitSet) (told : report_set s ≡ listed_bits names x) where
-      by-list : bits_test_by r (some names) x ≡ bind (report_set s) (λ l. some (of_rule r (Test.listed l)))
+      by-list : bits_test_by r (Some names) x ≡ bind (report_set s) (λ l. Some (of_rule r (Test.listed l)))
       unfolding bits_test_by is_bits
       by-list = rw (sym binary ∙ h, sym hexadecimal ∙ g, ← told)
 
-      pub names-listed : (b : BitsTest) (m : ℕ) → s ≡ BitSet.Of m → report_bits b ≡ some (of_rule r (test_of 21 m)) → report_bits b ≡ bits_test_by r (some names) x
+      pub names-listed : (b : BitsTest) (m : ℕ) → s ≡ BitSet.Of m → report_bits b ≡ Some (of_rule r (test_of 21 m)) → report_bits b ≡ bits_test_by r (Some names) x
       unfolding test_of
-      names-listed b m q e = e ∙ sym (by-list ∙ ap (λ (y : BitSet). bind (report_set y) (λ l. some (of_rule r (Test.listed l)))) q)
+      names-listed b m q e = e ∙ sym (by-list ∙ ap (λ (y : BitSet). bind (report_set y) (λ l. Some (of_rule r (Test.listed l)))) q)
 
-      pub names-none : s ≡ BitSet.No → none ≡ bits_test_by r (some names) x
-      names-none q = sym (by-list ∙ ap (λ (y : BitSet). bind (report_set y) (λ l. some (of_rule r (Test.listed l)))) q)
+      pub names-none : s ≡ BitSet.No → None ≡ bits_test_by r (Some names) x
+      names-none q = sym (by-list ∙ ap (λ (y : BitSet). bind (report_set y) (λ l. Some (of_rule r (Test.listed l)))) q)
 
 -- ---- without names
 module _ (r : rules.Rule) (x : List ℕ) (u : Bool) (told : u ≡ is_bits x) where
-  pub digits-none : not u ≡ true → none ≡ bits_test_by r none x
+  pub digits-none : not u ≡ true → None ≡ bits_test_by r None x
   unfolding bits_test_by
   digits-none h = rw (sym told ∙ not-true u h)
 
-  pub digits_some : (test : TestNumbers) → not u ≡ false → report_test test ≡ test_for r x → some (test_of test.comparison test.number) ≡ bits_test_by r none x
+  pub digits_some : (test : TestNumbers) → not u ≡ false → report_test test ≡ test_for r x → Some (test_of test.comparison test.number) ≡ bits_test_by r None x
   unfolding bits_test_by
-  digits_some test h e = rw (sym told ∙ not-false u h) (ap some e)
+  digits_some test h e = rw (sym told ∙ not-false u h) (ap Some e)
 
 -- ---- by the row
 module _ (t w : List ℕ) (row : ℕ) (ok : Worded t w) (here : row < length (table_rows t)) where
@@ -87,31 +87,31 @@ module _ (t w : List ℕ) (row : ℕ) (ok : Worded t w) (here : row < length (ta
   element = type_at t (named_at t (place_at t row))
 
   -- the names at the type of a row
-  names-here : kind_at t (place_at t row) ≡ 17 → names_at (of_type (type_at t row)) ≡ some (names_after t row)
+  names-here : kind_at t (place_at t row) ≡ 17 → names_at (of_type (type_at t row)) ≡ Some (names_after t row)
   names-here k =
       ap (λ (y : Ty). names_at (of_type y)) (ok.ready.sound.step row here
       ∙ typed_basic t (table_rows t) row element (members_after t row) (λ z. omega (arith, sym k ∙ z)) (λ z. omega (arith, sym k ∙ z)) no-list)
-      ∙ ap (λ (y : ℕ). pick (eqb y 17) (some (names_after t row)) none) k
+      ∙ ap (λ (y : ℕ). pick (eqb y 17) (Some (names_after t row)) None) k
     where
       no-list : is_list (kind_at t (place_at t row)) ≡ false
       no-list = list_kinds (kind_at t (place_at t row)) ∙ rw k
 
-  names_elsewhere : (kind_at t (place_at t row) ≡ 17 → ⊥) → names_at (of_type (type_at t row)) ≡ none
+  names_elsewhere : (kind_at t (place_at t row) ≡ 17 → ⊥) → names_at (of_type (type_at t row)) ≡ None
   names_elsewhere n =
       ap (λ (y : Ty). names_at (of_type y)) (ok.ready.sound.step row here)
-      ∙ typed_cases t (table_rows t) row element (members_after t row) (λ (y : Ty). names_at (of_type y) ≡ none) (λ _. refl) (λ _. refl) (λ _. refl)
+      ∙ typed_cases t (table_rows t) row element (members_after t row) (λ (y : Ty). names_at (of_type y) ≡ None) (λ _. refl) (λ _. refl) (λ _. refl)
       (λ _ _ _. rw (ne_eqb (kind_at t (place_at t row)) 17 n))
 
   module _ (r : rules.Rule) (x : List ℕ) (u : Bool) (told : u ≡ suits r (of_type (type_at t row))) where
-    pub at_unsuited : not u ≡ true → none ≡ bits_test r (of_type (type_at t row)) x
+    pub at_unsuited : not u ≡ true → None ≡ bits_test r (of_type (type_at t row)) x
     unfolding bits_test
     at_unsuited h = rw (sym told ∙ not-true u h)
 
     module _ (h : not u ≡ false) (k : ℕ) (kind : k ≡ kind_at t (place_at t row)) (b : BitsTest) where
-      pub at_names : k ≡ 17 → report_bits b ≡ bits_test_by r (some (names_after t row)) x → report_bits b ≡ bits_test r (of_type (type_at t row)) x
+      pub at_names : k ≡ 17 → report_bits b ≡ bits_test_by r (Some (names_after t row)) x → report_bits b ≡ bits_test r (of_type (type_at t row)) x
       unfolding bits_test
       at_names e q = rw (sym told ∙ not-false u h) (q ∙ ap (λ (o : Option (List NamedBit)). bits_test_by r o x) (sym (names-here (sym kind ∙ e))))
 
-      pub at-digits : (k ≡ 17 → ⊥) → report_bits b ≡ bits_test_by r none x → report_bits b ≡ bits_test r (of_type (type_at t row)) x
+      pub at-digits : (k ≡ 17 → ⊥) → report_bits b ≡ bits_test_by r None x → report_bits b ≡ bits_test r (of_type (type_at t row)) x
       unfolding bits_test
       at-digits e q = rw (sym told ∙ not-false u h) (q ∙ ap (λ (o : Option (List NamedBit)). bits_test_by r o x) (sym (names_elsewhere (λ z. e (kind ∙ z)))))

@@ -1,7 +1,7 @@
 -- One identifier of a reference on the type of a row: the code's numbers are those of the identifier, and lead where it leads.
 use mathlib.Core.Path.{◌≡◌, refl, sym, ap, ◌∙◌, subst}
 use mathlib.Core.Bool.{Bool, true, false}
-use mathlib.Core.Option.{Option, none, some}
+use Rattle.std.specs.Prelude.{Option, None, Some}
 use mathlib.Core.List.{List, [], ◌∷◌}
 use Prim.Native.Nat.{ℕ, zero, suc, ◌≤◌, ◌<◌, ◌+◌, ◌-◌}
 use native.Mathlib.Omega.{arith}
@@ -80,27 +80,27 @@ first_true f (suc k) a h = go (f a) refl (λ g. first_true f k (a + 1) g)
     go false e rest = let q : first f (suc k) a ≡ first f k (a + 1) = first_step_lem f k a ∙ ap (λ (y : Bool). pick y a (first f k (a + 1))) e in ap f q ∙ rest (omega arith)
 
 -- ---- identifiers from a target on, one step further
-along-nothing : (o : Option (List Id)) → along o none ≡ none
-along-nothing none = refl
-along-nothing (some is) = refl
+along-nothing : (o : Option (List Id)) → along o None ≡ None
+along-nothing None = refl
+along-nothing (Some is) = refl
 
 -- behind a count nothing is allowed
-more-none : (i : Id) (js : List Id) → along (some (i ∷ js)) (some of_count) ≡ none
+more-none : (i : Id) (js : List Id) → along (Some (i ∷ js)) (Some of_count) ≡ None
 unfolding allowed_from under
 more-none i js = refl
 
-pub none_after : (g : Target) → along (some []) (some g) ≡ some g
+pub none_after : (g : Target) → along (Some []) (Some g) ≡ Some g
 unfolding allowed_from
 none_after g = refl
 
 module _ (r : List ℕ) (k : ℕ) (step : Step) (told : report_id_step r step ≡ head_capped (ids_at r k)) (g : Target) (i : Id) (next : ℕ) (e : report_id_step r step ≡ consed i (ids_at r next)) where
-  leads-on : along (ids_at r k) (some g) ≡ along (ids_at r next) (under i g)
-  leads-on = sym (along-capped (ids_at r k) (some g)) ∙ ap (λ (o : Option (List Id)). along o (some g)) (sym told ∙ e) ∙ along_next i (ids_at r next) (some g)
+  leads-on : along (ids_at r k) (Some g) ≡ along (ids_at r next) (under i g)
+  leads-on = sym (along-capped (ids_at r k) (Some g)) ∙ ap (λ (o : Option (List Id)). along o (Some g)) (sym told ∙ e) ∙ along_next i (ids_at r next) (Some g)
 
-  leads_some : (h : Target) → under i g ≡ some h → along (ids_at r k) (some g) ≡ along (ids_at r next) (some h)
+  leads_some : (h : Target) → under i g ≡ Some h → along (ids_at r k) (Some g) ≡ along (ids_at r next) (Some h)
   leads_some h f = leads-on ∙ ap (along (ids_at r next)) f
 
-  leads-none : under i g ≡ none → along (ids_at r k) (some g) ≡ none
+  leads-none : under i g ≡ None → along (ids_at r k) (Some g) ≡ None
   leads-none f = leads-on ∙ ap (along (ids_at r next)) f ∙ along-nothing (ids_at r next)
 
 -- ---- the identifiers from a place on, by those after the first
@@ -108,19 +108,19 @@ record Found (t r : List ℕ) (row s a b to next : ℕ) (is : List Id) : Type 0 
   pub i : Id
   pub js : List Id
   pub whole : is ≡ i ∷ js
-  pub rest : ids_at r next ≡ some js
+  pub rest : ids_at r next ≡ Some js
   pub fits : Fits t row s a b i to
 
 found-begins : (t r : List ℕ) (k row s a b to next : ℕ) (step : Step) → report_id_step r step ≡ head_capped (ids_at r k) → (i : Id) → report_id_step r step ≡ consed i (ids_at r next)
-    → ((is : List Id) → ids_at r k ≡ some is → Found t r row s a b to next is) → (js : List Id) → ids_at r next ≡ some js → Begins t r k row s a b to js
+    → ((is : List Id) → ids_at r k ≡ Some is → Found t r row s a b to next is) → (js : List Id) → ids_at r next ≡ Some js → Begins t r k row s a b to js
 found-begins t r k row s a b to next step told i read found js e = go (ids_at r k) refl (sym (sym told ∙ read ∙ ap (consed i) e))
   where
-    go : (o : Option (List Id)) → ids_at r k ≡ o → some (i ∷ js) ≡ head_capped (ids_at r k) → Begins t r k row s a b to js
-    go none q h = absurd (let z = h ∙ ap head_capped q in let y : ◌≡◌ {A = ℕ} 0 1 = cc in omega arith)
-    go (some is) q h =
+    go : (o : Option (List Id)) → ids_at r k ≡ o → Some (i ∷ js) ≡ head_capped (ids_at r k) → Begins t r k row s a b to js
+    go None q h = absurd (let z = h ∙ ap head_capped q in let y : ◌≡◌ {A = ℕ} 0 1 = cc in omega arith)
+    go (Some is) q h =
         let f = found is q in
         let z = some_same f.js js (sym f.rest ∙ e) in
-        record { i = f.i; whole = q ∙ ap some (f.whole ∙ ap (λ (l : List Id). f.i ∷ l) z); fits = f.fits }
+        record { i = f.i; whole = q ∙ ap Some (f.whole ∙ ap (λ (l : List Id). f.i ∷ l) z); fits = f.fits }
 
 module _ (t w : List ℕ) (ok : Worded t w) (ad : admitted table_limits t ≡ true) (row : ℕ) (at : row < length (table_rows t)) where
   -- the first member with a name is the only one
@@ -149,13 +149,13 @@ module _ (t w : List ℕ) (ok : Worded t w) (ad : admitted table_limits t ≡ tr
       read_name : report_id_step r step ≡ consed (name x) (ids_at r next)
       read_name = ap (report_id_step r) is_name
 
-      none-under : members_at t (place_at t row) ≤ i₀ → under_members (name x) (members_after t row) ≡ none
+      none-under : members_at t (place_at t row) ≤ i₀ → under_members (name x) (members_after t row) ≡ None
       none-under h = sym (under-steps.name-none table_limits.chain t (table_rows t) row r a b (place_at t row) (members_at t (place_at t row)) i₀ refl refl refl h)
 
-      some_under : i₀ < members_at t (place_at t row) → under_members (name x) (members_after t row) ≡ some (of_type (type_at t (named_at t (place_at t (row + 1 + i₀)))))
+      some_under : i₀ < members_at t (place_at t row) → under_members (name x) (members_after t row) ≡ Some (of_type (type_at t (named_at t (place_at t (row + 1 + i₀)))))
       some_under h = sym (under-steps.name-found table_limits.chain t (table_rows t) row r a b (place_at t row) (members_at t (place_at t row)) i₀ refl refl refl h (named_at t (place_at t (row + 1 + i₀))) refl)
 
-      begins-name : (s : ℕ) → Fits t row s row i₀ (name x) (named_at t (place_at t (row + 1 + i₀))) → (is : List Id) → ids_at r k ≡ some is → Found t r row s row i₀ (named_at t (place_at t (row + 1 + i₀))) next is
+      begins-name : (s : ℕ) → Fits t row s row i₀ (name x) (named_at t (place_at t (row + 1 + i₀))) → (is : List Id) → ids_at r k ≡ Some is → Found t r row s row i₀ (named_at t (place_at t (row + 1 + i₀))) next is
       begins-name s fits is e = let z = name-step r k step told is e a b next is_name in record { i = name x; js = z.0; whole = z.1; rest = z.2; fits = fits }
 
       onward-name : (s : ℕ) → i₀ < members_at t (place_at t row) → under (name x) (of_type (type_at t row)) ≡ under_members (name x) (members_after t row) → Fits t row s row i₀ (name x) (named_at t (place_at t (row + 1 + i₀)))
@@ -180,15 +180,15 @@ module _ (t w : List ℕ) (ok : Worded t w) (ad : admitted table_limits t ≡ tr
           to : ℕ
           to = named_at t (place_at t (row + 1 + i₀))
 
-          nothing : (u v : Bool) → eqb (kind_at t (place_at t row)) kind.sequence ≡ u → eqb (kind_at t (place_at t row)) kind.choice ≡ v → pick u (under_members (name x) (members_after t row)) (pick v (under_members (name x) (members_after t row)) none) ≡ none
-              → along (ids_at r k) (some (of_type (type_at t row))) ≡ none
+          nothing : (u v : Bool) → eqb (kind_at t (place_at t row)) kind.sequence ≡ u → eqb (kind_at t (place_at t row)) kind.choice ≡ v → pick u (under_members (name x) (members_after t row)) (pick v (under_members (name x) (members_after t row)) None) ≡ None
+              → along (ids_at r k) (Some (of_type (type_at t row))) ≡ None
           nothing u v p q f = leads-none r k step told (of_type (type_at t row)) (name x) next read_name (under-name t w row ok at x u v p q ∙ f)
 
           go : (m : Bool) → leb (members_at t (place_at t row)) i₀ ≡ m → (u : Bool) → eqb (kind_at t (place_at t row)) kind.sequence ≡ u → (v : Bool) → eqb (kind_at t (place_at t row)) kind.choice ≡ v
               → PlannedAs t r k row (pick m Planning.No (pick u (Planning.To sort.member row i₀ (named_at t (place_at t (row + 1 + i₀))) next) (pick v (Planning.To sort.alternative row i₀ (named_at t (place_at t (row + 1 + i₀))) next) Planning.No)))
           go true h u p v q = nothing u v p q (none_of_lem u v (none-under (leb-true _ _ h)))
             where
-              none_of_lem : (u v : Bool) → under_members (name x) (members_after t row) ≡ none → pick u (under_members (name x) (members_after t row)) (pick v (under_members (name x) (members_after t row)) none) ≡ none
+              none_of_lem : (u v : Bool) → under_members (name x) (members_after t row) ≡ None → pick u (under_members (name x) (members_after t row)) (pick v (under_members (name x) (members_after t row)) None) ≡ None
               none_of_lem true v z = z
               none_of_lem false true z = z
               none_of_lem false false z = refl
@@ -206,7 +206,7 @@ module _ (t w : List ℕ) (ok : Worded t w) (ad : admitted table_limits t ≡ tr
     element = named_at t (place_at t row)
 
     module _ (s n : ℕ) (i : Index) (next : ℕ) (read : report_id_step r step ≡ consed (index i) (ids_at r next)) (leads-to : indexed i (type_at t (named_at t (place_at t row))) ≡ of_type (type_at t (named_at t (place_at t row)))) (up : k < next) (ends : next ≤ length r + 1)
-        (begins : is_list (kind_at t (place_at t row)) ≡ true → (is : List Id) → ids_at r k ≡ some is → Found t r row s n 0 (named_at t (place_at t row)) next is) (other : s ≡ sort.member → ⊥) where
+        (begins : is_list (kind_at t (place_at t row)) ≡ true → (is : List Id) → ids_at r k ≡ Some is → Found t r row s n 0 (named_at t (place_at t row)) next is) (other : s ≡ sort.member → ⊥) where
       index-plans : (p : Planning) → p ≡ list_plan t row s n next → Plans t r k row p
       unfolding Plans list_plan NamesMember
       index-plans p e = subst (PlannedAs t r k row) (sym e) (go (is_list (kind_at t (place_at t row))) refl)
@@ -218,7 +218,7 @@ module _ (t w : List ℕ) (ok : Worded t w) (ad : admitted table_limits t ≡ tr
             rises = up;
             ends = ends;
             chain = λ c f. named-fits t (table_rows t) row c f (list-type (kind_at t (place_at t row)) q) (list-names t (place_at t row) q);
-            leads = leads_some r k step told (of_type (type_at t row)) (index i) next read (of_type (type_at t element)) (under-list t w row ok at i q ∙ ap some leads-to);
+            leads = leads_some r k step told (of_type (type_at t row)) (index i) next read (of_type (type_at t element)) (under-list t w row ok at i q ∙ ap Some leads-to);
             begins = found-begins t r k row s n 0 _ next step told (index i) read (begins q);
           }
           go false q = leads-none r k step told (of_type (type_at t row)) (index i) next read (under-other t w row ok at i q)
@@ -244,19 +244,19 @@ module _ (t w : List ℕ) (ok : Worded t w) (ad : admitted table_limits t ≡ tr
         (λ q is f. let u = all-step r k step told is f next e in record { i = index all; js = u.0; whole = u.1; rest = u.2; fits = as_all q }) (λ y. absurd (omega arith))
 
     -- ---- the count
-    count-on : (next : ℕ) → step ≡ Step.Count next → is_list (kind_at t (place_at t row)) ≡ true → along (ids_at r k) (some (of_type (type_at t row))) ≡ along (ids_at r next) (some of_count)
+    count-on : (next : ℕ) → step ≡ Step.Count next → is_list (kind_at t (place_at t row)) ≡ true → along (ids_at r k) (Some (of_type (type_at t row))) ≡ along (ids_at r next) (Some of_count)
     count-on next e q = leads_some r k step told (of_type (type_at t row)) (index count) next (ap (report_id_step r) e) of_count (under-list t w row ok at count q)
 
-    count-more : (o : Option (List Id)) → ((is : List Id) → o ≡ some is → (i : Id) × (js : List Id) × (is ≡ i ∷ js)) → along o (some of_count) ≡ none
-    count-more none f = refl
-    count-more (some is) f = let z = f is refl in ap (λ (y : List Id). along (some y) (some of_count)) z.2 ∙ more-none z.0 z.1
+    count-more : (o : Option (List Id)) → ((is : List Id) → o ≡ Some is → (i : Id) × (js : List Id) × (is ≡ i ∷ js)) → along o (Some of_count) ≡ None
+    count-more None f = refl
+    count-more (Some is) f = let z = f is refl in ap (λ (y : List Id). along (Some y) (Some of_count)) z.2 ∙ more-none z.0 z.1
 
-    only-count : (next : ℕ) → step ≡ Step.Count next → ids_at r next ≡ some [] → ids_at r k ≡ some (index count ∷ [])
+    only-count : (next : ℕ) → step ≡ Step.Count next → ids_at r next ≡ Some [] → ids_at r k ≡ Some (index count ∷ [])
     only-count next e f = go (ids_at r k) refl (ap (report_id_step r) (sym e) ∙ told)
       where
-        go : (o : Option (List Id)) → ids_at r k ≡ o → consed (index count) (ids_at r next) ≡ head_capped (ids_at r k) → o ≡ some (index count ∷ [])
-        go none q h = absurd (let z = sym (ap (consed (index count)) f) ∙ h ∙ ap head_capped q in let y : ◌≡◌ {A = ℕ} 0 1 = cc in omega arith)
-        go (some is) q h = let z = count-step r k step told is q next e in let y = some_same [] z.0 (sym f ∙ z.2) in ap some (z.1 ∙ ap (λ (l : List Id). index count ∷ l) (sym y))
+        go : (o : Option (List Id)) → ids_at r k ≡ o → consed (index count) (ids_at r next) ≡ head_capped (ids_at r k) → o ≡ Some (index count ∷ [])
+        go None q h = absurd (let z = sym (ap (consed (index count)) f) ∙ h ∙ ap head_capped q in let y : ◌≡◌ {A = ℕ} 0 1 = cc in omega arith)
+        go (Some is) q h = let z = count-step r k step told is q next e in let y = some_same [] z.0 (sym f ∙ z.2) in ap Some (z.1 ∙ ap (λ (l : List Id). index count ∷ l) (sym y))
 
     pub count-plans : (next : ℕ) → step ≡ Step.Count next → (last : Bool) → last ≡ ltb (length r) next → (p : Planning) → p ≡ count_plan t row last → Plans t r k row p
     unfolding Plans count_plan
@@ -265,7 +265,7 @@ module _ (t w : List ℕ) (ok : Worded t w) (ad : admitted table_limits t ≡ tr
         go : (u : Bool) → is_list (kind_at t (place_at t row)) ≡ u → (v : Bool) → v ≡ ltb (length r) next → PlannedAs t r k row (pick (both u v) Planning.Count Planning.No)
         go true q true h =
             let ends = ids-over r next (ltb-true (length r) next (sym h)) in
-            record { list = q; only = only-count next e ends; leads = count-on next e q ∙ ap (λ (o : Option (List Id)). along o (some of_count)) ends ∙ none_after of_count }
+            record { list = q; only = only-count next e ends; leads = count-on next e q ∙ ap (λ (o : Option (List Id)). along o (Some of_count)) ends ∙ none_after of_count }
         go true q false h = count-on next e q ∙ count-more (ids_at r next) (λ is z. ids-within r next is (ltb-false (length r) next (sym h)) z)
         go false q v h = leads-none r k step told (of_type (type_at t row)) (index count) next (ap (report_id_step r) e) (under-other t w row ok at count q)
 
@@ -275,4 +275,4 @@ module _ (t w : List ℕ) (ok : Worded t w) (ad : admitted table_limits t ≡ tr
 
     pub bad-plans : step ≡ Step.Bad → Plans t r k row Planning.No
     unfolding Plans
-    bad-plans e = ap (λ (o : Option (List Id)). along o (some (of_type (type_at t row)))) (bad-step r k step told e)
+    bad-plans e = ap (λ (o : Option (List Id)). along o (Some (of_type (type_at t row)))) (bad-step r k step told e)

@@ -1,7 +1,7 @@
 -- Along a reference: numbers written step after step stand for its identifiers.
 use mathlib.Core.Path.{◌≡◌, refl, sym, ap, ap₂, ◌∙◌, subst}
 use mathlib.Core.Bool.{Bool, true, false, not}
-use mathlib.Core.Option.{Option, some}
+use Rattle.std.specs.Prelude.{Option, Some}
 use mathlib.Core.List.{List, [], ◌∷◌}
 use Prim.Native.Nat.{ℕ, zero, suc, ◌≤◌, ◌<◌, ◌+◌, ◌-◌, ◌*◌}
 use native.Mathlib.Omega.{arith}
@@ -165,7 +165,7 @@ unfolding task_of
 task-kept p q n h e = rw (e 0 (omega arith), e 1 (omega arith), e 2 (omega arith), e 3 (omega arith))
 
 -- ---- one step more
-absent_told : (defaults : Bool) (task : Task) (x : List ℕ) (p : Presence) (r : List ℕ) (next : ℕ) (js : List Id) → ids_at r next ≡ some js
+absent_told : (defaults : Bool) (task : Task) (x : List ℕ) (p : Presence) (r : List ℕ) (next : ℕ) (js : List Id) → ids_at r next ≡ Some js
     → pick (both defaults (ltb (length r) next)) (absent_of true task x [] p) 0 ≡ absent_of defaults task x js p
 absent_told defaults task x p r next js e = go (ltb (length r) next) refl
   where
@@ -247,7 +247,7 @@ module _ (t r x : List ℕ) (defaults : Bool) (q : List ℕ) (row k j : ℕ) (z 
           shorter : chain_fits (17 - (j + 1)) t (table_rows t) to ≡ true
           shorter = let l = step-low in let y : 17 - j ≡ suc (17 - (j + 1)) = omega arith in o.chain (17 - (j + 1)) (ap (λ (n : ℕ). chain_fits n t (table_rows t) row) (sym y) ∙ z.chain)
 
-          extends : (p : List ℕ) → Agrees p u (4 * (j + 1)) → (is : List Id) → ids_at r next ≡ some is → Planned t p x defaults (j + 1) (type_at t to) is → (All-ids : List Id) → ids_at r 0 ≡ some All-ids → Planned t p x defaults 1 (type_at t 0) All-ids
+          extends : (p : List ℕ) → Agrees p u (4 * (j + 1)) → (is : List Id) → ids_at r next ≡ Some is → Planned t p x defaults (j + 1) (type_at t to) is → (All-ids : List Id) → ids_at r 0 ≡ Some All-ids → Planned t p x defaults 1 (type_at t 0) All-ids
           extends p agrees is ids rest All-ids whole =
               let start = z.from in
               let bg = o.begins is ids in
@@ -262,7 +262,7 @@ module _ (t r x : List ℕ) (defaults : Bool) (q : List ℕ) (row k j : ℕ) (z 
               cell : s ≡ sort.member → c ≡ pick (both defaults (ltb (length r) next)) (absent_of true (task_of q) x [] (member_at t (a + 1 + b)).presence) 0
               cell m = g ∙ ap₂ (λ (y v : Bool). pick y (pick v (absent_of true (task_of q) x [] (member_at t (a + 1 + b)).presence) 0) 0) f (eq-eqb s sort.member m)
 
-              told_absent : (js : List Id) → ids_at r next ≡ some js → pick (both defaults (ltb (length r) next)) (absent_of true (task_of q) x [] (member_at t (a + 1 + b)).presence) 0 ≡ absent_of defaults (task_of q) x js (member_at t (a + 1 + b)).presence
+              told_absent : (js : List Id) → ids_at r next ≡ Some js → pick (both defaults (ltb (length r) next)) (absent_of true (task_of q) x [] (member_at t (a + 1 + b)).presence) 0 ≡ absent_of defaults (task_of q) x js (member_at t (a + 1 + b)).presence
               told_absent js y = absent_told defaults (task_of q) x (member_at t (a + 1 + b)).presence r next js y
 
       pub next_count : plan ≡ Planning.Count → (u : List ℕ) → u ≡ written j sort.count 0 0 0 q → Nexts t r x defaults u k j Resolved.Count
@@ -343,7 +343,7 @@ module _ (t r x : List ℕ) (defaults : Bool) (q₀ q : List ℕ) (row k j : ℕ
 
   module _ (over-end : length r < k) where
     pub follow_row : report_target table_limits.chain t (table_rows t) (Target.Row row) ≡ along (ids_at r 0) (report_target table_limits.chain t (table_rows t) (Target.Row 0))
-    follow_row = sym (ap (λ (o : Option (List Id)). along o (some (of_type (type_at t row)))) (ids-over r k over-end) ∙ none_after (of_type (type_at t row))) ∙ z.resolving.leads
+    follow_row = sym (ap (λ (o : Option (List Id)). along o (Some (of_type (type_at t row)))) (ids-over r k over-end) ∙ none_after (of_type (type_at t row))) ∙ z.resolving.leads
 
     pub follow_within : row_within (table_rows t) (Target.Row row) ≡ true
     follow_within = lt-ltb row (length (table_rows t)) z.resolving.here
@@ -372,12 +372,12 @@ module _ (t r x : List ℕ) (given defaults : Bool) where
   pub resolves-whole : not given ≡ true → (q u : List ℕ) → length q ≡ 72 → u ≡ set q 4 sort.end → Resolves t given r x defaults u (Target.Row 0)
   unfolding Resolves
   resolves-whole e q u long f is ids lands =
-      subst (λ (y : List ℕ). Planned t y x defaults 1 (type_at t 0) is) (sym f) (subst (Planned t (set q 4 0) x defaults 1 (type_at t 0)) (some_same [] is (sym (ap (λ (y : Bool). pick y (read_reference r) (some [])) (not-true given e)) ∙ ids))
+      subst (λ (y : List ℕ). Planned t y x defaults 1 (type_at t 0) is) (sym f) (subst (Planned t (set q 4 0) x defaults 1 (type_at t 0)) (some_same [] is (sym (ap (λ (y : Bool). pick y (read_reference r) (Some [])) (not-true given e)) ∙ ids))
       (over (get_or-set_same q 4 0 0 (omega arith))))
 
   pub resolves-given : not given ≡ false → (q : List ℕ) (g : Target) → Follows t r x defaults q g → Resolves t given r x defaults q g
   unfolding Resolves Follows
-  resolves-given e q g told is ids lands = told lands is (ids_all r ∙ sym (ap (λ (y : Bool). pick y (read_reference r) (some [])) (not-false given e)) ∙ ids)
+  resolves-given e q g told is ids lands = told lands is (ids_all r ∙ sym (ap (λ (y : Bool). pick y (read_reference r) (Some [])) (not-false given e)) ∙ ids)
 
 pub whole-task : (q u : List ℕ) → u ≡ set q 4 sort.end → task_of u ≡ task_of q
 whole-task q u e = ap task_of e ∙ task-kept (set q 4 0) q 4 (omega arith) (λ n h. get_or-set_other q 4 n 0 0 (λ y. absurd (omega arith)))

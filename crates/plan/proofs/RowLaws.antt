@@ -1,7 +1,7 @@
 -- What the rows of an admitted table say: members after their row, the type of a row by its kind, what an identifier leads to on it.
 use mathlib.Core.Path.{◌≡◌, refl, sym, ap, ◌∙◌}
 use mathlib.Core.Bool.{Bool, true, false, false≢true}
-use mathlib.Core.Option.{none, some}
+use Rattle.std.specs.Prelude.{None, Some}
 use mathlib.Core.List.{List, [], ◌∷◌}
 use Prim.Native.Nat.{ℕ, ◌≤◌, ◌<◌, ◌+◌}
 use native.Mathlib.Omega.{arith}
@@ -66,26 +66,26 @@ module _ (t w : List ℕ) (row : ℕ) (ok : Worded t w) (here : row < length (ta
 
   -- ---- what an identifier leads to on it
   pub under-name : (x : List ℕ) → (a b : Bool) → eqb (kind_at t (place_at t row)) kind.sequence ≡ a → eqb (kind_at t (place_at t row)) kind.choice ≡ b
-      → under (name x) (of_type (type_at t row)) ≡ pick a (under_members (name x) (members_after t row)) (pick b (under_members (name x) (members_after t row)) none)
+      → under (name x) (of_type (type_at t row)) ≡ pick a (under_members (name x) (members_after t row)) (pick b (under_members (name x) (members_after t row)) None)
   unfolding under
   under-name x a b e f = ap (λ (y : Ty). under (name x) (of_type y)) whole ∙ by_kind ∙ rw (e, f)
     where
       by_kind : under (name x) (of_type (typed t (table_rows t) row (type_at t (named_at t (place_at t row))) (members_after t row)))
-          ≡ pick (eqb k kind.sequence) (under_members (name x) (members_after t row)) (pick (eqb k kind.choice) (under_members (name x) (members_after t row)) none)
+          ≡ pick (eqb k kind.sequence) (under_members (name x) (members_after t row)) (pick (eqb k kind.choice) (under_members (name x) (members_after t row)) None)
       by_kind =
           typed_cases t (table_rows t) row (type_at t (named_at t (place_at t row))) (members_after t row)
-          (λ (y : Ty). under (name x) (of_type y) ≡ pick (eqb k kind.sequence) (under_members (name x) (members_after t row)) (pick (eqb k kind.choice) (under_members (name x) (members_after t row)) none))
+          (λ (y : Ty). under (name x) (of_type y) ≡ pick (eqb k kind.sequence) (under_members (name x) (members_after t row)) (pick (eqb k kind.choice) (under_members (name x) (members_after t row)) None))
           (λ h. rw (eq-eqb k 12 h)) (λ h. rw h) (λ h. let q = list-kind k h in rw (q.0, q.1)) (λ u v _. rw (ne_eqb k 12 u, ne_eqb k 13 v))
 
-  pub under-list : (i : Index) → is_list (kind_at t (place_at t row)) ≡ true → under (index i) (of_type (type_at t row)) ≡ some (indexed i (type_at t (named_at t (place_at t row))))
+  pub under-list : (i : Index) → is_list (kind_at t (place_at t row)) ≡ true → under (index i) (of_type (type_at t row)) ≡ Some (indexed i (type_at t (named_at t (place_at t row))))
   unfolding under
   under-list i e = ap (λ (y : Ty). under (index i) (of_type y)) (list_at e)
 
-  pub under-other : (i : Index) → is_list (kind_at t (place_at t row)) ≡ false → under (index i) (of_type (type_at t row)) ≡ none
+  pub under-other : (i : Index) → is_list (kind_at t (place_at t row)) ≡ false → under (index i) (of_type (type_at t row)) ≡ None
   unfolding under
   under-other i e =
       ap (λ (y : Ty). under (index i) (of_type y)) whole
-      ∙ typed_cases t (table_rows t) row (type_at t (named_at t (place_at t row))) (members_after t row) (λ (y : Ty). under (index i) (of_type y) ≡ none)
+      ∙ typed_cases t (table_rows t) row (type_at t (named_at t (place_at t row))) (members_after t row) (λ (y : Ty). under (index i) (of_type y) ≡ None)
       (λ _. refl) (λ _. refl) (λ h. absurd (false≢true (sym e ∙ h))) (λ _ _ _. refl)
 
 -- ---- what an admitted table has besides

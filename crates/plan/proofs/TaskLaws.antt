@@ -1,7 +1,7 @@
 -- The task of a plan's first numbers, and plans for another task.
 use mathlib.Core.Path.{◌≡◌, refl, sym, ap, ap₂, ◌∙◌}
 use mathlib.Core.Bool.{Bool}
-use mathlib.Core.Option.{some}
+use Rattle.std.specs.Prelude.{Some}
 use mathlib.Core.List.{List, [], ◌∷◌}
 use Prim.Native.Nat.{ℕ, ◌<◌, ◌+◌, ◌*◌}
 use native.Mathlib.Omega.{arith}
@@ -101,7 +101,7 @@ steps_kept q k n budget =
     }
 
 -- the type of the member that has a name
-pub names-type : {x : List ℕ} {ms : Members} {j : ℕ} {m : Member} {u : Ty} → Names x ms j m u → member_type x ms ≡ some u
+pub names-type : {x : List ℕ} {ms : Members} {j : ℕ} {m : Member} {u : Ty} → Names x ms j m u → member_type x ms ≡ Some u
 unfolding member_type
 names-type (here e _) = rw e
 names-type (later e n) = rw e (names-type n)
@@ -110,7 +110,7 @@ names-type (later e n) = rw e (names-type n)
 -- where what each last member comes to is the same; `Led` is what is known of where the identifiers lead
 module _ (t q p x : List ℕ) (d : Bool) (steps : SameSteps q p) (Led : Target → Type 0)
     (same : (is : List Id) (row j : ℕ) → row < length (table_rows t) → j < members_at t (place_at t row)
-    → ((g : Target) → allowed_from is (of_type (member_type_at t (row + 1 + j))) ≡ some g → Led g)
+    → ((g : Target) → allowed_from is (of_type (member_type_at t (row + 1 + j))) ≡ Some g → Led g)
     → absent_of d (task_of q) x is (member_at t (row + 1 + j)).presence ≡ absent_of d (task_of p) x is (member_at t (row + 1 + j)).presence) where
   by_name : (k row j : ℕ) (nm : List ℕ) → 0 < k → ByName t q k row j nm → ByName t p k row j nm
   by_name k row j nm h n =
@@ -123,12 +123,12 @@ module _ (t q p x : List ℕ) (d : Bool) (steps : SameSteps q p) (Led : Target �
         named = n.named;
       }
 
-  pub replanned : (k : ℕ) (ty : Ty) (is : List Id) → 0 < k → ((g : Target) → allowed_from is (of_type ty) ≡ some g → Led g) → Planned t q x d k ty is
+  pub replanned : (k : ℕ) (ty : Ty) (is : List Id) → 0 < k → ((g : Target) → allowed_from is (of_type ty) ≡ Some g → Led g) → Planned t q x d k ty is
       → Planned t p x d k ty is
   unfolding allowed_from under
   replanned k ty is h led (over e) = over (steps.kept (4 * k) (omega arith) ∙ e)
   replanned k ty is h led (member {row = row} {j = j} {nm = nm} {is = js} e n c rest) =
-      let on : (g : Target) → allowed_from js (of_type (member_type_at t (row + 1 + j))) ≡ some g → Led g = λ g a. led g (rw (names-type n.named) a) in
+      let on : (g : Target) → allowed_from js (of_type (member_type_at t (row + 1 + j))) ≡ Some g → Led g = λ g a. led g (rw (names-type n.named) a) in
       member (steps.kept (4 * k) (omega arith) ∙ e) (by_name k row j nm h n)
       (steps.kept (4 * k + 3) (omega arith) ∙ c ∙ same js row j n.here n.one on) (replanned (k + 1) _ js (omega arith) on rest)
   replanned k ty is h led (alternative {row = row} {j = j} {nm = nm} {is = js} e n c rest) =

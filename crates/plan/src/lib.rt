@@ -2,7 +2,7 @@
 #![tactic(auto)]
 
 ghost use Rattle.std.specs.Prelude.{◌≡◌, true, false, [], ◌≤◌, ◌<◌, ◌+◌, ◌*◌, length, get_or, set, ltb};
-ghost use Rattle.std.proofs.Math.Option.{none, some};
+ghost use Rattle.std.specs.Prelude.{None, Some};
 ghost use Rattle.octets.specs.Pick.{both};
 ghost use Rattle.octets.specs.Octets.{part as octets-part};
 ghost use Rattle.octets.specs.Inner.Answers.{between};
@@ -381,7 +381,7 @@ fn test_for(rule: Rule, x: &[u8]) -> TestNumbers
 // ---- the test of a rule of bits on the type of a row
 // Bits with names, by a comparison; an ordering rule accepts none.
 fn named_test(rule: Rule, comparison: usize, number: usize) -> BitsTest
-    ensures { tests.report_bits result ≡ some (tests.of_rule (meant rule) (tests.test_of comparison number)) }
+    ensures { tests.report_bits result ≡ Some (tests.of_rule (meant rule) (tests.test_of comparison number)) }
 {
     match rule {
         Rule::Present => BitsTest::Of(Comparison::ANY, 0),
@@ -394,7 +394,7 @@ fn named_test(rule: Rule, comparison: usize, number: usize) -> BitsTest
 fn names_test(rule: Rule, t: &[u8], w: &[u64; 256], row: usize, x: &[u8]) -> BitsTest
     requires worded { Worded t.now w.now }
     requires here { row < length (table_rows t.now) }
-    ensures { tests.report_bits result ≡ tests.bits_test_by (meant rule) (some (names_after t.now row)) x.now }
+    ensures { tests.report_bits result ≡ tests.bits_test_by (meant rule) (Some (names_after t.now row)) x.now }
 {
     if digits::is_bit_text(x) {
         let count = digits::significant(digits::operand(x));
@@ -412,7 +412,7 @@ fn names_test(rule: Rule, t: &[u8], w: &[u64; 256], row: usize, x: &[u8]) -> Bit
 
 // Digits, where there are no names.
 fn digits_test(rule: Rule, x: &[u8]) -> BitsTest
-    ensures { tests.report_bits result ≡ tests.bits_test_by (meant rule) none x.now }
+    ensures { tests.report_bits result ≡ tests.bits_test_by (meant rule) None x.now }
 {
     if !digits::is_bits(x) {
         return BitsTest::No;

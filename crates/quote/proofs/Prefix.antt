@@ -1,7 +1,7 @@
 -- What is read of an assertion within a text p is read so where more octets x follow.
 use mathlib.Core.Path.{◌≡◌, refl, sym, ap, ◌∙◌}
 use mathlib.Core.Bool.{Bool, true, false, false≢true}
-use mathlib.Core.Option.{Option, none, some}
+use Rattle.std.specs.Prelude.{Option, None, Some}
 use mathlib.Core.List.{List, [], ◌∷◌, ◌++◌}
 use Prim.Native.Nat.{ℕ, suc, ◌≤◌, ◌<◌, ◌+◌, ◌-◌}
 use native.Mathlib.Omega.{arith}
@@ -40,27 +40,27 @@ lead_in (b ∷ l) x h = go (eqb b 32) (lead_in l x) h
     go true f h = ap suc (f (omega arith))
     go false f h = refl
 
-comma_in : (l x : List ℕ) (at k : ℕ) → comma_from l at ≡ some k → comma_from (l ++ x) at ≡ some k
+comma_in : (l x : List ℕ) (at k : ℕ) → comma_from l at ≡ Some k → comma_from (l ++ x) at ≡ Some k
 unfolding comma_from
 comma_in [] x at k e = absurd (none_not e)
 comma_in (b ∷ l) x at k e = go (eqb b comma) (comma_in l x (at + 1) k) e
   where
-    go : (t : Bool) → (comma_from l (at + 1) ≡ some k → comma_from (l ++ x) (at + 1) ≡ some k) → pick t (some at) (comma_from l (at + 1)) ≡ some k
-        → pick t (some at) (comma_from (l ++ x) (at + 1)) ≡ some k
+    go : (t : Bool) → (comma_from l (at + 1) ≡ Some k → comma_from (l ++ x) (at + 1) ≡ Some k) → pick t (Some at) (comma_from l (at + 1)) ≡ Some k
+        → pick t (Some at) (comma_from (l ++ x) (at + 1)) ≡ Some k
     go true f e = e
     go false f e = f e
 
 -- the octet behind the closing quote shows that it is not one of a doubled pair
-closing_in : (l x : List ℕ) (at k : ℕ) → closing l at ≡ some k → k + 1 < at + length l → closing (l ++ x) at ≡ some k
+closing_in : (l x : List ℕ) (at k : ℕ) → closing l at ≡ Some k → k + 1 < at + length l → closing (l ++ x) at ≡ Some k
 unfolding closing
 closing_in [] x at k e h = absurd (none_not e)
 closing_in (b ∷ []) x at k e h = absurd (let z : at ≡ k = (if_some (eqb b 34) at k e).1 in omega arith)
 closing_in (b ∷ c ∷ l) x at k e h = go (eqb b 34) (eqb c 34) (closing_in (c ∷ l) x (at + 1) k) (closing_in l x (at + 2) k) e
   where
-    go : (t u : Bool) → (closing (c ∷ l) (at + 1) ≡ some k → k + 1 < at + 1 + suc (length l) → closing (c ∷ (l ++ x)) (at + 1) ≡ some k)
-        → (closing l (at + 2) ≡ some k → k + 1 < at + 2 + length l → closing (l ++ x) (at + 2) ≡ some k)
-        → pick t (pick u (closing l (at + 2)) (some at)) (closing (c ∷ l) (at + 1)) ≡ some k
-        → pick t (pick u (closing (l ++ x) (at + 2)) (some at)) (closing (c ∷ (l ++ x)) (at + 1)) ≡ some k
+    go : (t u : Bool) → (closing (c ∷ l) (at + 1) ≡ Some k → k + 1 < at + 1 + suc (length l) → closing (c ∷ (l ++ x)) (at + 1) ≡ Some k)
+        → (closing l (at + 2) ≡ Some k → k + 1 < at + 2 + length l → closing (l ++ x) (at + 2) ≡ Some k)
+        → pick t (pick u (closing l (at + 2)) (Some at)) (closing (c ∷ l) (at + 1)) ≡ Some k
+        → pick t (pick u (closing (l ++ x) (at + 2)) (Some at)) (closing (c ∷ (l ++ x)) (at + 1)) ≡ Some k
     go true true f g e = g e (omega arith)
     go true false f g e = e
     go false u f g e = f e (omega arith)
@@ -74,22 +74,22 @@ starts_first b w s at e = go (drop at s) (let z : at + 0 ≡ at = omega arith in
     go [] q e = absurd (false≢true e)
     go (a ∷ l) q e = sym q ∙ eqb-true a b (both_true (eqb a b) (starts w l) e).0
 
-label_first : (b : ℕ) (w s : List ℕ) (at k : ℕ) → label_at (b ∷ w) s at ≡ some k → octet s at ≡ b
+label_first : (b : ℕ) (w s : List ℕ) (at k : ℕ) → label_at (b ∷ w) s at ≡ Some k → octet s at ≡ b
 unfolding label_at
 label_first b w s at k e =
     let q = at + length (b ∷ w) in
     let z = if_some (both (starts (b ∷ w) (drop at s)) (eqb (octet s q) 32)) (skip s q) k e in
     starts_first b w s at (both_true (starts (b ∷ w) (drop at s)) (eqb (octet s q) 32) z.0).0
 
-label_other : (b : ℕ) (w s : List ℕ) (at : ℕ) → (octet s at ≡ b → ⊥) → label_at (b ∷ w) s at ≡ none
+label_other : (b : ℕ) (w s : List ℕ) (at : ℕ) → (octet s at ≡ b → ⊥) → label_at (b ∷ w) s at ≡ None
 label_other b w s at n = go (label_at (b ∷ w) s at) refl
   where
-    go : (o : Option ℕ) → label_at (b ∷ w) s at ≡ o → o ≡ none
-    go none e = refl
-    go (some k) e = absurd (n (label_first b w s at k e))
+    go : (o : Option ℕ) → label_at (b ∷ w) s at ≡ o → o ≡ None
+    go None e = refl
+    go (Some k) e = absurd (n (label_first b w s at k e))
 
 -- what a part that is read says
-read_is : {A : Type 0} (a : A) (k : ℕ) (r : Read A) → read_to a k ≡ some r → (k ≡ r.after) × (a ≡ r.is)
+read_is : {A : Type 0} (a : A) (k : ℕ) (r : Read A) → read_to a k ≡ Some r → (k ≡ r.after) × (a ≡ r.is)
 read_is {A} a k r e = let z = some_is e in (ap (λ (y : Read A). y.after) z, ap (λ (y : Read A). y.is) z)
 
 module _ (p x : List ℕ) where
@@ -106,7 +106,7 @@ module _ (p x : List ℕ) where
   unfolding skip
   skip_in at h l = let r = rest-length p at in rw (rest_in at h, lead_in (drop at p) x (omega arith))
 
-  mark_in : (c at k : ℕ) → 0 < c → mark_at c p at ≡ some k → k < length p → mark_at c (p ++ x) at ≡ some k
+  mark_in : (c at k : ℕ) → 0 < c → mark_at c p at ≡ Some k → k < length p → mark_at c (p ++ x) at ≡ Some k
   unfolding mark_at
   mark_in c at k h e l =
       let z = if_some (eqb (octet p at) c) (skip p (at + 1)) k e in
@@ -115,7 +115,7 @@ module _ (p x : List ℕ) where
       let j : skip p (at + 1) ≡ k = z.1 in
       rw (octet_in at i, z.0, skip_in (at + 1) (omega arith) (omega arith), z.1)
 
-  label_in : (w : List ℕ) (at k : ℕ) → label_at w p at ≡ some k → k < length p → label_at w (p ++ x) at ≡ some k
+  label_in : (w : List ℕ) (at k : ℕ) → label_at w p at ≡ Some k → k < length p → label_at w (p ++ x) at ≡ Some k
   unfolding label_at
   label_in w at k e l =
       let q = at + length w in
@@ -128,7 +128,7 @@ module _ (p x : List ℕ) where
 
   -- ---- parts
   module _ {A : Type 0} where
-    followed_in : (at : ℕ) (a : A) (r : Read A) → followed p at a ≡ some r → r.after < length p → (at < r.after) × (followed (p ++ x) at a ≡ some r)
+    followed_in : (at : ℕ) (a : A) (r : Read A) → followed p at a ≡ Some r → r.after < length p → (at < r.after) × (followed (p ++ x) at a ≡ Some r)
     followed_in at a r e l =
         let z = bind-some (mark_at comma p at) (λ k. read_to a k) r e in
         let q = read_is a z.0 r z.1.1 in
@@ -137,22 +137,22 @@ module _ (p x : List ℕ) where
 
     -- a part that may be missing: what stands in its place begins with another octet
     labelled_in : (missing : A) (b : ℕ) (w : List ℕ) (f g : ℕ → Option (Read A)) (at : ℕ) (r : Read A) → r.after < length p → (octet p r.after ≡ b → ⊥)
-        → ((k : ℕ) → f k ≡ some r → (k < length p) × (g k ≡ some r))
-        → if_labelled missing at f (label_at (b ∷ w) p at) ≡ some r → if_labelled missing at g (label_at (b ∷ w) (p ++ x) at) ≡ some r
+        → ((k : ℕ) → f k ≡ Some r → (k < length p) × (g k ≡ Some r))
+        → if_labelled missing at f (label_at (b ∷ w) p at) ≡ Some r → if_labelled missing at g (label_at (b ∷ w) (p ++ x) at) ≡ Some r
     labelled_in missing b w f g at r l n h e = go (label_at (b ∷ w) p at) refl e
       where
-        go : (o : Option ℕ) → label_at (b ∷ w) p at ≡ o → if_labelled missing at f o ≡ some r → if_labelled missing at g (label_at (b ∷ w) (p ++ x) at) ≡ some r
-        go none q e =
+        go : (o : Option ℕ) → label_at (b ∷ w) p at ≡ o → if_labelled missing at f o ≡ Some r → if_labelled missing at g (label_at (b ∷ w) (p ++ x) at) ≡ Some r
+        go None q e =
             let z : at ≡ r.after = (read_is missing at r e).0 in
             rw (label_other b w (p ++ x) at (λ c. n (ap (octet p) (sym z) ∙ sym (octet_in at (omega arith)) ∙ c))) e
-        go (some k) q e = let y = h k e in rw (label_in (b ∷ w) at k q y.0) y.1
+        go (Some k) q e = let y = h k e in rw (label_in (b ∷ w) at k q y.0) y.1
 
-  closing_at_in : (at k : ℕ) → closing_at p at ≡ some k → k + 1 < length p → closing_at (p ++ x) at ≡ some k
+  closing_at_in : (at k : ℕ) → closing_at p at ≡ Some k → k + 1 < length p → closing_at (p ++ x) at ≡ Some k
   unfolding closing_at
   closing_at_in at k e l = go (eqb (octet p at) 34) refl e
     where
-      go : (t : Bool) → eqb (octet p at) 34 ≡ t → pick t (closing (drop (at + 1) p) (at + 1)) none ≡ some k
-          → pick (eqb (octet (p ++ x) at) 34) (closing (drop (at + 1) (p ++ x)) (at + 1)) none ≡ some k
+      go : (t : Bool) → eqb (octet p at) 34 ≡ t → pick t (closing (drop (at + 1) p) (at + 1)) None ≡ Some k
+          → pick (eqb (octet (p ++ x) at) 34) (closing (drop (at + 1) (p ++ x)) (at + 1)) None ≡ Some k
       go true q e =
           let o = eqb-true (octet p at) 34 q in
           let i = octet-inside p at (omega arith) in
@@ -160,19 +160,19 @@ module _ (p x : List ℕ) where
           rw (octet_in at i, q, rest_in (at + 1) (omega arith)) (closing_in (drop (at + 1) p) x (at + 1) k e (omega arith))
       go false q e = absurd (none_not e)
 
-  quoted_in : (at : ℕ) (r : Read (Option (List ℕ))) → r.after < length p → quoted_part p at ≡ some r → (at < length p) × (quoted_part (p ++ x) at ≡ some r)
+  quoted_in : (at : ℕ) (r : Read (Option (List ℕ))) → r.after < length p → quoted_part p at ≡ Some r → (at < length p) × (quoted_part (p ++ x) at ≡ Some r)
   unfolding characters
   quoted_in at r l e =
-      let z = bind-some (closing_at p at) (λ close. followed p (close + 1) (some (characters p at close))) r e in
+      let z = bind-some (closing_at p at) (λ close. followed p (close + 1) (Some (characters p at close))) r e in
       let c = closing-within p at z.0 z.1.0 in
-      let f = followed_in (z.0 + 1) (some (characters p at z.0)) r z.1.1 l in
+      let f = followed_in (z.0 + 1) (Some (characters p at z.0)) r z.1.1 l in
       (omega arith, rw (closing_at_in at z.0 z.1.0 (omega arith), part_in (at + 1) (z.0 - (at + 1)) (omega arith)) f.1)
 
-  truth_in : (at : ℕ) (r : Read Bool) → r.after < length p → truth_part p at ≡ some r → (at < length p) × (truth_part (p ++ x) at ≡ some r)
+  truth_in : (at : ℕ) (r : Read Bool) → r.after < length p → truth_part p at ≡ Some r → (at < length p) × (truth_part (p ++ x) at ≡ Some r)
   truth_in at r l e = go (starts (bytes "TRUE") (drop at p)) (starts (bytes "FALSE") (drop at p)) refl refl e
     where
       go : (t u : Bool) → starts (bytes "TRUE") (drop at p) ≡ t → starts (bytes "FALSE") (drop at p) ≡ u
-          → pick t (followed p (at + 4) true) (pick u (followed p (at + 5) false) none) ≡ some r → (at < length p) × (truth_part (p ++ x) at ≡ some r)
+          → pick t (followed p (at + 4) true) (pick u (followed p (at + 5) false) None) ≡ Some r → (at < length p) × (truth_part (p ++ x) at ≡ Some r)
       go true u q s e =
           let f = followed_in (at + 4) true r e l in
           (omega arith, rw (rest_in at (omega arith), starts_in (bytes "TRUE") (drop at p) x q) f.1)
@@ -190,41 +190,41 @@ module _ (p x : List ℕ) where
       go false false q s e = absurd (none_not e)
 
   component_in : (at : ℕ) (r : Read (Option (List ℕ))) → r.after < length p → (octet p r.after ≡ 99 → ⊥)
-      → component_at p at ≡ some r → component_at (p ++ x) at ≡ some r
+      → component_at p at ≡ Some r → component_at (p ++ x) at ≡ Some r
   unfolding component_at
-  component_in at r l n e = labelled_in none 99 (bytes "omponent") (quoted_part p) (quoted_part (p ++ x)) at r l n (λ k. quoted_in k r l) e
+  component_in at r l n e = labelled_in None 99 (bytes "omponent") (quoted_part p) (quoted_part (p ++ x)) at r l n (λ k. quoted_in k r l) e
 
-  defaults_in : (at : ℕ) (r : Read Bool) → r.after < length p → (octet p r.after ≡ 117 → ⊥) → defaults_at p at ≡ some r → defaults_at (p ++ x) at ≡ some r
+  defaults_in : (at : ℕ) (r : Read Bool) → r.after < length p → (octet p r.after ≡ 117 → ⊥) → defaults_at p at ≡ Some r → defaults_at (p ++ x) at ≡ Some r
   unfolding defaults_at
   defaults_in at r l n e = labelled_in true 117 (bytes "seDefaultValues") (truth_part p) (truth_part (p ++ x)) at r l n (λ k. truth_in k r l) e
 
-  rule_in : (at : ℕ) (r : Read (List ℕ)) → r.after < length p → rule_at p at ≡ some r → rule_at (p ++ x) at ≡ some r
+  rule_in : (at : ℕ) (r : Read (List ℕ)) → r.after < length p → rule_at p at ≡ Some r → rule_at (p ++ x) at ≡ Some r
   unfolding rule_at rule_from
   rule_in at r l e =
       let z = bind-some (label_at (bytes "rule") p at) (λ k. rule_from p k) r e in
       let y = bind-some (comma_from (drop z.0 p) z.0) (rule_up_to p z.0) r z.1.1 in
       let c = comma-within p z.0 y.0 y.1.0 in
-      let d : comma_from (drop z.0 (p ++ x)) z.0 ≡ some y.0
+      let d : comma_from (drop z.0 (p ++ x)) z.0 ≡ Some y.0
       = ap (λ (w : List ℕ). comma_from w z.0) (rest_in z.0 (omega arith)) ∙ comma_in (drop z.0 p) x z.0 y.0 y.1.0 in
       rw (label_in (bytes "rule") at z.0 z.1.0 (omega arith), d, part_in z.0 (y.0 - z.0) (omega arith))
       (up_to (part p z.0 (y.0 - z.0)) y.0 (is_rule (part p z.0 (y.0 - z.0))) y.1.1)
     where
-      up_to : (w : List ℕ) (end : ℕ) (t : Bool) → pick t (followed p end w) none ≡ some r → pick t (followed (p ++ x) end w) none ≡ some r
+      up_to : (w : List ℕ) (end : ℕ) (t : Bool) → pick t (followed p end w) None ≡ Some r → pick t (followed (p ++ x) end w) None ≡ Some r
       up_to w end true e = (followed_in end w r e l).1
       up_to w end false e = absurd (none_not e)
 
 -- ---- what a part begins with
-rule-first : (s : List ℕ) (at : ℕ) (r : Read (List ℕ)) → rule_at s at ≡ some r → octet s at ≡ 114
+rule-first : (s : List ℕ) (at : ℕ) (r : Read (List ℕ)) → rule_at s at ≡ Some r → octet s at ≡ 114
 unfolding rule_at rule_from
 rule-first s at r e = let z = bind-some (label_at (bytes "rule") s at) (λ k. rule_from s k) r e in label_first 114 (bytes "ule") s at z.0 z.1.0
 
-defaults-first : (s : List ℕ) (at : ℕ) (r : Read Bool) → defaults_at s at ≡ some r → octet s r.after ≡ 114 → octet s at ≡ 99 → ⊥
+defaults-first : (s : List ℕ) (at : ℕ) (r : Read Bool) → defaults_at s at ≡ Some r → octet s r.after ≡ 114 → octet s at ≡ 99 → ⊥
 unfolding defaults_at
 defaults-first s at r e h c = go (label_at (bytes "useDefaultValues") s at) refl e
   where
-    go : (o : Option ℕ) → label_at (bytes "useDefaultValues") s at ≡ o → if_labelled true at (truth_part s) o ≡ some r → ⊥
-    go none q e = let z : octet s at ≡ octet s r.after = ap (octet s) (read_is true at r e).0 in omega arith
-    go (some k) q e = let z = label_first 117 (bytes "seDefaultValues") s at k q in omega arith
+    go : (o : Option ℕ) → label_at (bytes "useDefaultValues") s at ≡ o → if_labelled true at (truth_part s) o ≡ Some r → ⊥
+    go None q e = let z : octet s at ≡ octet s r.after = ap (octet s) (read_is true at r e).0 in omega arith
+    go (Some k) q e = let z = label_first 117 (bytes "seDefaultValues") s at k q in omega arith
 
 -- ---- all before the value text
 abbrev to_value : List ℕ → Option (List ℕ) → Bool → Read (List ℕ) → Option (Read Opening)
@@ -245,21 +245,21 @@ record Opened (s : List ℕ) (at : ℕ) (o : Read Opening) : Type 0 where
   c : Read (Option (List ℕ))
   d : Read Bool
   r : Read (List ℕ)
-  brace : mark_at open_brace s at ≡ some place
-  component : component_at s place ≡ some c
-  defaults : defaults_at s c.after ≡ some d
-  rule : rule_at s d.after ≡ some r
-  value : label_at (bytes "value") s r.after ≡ some o.after
+  brace : mark_at open_brace s at ≡ Some place
+  component : component_at s place ≡ Some c
+  defaults : defaults_at s c.after ≡ Some d
+  rule : rule_at s d.after ≡ Some r
+  value : label_at (bytes "value") s r.after ≡ Some o.after
   parts : record { component = c.is; defaults = d.is; rule = r.is } ≡ o.is
 
-value-place : (s : List ℕ) (c : Option (List ℕ)) (d : Bool) (r : Read (List ℕ)) (o : Read Opening) → to_value s c d r ≡ some o
-    → (label_at (bytes "value") s r.after ≡ some o.after) × (record { component = c; defaults = d; rule = r.is } ≡ o.is)
+value-place : (s : List ℕ) (c : Option (List ℕ)) (d : Bool) (r : Read (List ℕ)) (o : Read Opening) → to_value s c d r ≡ Some o
+    → (label_at (bytes "value") s r.after ≡ Some o.after) × (record { component = c; defaults = d; rule = r.is } ≡ o.is)
 value-place s c d r o e =
     let v = bind-some (label_at (bytes "value") s r.after) (λ k. read_to (record { component = c; defaults = d; rule = r.is }) k) o e in
     let z = read_is (record { component = c; defaults = d; rule = r.is }) v.0 o v.1.1 in
-    (v.1.0 ∙ ap some z.0, z.1)
+    (v.1.0 ∙ ap Some z.0, z.1)
 
-opened : (s : List ℕ) (at : ℕ) (o : Read Opening) → opening_at s at ≡ some o → Opened s at o
+opened : (s : List ℕ) (at : ℕ) (o : Read Opening) → opening_at s at ≡ Some o → Opened s at o
 unfolding opening_at
 opened s at o e =
     let m = bind-some (mark_at open_brace s at) (to_component s) o e in
@@ -301,13 +301,13 @@ opened_in p x at o l v =
       value = label_in p x (bytes "value") v.r.after o.after v.value l;
     }
 
-opened-assertion : (s : List ℕ) (at : ℕ) (o : Read Opening) (v : ValueText) → Opened s at o → value_text_at s o.after ≡ some v
+opened-assertion : (s : List ℕ) (at : ℕ) (o : Read Opening) (v : ValueText) → Opened s at o → value_text_at s o.after ≡ Some v
     → assertion_at s at ≡ read_to (item_with o.is v.text) (v.brace + 1)
 unfolding assertion_at value_at
 opened-assertion s at o v w e = rw (w.brace, w.component, w.defaults, w.rule, w.value, e, ← w.parts)
 
 -- an assertion whose parts before the value text are read within p
-pub assertion_in : (p x : List ℕ) (at : ℕ) (o : Read Opening) (v : ValueText) → o.after < length p → opening_at p at ≡ some o
-    → value_text_at (p ++ x) o.after ≡ some v
+pub assertion_in : (p x : List ℕ) (at : ℕ) (o : Read Opening) (v : ValueText) → o.after < length p → opening_at p at ≡ Some o
+    → value_text_at (p ++ x) o.after ≡ Some v
     → assertion_at (p ++ x) at ≡ read_to (item_with o.is v.text) (v.brace + 1)
 assertion_in p x at o v l e f = opened-assertion (p ++ x) at o v (opened_in p x at o l (opened p at o e)) f

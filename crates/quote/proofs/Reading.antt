@@ -1,7 +1,7 @@
 -- The readers of a filter on the quoted form of a text.
 use mathlib.Core.Path.{◌≡◌, refl, sym, ap, subst, ◌∙◌}
 use mathlib.Core.Bool.{true, false}
-use mathlib.Core.Option.{some}
+use Rattle.std.specs.Prelude.{Some}
 use mathlib.Core.List.{List, [], ◌∷◌, ◌++◌, append_assoc}
 use Prim.Native.Nat.{ℕ, zero, suc, ◌<◌, ◌+◌, ◌-◌}
 use native.Mathlib.Omega.{arith}
@@ -40,24 +40,24 @@ unfolding closing
 closing-other b [] at n = rw (ne_eqb b 34 n)
 closing-other b (c ∷ l) at n = rw (ne_eqb b 34 n)
 
-closing-doubled : (t : List ℕ) (at : ℕ) → closing (doubled t ++ (34 ∷ [])) at ≡ some (at + length (doubled t))
+closing-doubled : (t : List ℕ) (at : ℕ) → closing (doubled t ++ (34 ∷ [])) at ≡ Some (at + length (doubled t))
 unfolding closing
 closing-doubled = by-octets (λ t d. Closes d) (λ at. there (omega arith)) (λ t d f at. f (at + 2) ∙ there (omega arith))
     (λ b t d n f at. closing-other b (d ++ (34 ∷ [])) at n ∙ f (at + 1) ∙ there (omega arith))
   where
     Closes : List ℕ → Type 0
-    Closes d = (at : ℕ) → closing (d ++ (34 ∷ [])) at ≡ some (at + length d)
+    Closes d = (at : ℕ) → closing (d ++ (34 ∷ [])) at ≡ Some (at + length d)
 
-    there : {a b : ℕ} → a ≡ b → some a ≡ some b
-    there e = ap some e
+    there : {a b : ℕ} → a ≡ b → Some a ≡ Some b
+    there e = ap Some e
 
-unquoted-quoted : (t : List ℕ) → unquoted (quoted t) ≡ some t
+unquoted-quoted : (t : List ℕ) → unquoted (quoted t) ≡ Some t
 unfolding quoted closing_at
 unquoted-quoted t =
     let z : 1 + length (doubled t) - 1 ≡ length (doubled t) = omega arith in
     unquoted-whole (quoted t) (1 + length (doubled t)) (closing-doubled t 1) (let e = quoted-length t in omega arith)
-    ∙ ap (λ (k : ℕ). some (undoubled (part (quoted t) 1 k))) z
-    ∙ ap (λ (l : List ℕ). some (undoubled l)) (take-append_seam (doubled t) (34 ∷ [])) ∙ ap some (undoubled-doubled t)
+    ∙ ap (λ (k : ℕ). Some (undoubled (part (quoted t) 1 k))) z
+    ∙ ap (λ (l : List ℕ). Some (undoubled l)) (take-append_seam (doubled t) (34 ∷ [])) ∙ ap Some (undoubled-doubled t)
 
 conforms-quoted : (t : List ℕ) → (length t ≡ 0 → ⊥) → is_text (quoted t) ≡ true
 unfolding is_text
@@ -88,10 +88,10 @@ brace-quoted t after at inner =
     ap (λ (x : List ℕ). brace_from x (at + 1) inner true) (append_assoc (doubled t) (34 ∷ []) after)
     ∙ brace-doubled t (34 ∷ after) (at + 1) inner ∙ ap (λ (k : ℕ). brace_from after k inner false) z
 
-brace-closed : (spaces : ℕ) (after : List ℕ) (at : ℕ) → brace_from (closed_by spaces after) at 0 false ≡ some (at + spaces)
+brace-closed : (spaces : ℕ) (after : List ℕ) (at : ℕ) → brace_from (closed_by spaces after) at 0 false ≡ Some (at + spaces)
 unfolding brace_from
-brace-closed zero after at = let z : at ≡ at + 0 = omega arith in ap some z
-brace-closed (suc n) after at = let z : at + 1 + n ≡ at + suc n = omega arith in brace-closed n after (at + 1) ∙ ap some z
+brace-closed zero after at = let z : at ≡ at + 0 = omega arith in ap Some z
+brace-closed (suc n) after at = let z : at + 1 + n ≡ at + suc n = omega arith in brace-closed n after (at + 1) ∙ ap Some z
 
 -- ---- the value text
 trimmed_spaces : (n : ℕ) → trimmed (replicate n 32) ≡ []
@@ -113,14 +113,14 @@ closed-part q after n = take-append-add q (closed_by n after) n ∙ ap (λ (l : 
 
 value-quoted : (t before after : List ℕ) (spaces : ℕ)
     → value_text_at (before ++ (quoted t ++ closed_by spaces after)) (length before)
-    ≡ some (record { text = quoted t; brace = length before + (length (quoted t) + spaces) })
+    ≡ Some (record { text = quoted t; brace = length before + (length (quoted t) + spaces) })
 unfolding value_text_at brace_at
 value-quoted t before after spaces =
     let q = quoted t in
     let at = length before in
     let l = quoted-length t in
-    let e : brace_from (q ++ closed_by spaces after) at 0 false ≡ some (at + (length q + spaces)) = brace-quoted t (closed_by spaces after) at 0
-    ∙ brace-closed spaces after (at + length q) ∙ ap some (let z : at + length q + spaces ≡ at + (length q + spaces) = omega arith in z) in
+    let e : brace_from (q ++ closed_by spaces after) at 0 false ≡ Some (at + (length q + spaces)) = brace-quoted t (closed_by spaces after) at 0
+    ∙ brace-closed spaces after (at + length q) ∙ ap Some (let z : at + length q + spaces ≡ at + (length q + spaces) = omega arith in z) in
     let z : at + (length q + spaces) - at ≡ length q + spaces = omega arith in
     let p : trimmed (take (length q + spaces) (q ++ closed_by spaces after)) ≡ q = ap trimmed (closed-part q after spaces) ∙ trimmed-quoted t spaces in
     let m : length q ≡ 0 → ⊥ = λ n. omega arith in
@@ -156,7 +156,7 @@ module _ (t : List ℕ) (u : utf8 t ≡ true) where
   characters-quoted before after e = utf8-joined before (quoted t ++ after) e ∙ utf8-joined (quoted t) after (utf8-quoted t u)
 
   alone-quoted : (before : List ℕ) (spaces : ℕ) (o : Opening) → utf8 before ≡ true → starts (bytes "item:") before ≡ true
-      → opening_at (before ++ (34 ∷ [])) 5 ≡ read_to o (length before) → whole (before ++ (quoted t ++ closed_by spaces [])) ≡ some (item (item_with o (quoted t)))
+      → opening_at (before ++ (34 ∷ [])) 5 ≡ read_to o (length before) → whole (before ++ (quoted t ++ closed_by spaces [])) ≡ Some (item (item_with o (quoted t)))
   unfolding whole filter_at
   alone-quoted before spaces o e i f =
       let s = before ++ (quoted t ++ closed_by spaces []) in

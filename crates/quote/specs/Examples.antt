@@ -1,6 +1,6 @@
 -- Computed examples.
 use Rattle.std.specs.Prelude.{◌≡◌, refl, true, List, [], ◌∷◌, ◌++◌, map, ℕ, length}
-use Rattle.std.proofs.Math.Option.{Option, none, some}
+use Rattle.std.specs.Prelude.{Option, None, Some}
 use Rattle.octets.specs.Octets.{bytes, hex}
 use Rattle.assertion.specs.Item.{Item}
 use Rattle.assertion.specs.Assertion.{Read, read_to, assertion_at}
@@ -30,20 +30,20 @@ text = bytes "x\"},item:{rule presentMatch,value NULL},item:{rule presentMatch,v
 
 -- the value text of the assertion that is read
 value_of : Option (Read Item) → Option (List ℕ)
-value_of none = none
-value_of (some p) = some p.is.value
+value_of None = None
+value_of (Some p) = Some p.is.value
 
 -- the assertion is open up to its value text
 opening : opening_at (before ++ (34 ∷ [])) 10
-    ≡ read_to (record { component = some (bytes "event"); defaults = true; rule = bytes "caseExactMatch" }) (length before)
+    ≡ read_to (record { component = Some (bytes "event"); defaults = true; rule = bytes "caseExactMatch" }) (length before)
 unfolding quote_computes before
 opening = refl
 
 -- the text alone in quotes ends its item; quoted it is the value, and the item ends behind it
-unquoted-text : value_of (assertion_at (before ++ ((34 ∷ text) ++ bytes "\"}}")) 10) ≡ some (bytes "\"x\"")
+unquoted-text : value_of (assertion_at (before ++ ((34 ∷ text) ++ bytes "\"}}")) 10) ≡ Some (bytes "\"x\"")
 unfolding quote_computes before text value_of
 unquoted-text = refl
 
-quoted-text : value_of (assertion_at (before ++ (quoted text ++ bytes "}}")) 10) ≡ some (quoted text)
+quoted-text : value_of (assertion_at (before ++ (quoted text ++ bytes "}}")) 10) ≡ Some (quoted text)
 unfolding quote_computes before text value_of
 quoted-text = refl

@@ -1,6 +1,6 @@
 -- What the readers of a filter make of octets q that are the quoted form of a text.
 use Rattle.std.specs.Prelude.{ℕ, suc, ◌+◌, ◌≡◌, Bool, true, false, List, [], ◌∷◌, ◌++◌, length, take, drop, replicate}
-use Rattle.std.proofs.Math.Option.{Option, some}
+use Rattle.std.specs.Prelude.{Option, Some}
 use Rattle.octets.specs.Pick.{◌>>=◌}
 use Rattle.octets.specs.Octets.{bytes}
 use Rattle.octets.specs.Text.{starts}
@@ -41,7 +41,7 @@ item_with o value = record { component = o.component; defaults = o.defaults; rul
 -- ---- what q is read as
 pub record ReadsAs (text q : List ℕ) : Type 0 where
   -- they are one quoted string, and its characters are the text
-  pub back : unquoted q ≡ some text
+  pub back : unquoted q ≡ Some text
   -- so for the rules on strings they conform, and assert the text
   pub conforms : is_text q ≡ true
   pub asserts : asserted_text q ≡ text
@@ -49,7 +49,7 @@ pub record ReadsAs (text q : List ℕ) : Type 0 where
   pub passed : (after : List ℕ) (at inner : ℕ) → brace_from (q ++ after) at inner false ≡ brace_from after (at + length q) inner false
   -- where they stand as a value text behind any octets, they are the value text that is read, and the brace behind them ends it
   pub value : (before after : List ℕ) (spaces : ℕ)
-      → value_text_at (before ++ (q ++ closed_by spaces after)) (length before) ≡ some (record { text = q; brace = length before + (length q + spaces) })
+      → value_text_at (before ++ (q ++ closed_by spaces after)) (length before) ≡ Some (record { text = q; brace = length before + (length q + spaces) })
   -- where an assertion is open up to its value text, which a quote is to begin, q as that text makes an item with this value; the item ends behind the
   -- brace behind q
   pub assertion : (before after : List ℕ) (at spaces : ℕ) (o : Opening) → opening_at (before ++ (34 ∷ [])) at ≡ read_to o (length before)
@@ -62,7 +62,7 @@ pub record ReadsAs (text q : List ℕ) : Type 0 where
   pub characters : (before after : List ℕ) → utf8 before ≡ true → utf8 (before ++ (q ++ after)) ≡ utf8 after
   -- a filter of one item that is made so is this item
   pub alone : (before : List ℕ) (spaces : ℕ) (o : Opening) → utf8 before ≡ true → starts (bytes "item:") before ≡ true
-      → opening_at (before ++ (34 ∷ [])) 5 ≡ read_to o (length before) → whole (before ++ (q ++ closed_by spaces [])) ≡ some (item (item_with o q))
+      → opening_at (before ++ (34 ∷ [])) 5 ≡ read_to o (length before) → whole (before ++ (q ++ closed_by spaces [])) ≡ Some (item (item_with o q))
 
 -- the octets that were written
 pub record Reads (answer : Quoted) (text memory : List ℕ) : Type 0 where

@@ -1,6 +1,6 @@
 -- A reader sees each value of a stored value at that value's place.
 use mathlib.Core.Path.{◌≡◌, subst}
-use mathlib.Core.Option.{some}
+use Rattle.std.specs.Prelude.{Some}
 use mathlib.Core.List.{List}
 use Prim.Native.Nat.{ℕ, ◌≤◌}
 use native.Mathlib.Omega.{arith}
@@ -64,5 +64,5 @@ module _ {v : List ℕ} where
     sees_elements (goes q d w) h = (sees d h, sees_elements w h)
 
 -- of a stored value, at the place of each value in it
-pub stored-seen : (ty : Ty) (v : List ℕ) (x : Value) → stored_value ty v ≡ some x → SeesAll v x
+pub stored-seen : (ty : Ty) (v : List ℕ) (x : Value) → stored_value ty v ≡ Some x → SeesAll v x
 stored-seen ty v x e = sees (decodes-stored ty v x e) (omega arith)

@@ -1,7 +1,7 @@
 -- Along a reference: one lemma for each return and each turn of the loop; its premises are the facts as the code has them.
 use mathlib.Core.Path.{◌≡◌, refl, sym, ap, ◌∙◌}
 use mathlib.Core.Bool.{Bool, true, false, not}
-use mathlib.Core.Option.{Option, none, some}
+use Rattle.std.specs.Prelude.{Option, None, Some}
 use mathlib.Core.List.{List, [], ◌∷◌}
 use Prim.Native.Nat.{ℕ}
 use borrow.Author.Tests.{not-true, not-false}
@@ -17,16 +17,16 @@ use Rattle.reference.proofs.Laws.{under-capped, ids_all}
 -- ---- identifiers from a target on
 pub along-capped : (o : Option (List Id)) (g : Option allowed.Target) → along (head_capped o) g ≡ along o g
 unfolding allowed_from
-along-capped none g = refl
-along-capped (some []) g = refl
-along-capped (some (i ∷ is)) none = refl
-along-capped (some (i ∷ is)) (some h) = ap (λ (y : Option allowed.Target). bind y (λ z. allowed_from is z)) (under-capped i h)
+along-capped None g = refl
+along-capped (Some []) g = refl
+along-capped (Some (i ∷ is)) None = refl
+along-capped (Some (i ∷ is)) (Some h) = ap (λ (y : Option allowed.Target). bind y (λ z. allowed_from is z)) (under-capped i h)
 
-pub along_next : (i : Id) (l : Option (List Id)) (g : Option allowed.Target) → along (consed i l) g ≡ along l (at_told (some i) g)
+pub along_next : (i : Id) (l : Option (List Id)) (g : Option allowed.Target) → along (consed i l) g ≡ along l (at_told (Some i) g)
 unfolding allowed_from
-along_next i none g = refl
-along_next i (some is) none = refl
-along_next i (some is) (some h) = refl
+along_next i None g = refl
+along_next i (Some is) None = refl
+along_next i (Some is) (Some h) = refl
 
 -- ---- where a reference is given
 module _ (chain : ℕ) (t s r : List ℕ) (given : Bool) where

@@ -1,7 +1,7 @@
 -- Reading one identifier: one lemma for each return and each turn of a loop; its premises are the facts as the code has them.
 use mathlib.Core.Path.{◌≡◌, refl, sym, ap, ap₂, ◌∙◌}
 use mathlib.Core.Bool.{Bool, true, false, not, false≢true}
-use mathlib.Core.Option.{Option, none, some}
+use Rattle.std.specs.Prelude.{Option, None, Some}
 use mathlib.Core.List.{List, [], ◌∷◌}
 use Prim.Native.Nat.{ℕ, suc, ◌≤◌, ◌<◌, ◌+◌, ◌-◌}
 use native.Mathlib.Omega.{arith}
@@ -133,14 +133,14 @@ module _ (p : List ℕ) where
       told_rest = told ∙ ap is_position rest-is
 
       pub other-end : (n : ℕ) → u ≡ true → n ≡ cap (decimal q) → report_piece p (Piece.FromEnd n) ≡ capped_id (other_id p)
-      other-end n h e = ap (λ (x : ℕ). some (index (from_end x))) (e ∙ ap (λ (x : List ℕ). cap (decimal x)) rest-is) ∙ sym (rw (eq-eqb (octet p 0) 45 (sym read ∙ hyphen), sym told_rest ∙ h))
+      other-end n h e = ap (λ (x : ℕ). Some (index (from_end x))) (e ∙ ap (λ (x : List ℕ). cap (decimal x)) rest-is) ∙ sym (rw (eq-eqb (octet p 0) 45 (sym read ∙ hyphen), sym told_rest ∙ h))
 
       pub other_name : (r : Piece) → u ≡ false → report_piece p r ≡ capped_id (word_id p) → report_piece p r ≡ capped_id (other_id p)
       other_name r h e = e ∙ sym (rw (eq-eqb (octet p 0) 45 (sym read ∙ hyphen), sym told_rest ∙ h))
 
   module _ (u : Bool) (told : u ≡ is_position p) where
     pub number-position : (n : ℕ) → u ≡ true → n ≡ cap (decimal p) → report_piece p (Piece.Position n) ≡ capped_id (number_id p)
-    number-position n h e = ap (λ (x : ℕ). some (index (position x))) e ∙ sym (rw (sym told ∙ h))
+    number-position n h e = ap (λ (x : ℕ). Some (index (position x))) e ∙ sym (rw (sym told ∙ h))
 
     pub number-other : (r : Piece) → u ≡ false → report_piece p r ≡ capped_id (other_id p) → report_piece p r ≡ capped_id (number_id p)
     number-other r h e = e ∙ sym (rw (sym told ∙ h))
@@ -206,7 +206,7 @@ module _ (r : List ℕ) (k e : ℕ) (within : k ≤ length r) (ends : e ≡ end_
       go true q = let z = rest-length r k in let f = far in let w = leb-true (e + 1) (length r) q in lt-ltb (dotless (drop k r)) (length (drop k r)) (omega arith)
       go false q = let z = rest-length r k in let f = far in let w = leb-false (e + 1) (length r) q in le-ltb (dotless (drop k r)) (length (drop k r)) (omega arith)
 
-      split : (u : Bool) (ps : List (List ℕ)) → ids_of (pick u ps []) ≡ pick u (ids_of ps) (some [])
+      split : (u : Bool) (ps : List (List ℕ)) → ids_of (pick u ps []) ≡ pick u (ids_of ps) (Some [])
       split true ps = refl
       split false ps = refl
 
@@ -253,9 +253,9 @@ module _ (r : List ℕ) (k : ℕ) where
   step_told Piece.Bad e n = refl
 
   head_told : (o : Option Id) (l : Option (List Id)) → bind (capped_id o) (λ i. consed i l) ≡ head_capped (bind o (λ i. consed i l))
-  head_told none l = refl
-  head_told (some i) none = refl
-  head_told (some i) (some is) = refl
+  head_told None l = refl
+  head_told (Some i) None = refl
+  head_told (Some i) (Some is) = refl
 
   module _ (e : ℕ) (within : k ≤ length r) (q : List ℕ) (piece : Piece) (s : Step) (made : s ≡ step_of piece k e (e + 1)) where
     pub next_is : e ≡ end_at r k → q ≡ part r k (e - k) → report_piece q piece ≡ capped_id (id_of q) → report_id_step r s ≡ head_capped (ids_at r k)

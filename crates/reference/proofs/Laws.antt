@@ -2,7 +2,7 @@
 use mathlib.Core.Path.{◌≡◌, refl, sym, ap, ◌∙◌}
 use mathlib.Core.Bool.{Bool, true, false, false≢true}
 use mathlib.Core.Logic.{◌⊎◌, inl, inr}
-use mathlib.Core.Option.{Option, none, some}
+use Rattle.std.specs.Prelude.{Option, None, Some}
 use mathlib.Core.List.{List, [], ◌∷◌}
 use Prim.Native.Nat.{ℕ, suc, ◌≤◌, ◌<◌, ◌+◌, ◌-◌}
 use native.Mathlib.Omega.{arith}
@@ -29,7 +29,7 @@ pub ids_all : (r : List ℕ) → ids_at r 0 ≡ read_reference r
 unfolding ids_at
 ids_all r = rw (le-leb 0 (length r) (omega arith))
 
-pub ids-over : (r : List ℕ) (k : ℕ) → length r < k → ids_at r k ≡ some []
+pub ids-over : (r : List ℕ) (k : ℕ) → length r < k → ids_at r k ≡ Some []
 unfolding ids_at
 ids-over r k h = rw (lt-leb k (length r) h)
 
@@ -43,26 +43,26 @@ pieces_some (b ∷ s) = go (eqb b 46) (pieces s) (pieces-cons b s)
     go false [] e = (b ∷ [], [], e)
     go false (q ∷ qs) e = (b ∷ q, qs, e)
 
-pub read_some : (s : List ℕ) (is : List Id) → read_reference s ≡ some is → (i : Id) × (js : List Id) × (is ≡ i ∷ js)
+pub read_some : (s : List ℕ) (is : List Id) → read_reference s ≡ Some is → (i : Id) × (js : List Id) × (is ≡ i ∷ js)
 unfolding read_reference ids_of
 read_some s is e = let w = pieces_some s in go (id_of w.0) (ids_of w.1) (sym (ap ids_of w.2) ∙ e)
   where
-    go : (o : Option Id) (l : Option (List Id)) → bind o (λ i. consed i l) ≡ some is → (i : Id) × (js : List Id) × (is ≡ i ∷ js)
-    go none l q = absurd (let z : ◌≡◌ {A = ℕ} 0 1 = cc in omega arith)
-    go (some i) none q = absurd (let z : ◌≡◌ {A = ℕ} 0 1 = cc in omega arith)
-    go (some i) (some js) q = (i, js, cc)
+    go : (o : Option Id) (l : Option (List Id)) → bind o (λ i. consed i l) ≡ Some is → (i : Id) × (js : List Id) × (is ≡ i ∷ js)
+    go None l q = absurd (let z : ◌≡◌ {A = ℕ} 0 1 = cc in omega arith)
+    go (Some i) None q = absurd (let z : ◌≡◌ {A = ℕ} 0 1 = cc in omega arith)
+    go (Some i) (Some js) q = (i, js, cc)
 
-pub ids-within : (r : List ℕ) (k : ℕ) (is : List Id) → k ≤ length r → ids_at r k ≡ some is → (i : Id) × (js : List Id) × (is ≡ i ∷ js)
+pub ids-within : (r : List ℕ) (k : ℕ) (is : List Id) → k ≤ length r → ids_at r k ≡ Some is → (i : Id) × (js : List Id) × (is ≡ i ∷ js)
 unfolding ids_at
 ids-within r k is h e = read_some (drop k r) is (rw (le-leb k (length r) h) at e)
 
 -- ---- what one step says: s is the code's step at place k
-headed : (i : Id) (l o : Option (List Id)) (is : List Id) → consed i l ≡ head_capped o → o ≡ some is
-    → (j : Id) × (js : List Id) × (is ≡ j ∷ js) × (l ≡ some js) × (capped j ≡ i)
-headed i none o [] e h = absurd (let z : ◌≡◌ {A = ℕ} 0 1 = cc in omega arith)
-headed i none o (j ∷ js) e h = absurd (let z : ◌≡◌ {A = ℕ} 0 1 = cc in omega arith)
-headed i (some l) o [] e h = absurd (let z : ◌≡◌ {A = ℕ} 0 1 = cc in omega arith)
-headed i (some l) o (j ∷ js) e h = (j, js, refl, cc, cc)
+headed : (i : Id) (l o : Option (List Id)) (is : List Id) → consed i l ≡ head_capped o → o ≡ Some is
+    → (j : Id) × (js : List Id) × (is ≡ j ∷ js) × (l ≡ Some js) × (capped j ≡ i)
+headed i None o [] e h = absurd (let z : ◌≡◌ {A = ℕ} 0 1 = cc in omega arith)
+headed i None o (j ∷ js) e h = absurd (let z : ◌≡◌ {A = ℕ} 0 1 = cc in omega arith)
+headed i (Some l) o [] e h = absurd (let z : ◌≡◌ {A = ℕ} 0 1 = cc in omega arith)
+headed i (Some l) o (j ∷ js) e h = (j, js, refl, cc, cc)
 
 as_name : (j : Id) (x : List ℕ) → capped j ≡ name x → j ≡ name x
 as_name (name y) x e = e
@@ -98,48 +98,48 @@ as_all (index all) e = refl
 
 module _ (r : List ℕ) (k : ℕ) (s : Step) (step : report_id_step r s ≡ head_capped (ids_at r k)) where
   -- no identifier stands there
-  pub bad-step : s ≡ Step.Bad → ids_at r k ≡ none
+  pub bad-step : s ≡ Step.Bad → ids_at r k ≡ None
   bad-step e = go (ids_at r k) (sym (ap (report_id_step r) e) ∙ step)
     where
-      go : (o : Option (List Id)) → none ≡ head_capped o → o ≡ none
-      go none q = refl
-      go (some []) q = absurd (let z : ◌≡◌ {A = ℕ} 0 1 = cc in omega arith)
-      go (some (i ∷ is)) q = absurd (let z : ◌≡◌ {A = ℕ} 0 1 = cc in omega arith)
+      go : (o : Option (List Id)) → None ≡ head_capped o → o ≡ None
+      go None q = refl
+      go (Some []) q = absurd (let z : ◌≡◌ {A = ℕ} 0 1 = cc in omega arith)
+      go (Some (i ∷ is)) q = absurd (let z : ◌≡◌ {A = ℕ} 0 1 = cc in omega arith)
 
   -- no more identifiers
-  pub end_step : s ≡ Step.End → ids_at r k ≡ some []
+  pub end_step : s ≡ Step.End → ids_at r k ≡ Some []
   end_step e = go (ids_at r k) (sym (ap (report_id_step r) e) ∙ step)
     where
-      go : (o : Option (List Id)) → some [] ≡ head_capped o → o ≡ some []
-      go none q = absurd (let z : ◌≡◌ {A = ℕ} 0 1 = cc in omega arith)
-      go (some []) q = refl
-      go (some (i ∷ is)) q = absurd (let z : ◌≡◌ {A = ℕ} 0 1 = cc in omega arith)
+      go : (o : Option (List Id)) → Some [] ≡ head_capped o → o ≡ Some []
+      go None q = absurd (let z : ◌≡◌ {A = ℕ} 0 1 = cc in omega arith)
+      go (Some []) q = refl
+      go (Some (i ∷ is)) q = absurd (let z : ◌≡◌ {A = ℕ} 0 1 = cc in omega arith)
 
   -- an identifier, where the whole rest of the text is well formed
-  module _ (is : List Id) (read : ids_at r k ≡ some is) where
-    pub name-step : (a b n : ℕ) → s ≡ Step.Name a b n → (js : List Id) × (is ≡ name (part r a (b - a)) ∷ js) × (ids_at r n ≡ some js)
+  module _ (is : List Id) (read : ids_at r k ≡ Some is) where
+    pub name-step : (a b n : ℕ) → s ≡ Step.Name a b n → (js : List Id) × (is ≡ name (part r a (b - a)) ∷ js) × (ids_at r n ≡ Some js)
     name-step a b n e =
         let w = headed (name (part r a (b - a))) (ids_at r n) (ids_at r k) is (sym (ap (report_id_step r) e) ∙ step) read in
         (w.1, w.2 ∙ ap (λ (j : Id). j ∷ w.1) (as_name w.0 (part r a (b - a)) w.4), w.3)
 
-    pub position-step : (i n : ℕ) → s ≡ Step.Position i n → (m : ℕ) × (js : List Id) × (is ≡ index (position m) ∷ js) × (i ≡ cap m) × (ids_at r n ≡ some js)
+    pub position-step : (i n : ℕ) → s ≡ Step.Position i n → (m : ℕ) × (js : List Id) × (is ≡ index (position m) ∷ js) × (i ≡ cap m) × (ids_at r n ≡ Some js)
     position-step i n e =
         let w = headed (index (position i)) (ids_at r n) (ids_at r k) is (sym (ap (report_id_step r) e) ∙ step) read in
         let z = as_position w.0 i w.4 in
         (z.0, w.1, w.2 ∙ ap (λ (j : Id). j ∷ w.1) z.1, z.2, w.3)
 
-    pub from_end-step : (i n : ℕ) → s ≡ Step.FromEnd i n → (m : ℕ) × (js : List Id) × (is ≡ index (from_end m) ∷ js) × (i ≡ cap m) × (ids_at r n ≡ some js)
+    pub from_end-step : (i n : ℕ) → s ≡ Step.FromEnd i n → (m : ℕ) × (js : List Id) × (is ≡ index (from_end m) ∷ js) × (i ≡ cap m) × (ids_at r n ≡ Some js)
     from_end-step i n e =
         let w = headed (index (from_end i)) (ids_at r n) (ids_at r k) is (sym (ap (report_id_step r) e) ∙ step) read in
         let z = as_from_end w.0 i w.4 in
         (z.0, w.1, w.2 ∙ ap (λ (j : Id). j ∷ w.1) z.1, z.2, w.3)
 
-    pub count-step : (n : ℕ) → s ≡ Step.Count n → (js : List Id) × (is ≡ index count ∷ js) × (ids_at r n ≡ some js)
+    pub count-step : (n : ℕ) → s ≡ Step.Count n → (js : List Id) × (is ≡ index count ∷ js) × (ids_at r n ≡ Some js)
     count-step n e =
         let w = headed (index count) (ids_at r n) (ids_at r k) is (sym (ap (report_id_step r) e) ∙ step) read in
         (w.1, w.2 ∙ ap (λ (j : Id). j ∷ w.1) (as_count w.0 w.4), w.3)
 
-    pub all-step : (n : ℕ) → s ≡ Step.All n → (js : List Id) × (is ≡ index all ∷ js) × (ids_at r n ≡ some js)
+    pub all-step : (n : ℕ) → s ≡ Step.All n → (js : List Id) × (is ≡ index all ∷ js) × (ids_at r n ≡ Some js)
     all-step n e =
         let w = headed (index all) (ids_at r n) (ids_at r k) is (sym (ap (report_id_step r) e) ∙ step) read in
         (w.1, w.2 ∙ ap (λ (j : Id). j ∷ w.1) (as_all w.0 w.4), w.3)
@@ -288,7 +288,7 @@ plain_nought : every no_quote (48 ∷ []) ≡ true
 unfolding every
 plain_nought = refl
 
-quoted_id : (p : List ℕ) → every no_quote p ≡ false → id_of p ≡ none
+quoted_id : (p : List ℕ) → every no_quote p ≡ false → id_of p ≡ None
 unfolding id_of
 quoted_id p e = rw (quoted-same p (42 ∷ []) e plain_word, quoted-same p (48 ∷ []) e plain_nought, quoted-position p e, quoted-minus p e, quoted-name p e)
 
@@ -297,16 +297,16 @@ unfoldable plain_pieces : List (List ℕ) → Bool
 plain_pieces [] = true
 plain_pieces (p ∷ ps) = let r = plain_pieces ps in both (every no_quote p) r
 
-quoted-ids : (ps : List (List ℕ)) → plain_pieces ps ≡ false → ids_of ps ≡ none
+quoted-ids : (ps : List (List ℕ)) → plain_pieces ps ≡ false → ids_of ps ≡ None
 unfolding ids_of plain_pieces
 quoted-ids [] e = absurd (false≢true (sym e))
 quoted-ids (p ∷ ps) e = go (every no_quote p) refl e (λ q. quoted-ids ps q)
   where
-    both-none : (o : Option Id) → bind o (λ i. consed i none) ≡ none
-    both-none none = refl
-    both-none (some i) = refl
+    both-none : (o : Option Id) → bind o (λ i. consed i None) ≡ None
+    both-none None = refl
+    both-none (Some i) = refl
 
-    go : (u : Bool) → every no_quote p ≡ u → both u (plain_pieces ps) ≡ false → (plain_pieces ps ≡ false → ids_of ps ≡ none) → bind (id_of p) (λ i. consed i (ids_of ps)) ≡ none
+    go : (u : Bool) → every no_quote p ≡ u → both u (plain_pieces ps) ≡ false → (plain_pieces ps ≡ false → ids_of ps ≡ None) → bind (id_of p) (λ i. consed i (ids_of ps)) ≡ None
     go false h q f = rw (quoted_id p h)
     go true h q f = rw (f q) (both-none (id_of p))
 
@@ -333,7 +333,7 @@ plain-pieces (b ∷ s) = ap plain_pieces (pieces-cons b s) ∙ go (eqb b 46) ref
     go false h e = plain-onto b (pieces s) ∙ ap (both (no_quote b)) e
 
 -- a text with a double quote anywhere is no reference
-pub quoted_no_reference : (s : List ℕ) → every no_quote s ≡ false → read_reference s ≡ none
+pub quoted_no_reference : (s : List ℕ) → every no_quote s ≡ false → read_reference s ≡ None
 unfolding read_reference
 quoted_no_reference s e = quoted-ids (pieces s) (plain-pieces s ∙ e)
 

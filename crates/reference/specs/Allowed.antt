@@ -1,6 +1,6 @@
 -- Whether a type allows a reference, and what it then leads to: a type, or the count of a list, which is an INTEGER.
 use Rattle.std.specs.Prelude.{ℕ, List, [], ◌∷◌}
-use Rattle.std.proofs.Math.Option.{Option, none, some}
+use Rattle.std.specs.Prelude.{Option, None, Some}
 use Rattle.octets.specs.Pick.{pick, bind}
 use Rattle.octets.specs.Octets.{same}
 use Rattle.types.specs.Types.{Ty, basic, sequence, choice, list_of, Members, no_more, more}
@@ -12,13 +12,13 @@ pub data Target : Type 0 where
 
 -- the type of the member or alternative with a name
 unfoldable pub member_type : List ℕ → Members → Option Ty
-member_type x no_more = none
-member_type x (more m ty ms) = let r = member_type x ms in pick (same m.name x) (some ty) r
+member_type x no_more = None
+member_type x (more m ty ms) = let r = member_type x ms in pick (same m.name x) (Some ty) r
 
 -- identifiers on SEQUENCE and CHOICE
 abbrev pub under_members : Id → Members → Option Target
-under_members (name x) ms = bind (member_type x ms) (λ ty. some (of_type ty))
-under_members (index i) ms = none
+under_members (name x) ms = bind (member_type x ms) (λ ty. Some (of_type ty))
+under_members (index i) ms = None
 
 -- positions, count and all on SEQUENCE OF and SET OF
 abbrev pub indexed : Index → Ty → Target
@@ -28,20 +28,20 @@ indexed count ty = of_count
 indexed all ty = of_type ty
 
 abbrev pub under_list : Id → Ty → Option Target
-under_list (name x) ty = none
-under_list (index i) ty = some (indexed i ty)
+under_list (name x) ty = None
+under_list (index i) ty = Some (indexed i ty)
 
 -- one component identifier at a target
 unfoldable pub under : Id → Target → Option Target
-under i of_count = none
-under i (of_type (basic k names)) = none
+under i of_count = None
+under i (of_type (basic k names)) = None
 under i (of_type (sequence ms)) = under_members i ms
 under i (of_type (choice ms)) = under_members i ms
 under i (of_type (list_of k ty)) = under_list i ty
 
 -- all of them in turn
 unfoldable pub allowed_from : List Id → Target → Option Target
-allowed_from [] g = some g
+allowed_from [] g = Some g
 allowed_from (i ∷ is) g = bind (under i g) (λ h. allowed_from is h)
 
 unfoldable pub allowed : List Id → Ty → Option Target

@@ -1,6 +1,6 @@
 -- Computed examples.
 use Rattle.std.specs.Prelude.{◌≡◌, refl, Bool, true, false, List, [], ◌∷◌, ◌++◌, map, ℕ}
-use Rattle.std.proofs.Math.Option.{Option, none, some}
+use Rattle.std.specs.Prelude.{Option, None, Some}
 use Prim.Native.String.{String}
 use Rattle.octets.specs.Pick.{bind}
 use Rattle.octets.specs.Octets.{bytes, hex}
@@ -21,19 +21,19 @@ read : String → Option (List Id)
 read s = read_reference (bytes s)
 
 good : map read ("parts.*.copies" ∷ "parts.-1" ∷ "parts.0" ∷ "a-b9" ∷ "12" ∷ "content" ∷ [])
-    ≡ some (name (bytes "parts") ∷ index all ∷ name (bytes "copies") ∷ []) ∷ some (name (bytes "parts") ∷ index (from_end 1) ∷ []) ∷ some (name (bytes "parts")
+    ≡ Some (name (bytes "parts") ∷ index all ∷ name (bytes "copies") ∷ []) ∷ Some (name (bytes "parts") ∷ index (from_end 1) ∷ []) ∷ Some (name (bytes "parts")
     ∷ index count ∷ [])
-    ∷ some (name (bytes "a-b9") ∷ []) ∷ some (index (position 12) ∷ []) ∷ some (name (bytes "content") ∷ []) ∷ []
+    ∷ Some (name (bytes "a-b9") ∷ []) ∷ Some (index (position 12) ∷ []) ∷ Some (name (bytes "content") ∷ []) ∷ []
 unfolding reference_computes read
 good = refl
 
 -- a position of any size; nothing; a dot too many; leading zeros; minus zero; a capital; hyphens; a space; a selection; two stars
-large : read "18446744073709551617" ≡ some (index (position 18446744073709551617) ∷ [])
+large : read "18446744073709551617" ≡ Some (index (position 18446744073709551617) ∷ [])
 unfolding reference_computes read
 large = refl
 
 malformed : map read ("" ∷ "." ∷ "a." ∷ ".a" ∷ "a..b" ∷ "01" ∷ "00" ∷ "-0" ∷ "-01" ∷ "-" ∷ "A" ∷ "a-" ∷ "a--b" ∷ "a b" ∷ " a" ∷ "(1)" ∷ "**" ∷ "1a" ∷ [])
-    ≡ none ∷ none ∷ none ∷ none ∷ none ∷ none ∷ none ∷ none ∷ none ∷ none ∷ none ∷ none ∷ none ∷ none ∷ none ∷ none ∷ none ∷ none ∷ []
+    ≡ None ∷ None ∷ None ∷ None ∷ None ∷ None ∷ None ∷ None ∷ None ∷ None ∷ None ∷ None ∷ None ∷ None ∷ None ∷ None ∷ None ∷ None ∷ []
 unfolding reference_computes read
 malformed = refl
 
@@ -49,12 +49,12 @@ allows s = leads_to licence_type (read s)
 
 -- the count is an INTEGER of its own; nothing is below a count or a basic type; no position on a SEQUENCE, no name on a list, no unknown name
 allowances : map allows ("event" ∷ "parts.0" ∷ "parts.*.copies" ∷ "parts.-7.name" ∷ [])
-    ≡ some (of_type (basic 8 [])) ∷ some of_count ∷ some (of_type (basic 2 [])) ∷ some (of_type (basic 9 [])) ∷ []
+    ≡ Some (of_type (basic 8 [])) ∷ Some of_count ∷ Some (of_type (basic 2 [])) ∷ Some (of_type (basic 9 [])) ∷ []
 unfolding reference_computes read allows
 allowances = refl
 
 refusals : map allows ("parts.0.1" ∷ "event.1" ∷ "1" ∷ "0" ∷ "parts.copies" ∷ "other" ∷ "Event" ∷ "event.content" ∷ "parts.*.copies.0" ∷ [])
-    ≡ none ∷ none ∷ none ∷ none ∷ none ∷ none ∷ none ∷ none ∷ none ∷ []
+    ≡ None ∷ None ∷ None ∷ None ∷ None ∷ None ∷ None ∷ None ∷ None ∷ []
 unfolding reference_computes read allows
 refusals = refl
 
@@ -66,15 +66,15 @@ holding_allows : String → Option Target
 holding_allows s = leads_to holding (read s)
 
 in_names : map holding_allows ("holder" ∷ "rdns.-1" ∷ "rdns.0" ∷ "holder.-1" ∷ "holder.0" ∷ "holder.*" ∷ "holder.content" ∷ "rdns.1.1" ∷ "rdns.*.0" ∷ [])
-    ≡ some (of_type (basic 19 [])) ∷ some (of_type (basic 20 [])) ∷ some of_count ∷ none ∷ none ∷ none ∷ none ∷ none ∷ none ∷ []
+    ≡ Some (of_type (basic 19 [])) ∷ Some (of_type (basic 20 [])) ∷ Some of_count ∷ None ∷ None ∷ None ∷ None ∷ None ∷ None ∷ []
 unfolding reference_computes read holding_allows
 in_names = refl
 
 -- ---- the three numbers of what a reference names in a record
 abbrev listed : Bool → Option (List Id) → Option Value → List ℕ
-listed d none x = []
-listed d (some is) none = []
-listed d (some is) (some x) = threes (map component (named d is x))
+listed d None x = []
+listed d (Some is) None = []
+listed d (Some is) (Some x) = threes (map component (named d is x))
 
 names : Bool → List ℕ → String → List ℕ
 names d v s = listed d (read s) (stored_value licence_type v)

@@ -1,6 +1,6 @@
 -- Component references (RFC 3687 section 3.1): component identifiers, divided by dots.
 use Rattle.std.specs.Prelude.{ℕ, Bool, List, [], ◌∷◌, drop, eqb}
-use Rattle.std.proofs.Math.Option.{Option, none, some}
+use Rattle.std.specs.Prelude.{Option, None, Some}
 use Rattle.octets.specs.Pick.{pick, both, no, consed, ◌>>=◌}
 use Rattle.octets.specs.Octets.{octet, same, bytes}
 use Rattle.octets.specs.Text.{is_name, is_number, decimal, pieces}
@@ -24,15 +24,15 @@ is_position p = both (is_number p) (no (same p (bytes "0")))
 -- and `(..)` as nothing
 unfoldable pub id_of : List ℕ → Option Id
 id_of p =
-    pick (same p (bytes "*")) (some (index all))
-    (pick (same p (bytes "0")) (some (index count))
-    (pick (is_position p) (some (index (position (decimal p))))
-    (pick (both (eqb (octet p 0) 45) (is_position (drop 1 p))) (some (index (from_end (decimal (drop 1 p)))))
-    (pick (is_name p) (some (name p))
-    none))))
+    pick (same p (bytes "*")) (Some (index all))
+    (pick (same p (bytes "0")) (Some (index count))
+    (pick (is_position p) (Some (index (position (decimal p))))
+    (pick (both (eqb (octet p 0) 45) (is_position (drop 1 p))) (Some (index (from_end (decimal (drop 1 p)))))
+    (pick (is_name p) (Some (name p))
+    None))))
 
 unfoldable pub ids_of : List (List ℕ) → Option (List Id)
-ids_of [] = some []
+ids_of [] = Some []
 ids_of (p ∷ ps) = do
   i ← id_of p
   consed i (ids_of ps)
@@ -43,9 +43,9 @@ read_reference s = ids_of (pieces s)
 
 -- the same of a reference that may be missing: "A missing reference names the whole value", by no identifiers
 abbrev pub identifiers : Option (List ℕ) → Option (List Id)
-identifiers none = some []
-identifiers (some s) = read_reference s
+identifiers None = Some []
+identifiers (Some s) = read_reference s
 
 -- of r, where it is given
 abbrev pub given_ids : Bool → List ℕ → Option (List Id)
-given_ids given r = pick given (identifiers (some r)) (identifiers none)
+given_ids given r = pick given (identifiers (Some r)) (identifiers None)

@@ -2,7 +2,7 @@
 -- the kind fixes."
 -- A row is known by the place of its first octet; the rows of a table are the list of these places.
 use Rattle.std.specs.Prelude.{ℕ, zero, suc, ◌+◌, ◌-◌, Bool, List, [], ◌∷◌, get_or, length, ltb, eqb}
-use Rattle.std.proofs.Math.Option.{Option, none, some}
+use Rattle.std.specs.Prelude.{Option, None, Some}
 use Rattle.octets.specs.Pick.{pick, either, consed, is_some}
 use Rattle.octets.specs.Octets.{octet, two, part}
 use Rattle.octets.specs.Text.{within}
@@ -94,17 +94,17 @@ is_list k = either (eqb k kind.sequence_of) (eqb k kind.set_of)
 -- the row that the row at p names: of a list its element's, of a member its type's; rows of other kinds name none
 unfoldable pub row_named : List ℕ → ℕ → Option ℕ
 row_named t p =
-    pick (is_list (kind_at t p)) (some (element_at t p))
-    (pick (is_member (kind_at t p)) (some (type_row_at t p))
-    none)
+    pick (is_list (kind_at t p)) (Some (element_at t p))
+    (pick (is_member (kind_at t p)) (Some (type_row_at t p))
+    None)
 
 -- whether it names one; the number of that row, 0 where there is none
 unfoldable pub names_row : List ℕ → ℕ → Bool
 names_row t p = is_some (row_named t p)
 
 abbrev pub or_zero : Option ℕ → ℕ
-or_zero none = 0
-or_zero (some j) = j
+or_zero None = 0
+or_zero (Some j) = j
 
 unfoldable pub named_at : List ℕ → ℕ → ℕ
 named_at t p = or_zero (row_named t p)
@@ -123,18 +123,18 @@ row_size k =
 
 -- the rows from a place on: whole ones, at most n of them
 unfoldable pub rows_from : ℕ → List ℕ → ℕ → Option (List ℕ)
-rows_from zero t at = pick (ltb at (length t)) none (some [])
+rows_from zero t at = pick (ltb at (length t)) None (Some [])
 rows_from (suc n) t at =
     let rest = rows_from n t (at + row_size (kind_at t at)) in
     pick (ltb at (length t))
-    (pick (eqb (row_size (kind_at t at)) 0) none
-    (pick (ltb (length t - at) (row_size (kind_at t at))) none
+    (pick (eqb (row_size (kind_at t at)) 0) None
+    (pick (ltb (length t - at) (row_size (kind_at t at))) None
     (consed at rest)))
-    (some [])
+    (Some [])
 
 abbrev pub or_none : Option (List ℕ) → List ℕ
-or_none none = []
-or_none (some ps) = ps
+or_none None = []
+or_none (Some ps) = ps
 
 -- the rows of a table of at most `most` whole rows; of any other, none
 unfoldable pub rows : ℕ → List ℕ → List ℕ

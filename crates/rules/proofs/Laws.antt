@@ -1,7 +1,7 @@
 -- What the steps and the layers above use: the rule for the type of a row by the row, and what a text asserts.
 use mathlib.Core.Path.{◌≡◌, refl, sym, ap, ap₂, subst, ◌∙◌}
 use mathlib.Core.Bool.{Bool, true, false, false≢true}
-use mathlib.Core.Option.{Option, none, some}
+use Rattle.std.specs.Prelude.{Option, None, Some}
 use mathlib.Core.List.{List}
 use Prim.Native.Nat.{ℕ, zero, suc, ◌<◌, ◌+◌}
 use native.Mathlib.Omega.{arith}
@@ -166,7 +166,7 @@ module _ (t w : List ℕ) (ok : Worded t w) where
         ∙ ap (λ (y : Ty). suits_target x (of_type y)) (sym (ok.ready.sound.step i here))
 
 -- ---- what a text asserts: nothing where it doesn't conform, whatever the reference leads to
-asserted_in_lem : (x : Syntax) (g : Target) (t : List ℕ) → of_bits x ≡ false → asserted_in x g t ≡ pick (conforms_to x t) (some (said_in x t)) none
+asserted_in_lem : (x : Syntax) (g : Target) (t : List ℕ) → of_bits x ≡ false → asserted_in x g t ≡ pick (conforms_to x t) (Some (said_in x t)) None
 unfolding asserted_in conforms_to said_in
 asserted_in_lem booleans g t n = refl
 asserted_in_lem integers g t n = refl
@@ -176,21 +176,21 @@ asserted_in_lem bit_strings g t n = absurd (false≢true (sym n))
 asserted_in_lem (strings fold) g t n = refl
 asserted_in_lem times g t n = go (asserted_time t)
   where
-    go : (o : Option Time) → bind o (λ u. some (time u)) ≡ pick (is_some o) (some (time_or o)) none
-    go none = refl
-    go (some u) = refl
+    go : (o : Option Time) → bind o (λ u. Some (time u)) ≡ pick (is_some o) (Some (time_or o)) None
+    go None = refl
+    go (Some u) = refl
 asserted_in_lem names g t n = go (bind (unquoted t) asserted_name)
   where
-    go : (o : Option (List (List Compared))) → bind o (λ m. some (name m)) ≡ pick (is_some o) (some (name_or o)) none
-    go none = refl
-    go (some m) = refl
+    go : (o : Option (List (List Compared))) → bind o (λ m. Some (name m)) ≡ pick (is_some o) (Some (name_or o)) None
+    go None = refl
+    go (Some m) = refl
 asserted_in_lem rdns g t n = go (bind (unquoted t) asserted_rdn)
   where
-    go : (o : Option (List Compared)) → bind o (λ l. some (rdn l)) ≡ pick (is_some o) (some (rdn_or o)) none
-    go none = refl
-    go (some l) = refl
+    go : (o : Option (List Compared)) → bind o (λ l. Some (rdn l)) ≡ pick (is_some o) (Some (rdn_or o)) None
+    go None = refl
+    go (Some l) = refl
 
-pub asserted-is : (r : Rule) (g : Target) (t : List ℕ) → read_by_target r ≡ false → asserted_of r g t ≡ pick (conforms r t) (some (said r t)) none
+pub asserted-is : (r : Rule) (g : Target) (t : List ℕ) → read_by_target r ≡ false → asserted_of r g t ≡ pick (conforms r t) (Some (said r t)) None
 unfolding asserted_of conforms said read_by_target
 asserted-is present g t n = refl
 asserted-is (equal x) g t n = asserted_in_lem x g t n
@@ -217,23 +217,23 @@ asserted_by_names (less x) g t b = asserted-bits x g t b
 
 -- ---- the rule of an assertion is for the target, and the value text conforms
 module _ (ks : List Known) (g : Target) (rule value : List ℕ) where
-  pub rule_for-none : rule_of ks rule ≡ none → rule_for ks g rule value ≡ none
+  pub rule_for-none : rule_of ks rule ≡ None → rule_for ks g rule value ≡ None
   unfolding rule_for
   rule_for-none e = rw e
 
-  if_for_lem : (r : Rule) → read_by_target r ≡ false → if_for g value r ≡ pick (both (suits r g) (conforms r value)) (some (comparison r (said r value))) none
-  if_for_lem r n = ap (λ (o : Option Asserted). pick (suits r g) (bind o (λ a. some (comparison r a))) none) (asserted-is r g value n)
+  if_for_lem : (r : Rule) → read_by_target r ≡ false → if_for g value r ≡ pick (both (suits r g) (conforms r value)) (Some (comparison r (said r value))) None
+  if_for_lem r n = ap (λ (o : Option Asserted). pick (suits r g) (bind o (λ a. Some (comparison r a))) None) (asserted-is r g value n)
       ∙ go (suits r g) (conforms r value)
     where
-      go : (a b : Bool) → pick a (bind (pick b (some (said r value)) none) (λ y. some (comparison r y))) none ≡ pick (both a b) (some (comparison r (said r value))) none
+      go : (a b : Bool) → pick a (bind (pick b (Some (said r value)) None) (λ y. Some (comparison r y))) None ≡ pick (both a b) (Some (comparison r (said r value))) None
       go true true = refl
       go true false = refl
       go false b = refl
 
-  pub rule_for-known : (r : Rule) → rule_of ks rule ≡ some r → rule_for ks g rule value ≡ if_for g value r
+  pub rule_for-known : (r : Rule) → rule_of ks rule ≡ Some r → rule_for ks g rule value ≡ if_for g value r
   unfolding rule_for
   rule_for-known r e = rw e
 
-  pub rule_for-is : (r : Rule) → read_by_target r ≡ false → rule_of ks rule ≡ some r
-      → rule_for ks g rule value ≡ pick (both (suits r g) (conforms r value)) (some (comparison r (said r value))) none
+  pub rule_for-is : (r : Rule) → read_by_target r ≡ false → rule_of ks rule ≡ Some r
+      → rule_for ks g rule value ≡ pick (both (suits r g) (conforms r value)) (Some (comparison r (said r value))) None
   rule_for-is r n e = rule_for-known r e ∙ if_for_lem r n

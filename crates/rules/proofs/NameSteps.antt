@@ -1,7 +1,7 @@
 -- Names without regard to case, and the table of rules row by row.
 use mathlib.Core.Path.{◌≡◌, refl, sym, ap, ap₂, ◌∙◌}
 use mathlib.Core.Bool.{Bool, true, false, not}
-use mathlib.Core.Option.{Option, none, some}
+use Rattle.std.specs.Prelude.{Option, None, Some}
 use mathlib.Core.List.{List, [], ◌∷◌, map}
 use Prim.Native.Nat.{ℕ, suc, ◌≤◌, ◌<◌, ◌+◌}
 use native.Mathlib.Omega.{arith}
@@ -70,12 +70,12 @@ module _ (t name oid : List ℕ) (u : Bool) (told : u ≡ same_name t name) wher
   called-oid v h e = rw (sym told ∙ h) e
 
 -- the rule of a text in a table, row by row: u is what the code found of the first row
-pub rule-none : (t : List ℕ) → none ≡ rule_of [] t
+pub rule-none : (t : List ℕ) → None ≡ rule_of [] t
 unfolding rule_of
 rule-none t = refl
 
 module _ (t name oid : List ℕ) (rule : Rule) (ks : List Known) (u : Bool) (told : u ≡ called t name oid) where
-  pub rule-here : u ≡ true → some rule ≡ rule_of (record { name = name; oid = oid; rule = rule } ∷ ks) t
+  pub rule-here : u ≡ true → Some rule ≡ rule_of (record { name = name; oid = oid; rule = rule } ∷ ks) t
   unfolding rule_of called
   rule-here h = rw (sym told ∙ h)
 

@@ -1,7 +1,7 @@
 -- One lemma for each case of a syntax or a rule.
 use mathlib.Core.Path.{◌≡◌, refl, sym, ap, ◌∙◌}
 use mathlib.Core.Bool.{Bool, true, false, not, false≢true}
-use mathlib.Core.Option.{Option, none, some}
+use Rattle.std.specs.Prelude.{Option, None, Some}
 use mathlib.Core.List.{List, map}
 use Prim.Native.Nat.{ℕ, ◌<◌, ◌+◌}
 use borrow.Author.Tests.{eq-eqb, ne_eqb, not-true, not-false}
@@ -84,20 +84,20 @@ module _ {A : Type 0} (t : List ℕ) (f : List ℕ → Option A) (u : Bool) (tol
   name-unquoted h = go (unquoted t) (sym told ∙ not-true u h)
     where
       go : (o : Option (List ℕ)) → is_some o ≡ false → false ≡ is_some (bind o f)
-      go none e = refl
-      go (some s) e = absurd (false≢true (sym e))
+      go None e = refl
+      go (Some s) e = absurd (false≢true (sym e))
 
   name-quoted : (p : List ℕ) (r : Bool) → not u ≡ false → undoubled p ≡ asserted_text t → r ≡ is_some (f (undoubled p)) → r ≡ is_some (bind (unquoted t) f)
   unfolding asserted_text
   name-quoted p r h e q = go (unquoted t) (sym told ∙ not-false u h) e
     where
       go : (o : Option (List ℕ)) → is_some o ≡ true → undoubled p ≡ text_or o → r ≡ is_some (bind o f)
-      go none n w = absurd (false≢true n)
-      go (some s) n w = q ∙ ap (λ (y : List ℕ). is_some (f y)) w
+      go None n w = absurd (false≢true n)
+      go (Some s) n w = q ∙ ap (λ (y : List ℕ). is_some (f y)) w
 
 is_mapped : {A B : Type 0} (f : A → B) (o : Option A) → is_some (mapped f o) ≡ is_some o
-is_mapped f none = refl
-is_mapped f (some a) = refl
+is_mapped f None = refl
+is_mapped f (Some a) = refl
 
 module _ (t : List ℕ) (u : Bool) (told : u ≡ is_some (unquoted t)) (p : List ℕ) (r : Bool) (h : not u ≡ false) (e : undoubled p ≡ asserted_text t) where
   pub name-is : r ≡ is_some (distinguished_name (undoubled p)) → r ≡ is_some (bind (unquoted t) asserted_name)

@@ -2,7 +2,7 @@
 -- bits, strings and times are in the crates integers, digits, strings and times, lists of names of bits in bitnames, distinguished names in names; dotted OIDs
 -- in der/specs/Dotted.
 use Rattle.std.specs.Prelude.{ℕ, Bool, List, eqb}
-use Rattle.std.proofs.Math.Option.{Option, none, some}
+use Rattle.std.specs.Prelude.{Option, None, Some}
 use Rattle.octets.specs.Pick.{pick, either, bind}
 use Rattle.octets.specs.Octets.{same, bytes}
 use Rattle.octets.specs.Quoted.{unquoted}
@@ -42,20 +42,20 @@ is_truth t = either (same t (bytes "TRUE")) (same t (bytes "FALSE"))
 
 -- a text asserts this, if it conforms
 abbrev pub asserts : Bool → Asserted → Option Asserted
-asserts conforms a = pick conforms (some a) none
+asserts conforms a = pick conforms (Some a) None
 
 -- the names of bits, where the reference leads to a BIT STRING with names
 abbrev pub names_at : Target → Option (List NamedBit)
-names_at (of_type (basic k ns)) = pick (eqb k kind.named_bit_string) (some ns) none
-names_at (of_type (sequence ms)) = none
-names_at (of_type (choice ms)) = none
-names_at (of_type (list_of k ty)) = none
-names_at of_count = none
+names_at (of_type (basic k ns)) = pick (eqb k kind.named_bit_string) (Some ns) None
+names_at (of_type (sequence ms)) = None
+names_at (of_type (choice ms)) = None
+names_at (of_type (list_of k ty)) = None
+names_at of_count = None
 
 -- bits; with names trailing zeros don't count, and "the assertion may also be a GSER list of the names in braces" (document 02, Q-2)
 unfoldable pub asserted_bits_by : Option (List NamedBit) → List ℕ → Option Asserted
-asserted_bits_by none t = asserts (is_bits t) (bits (asserted_bits t))
-asserted_bits_by (some ns) t = pick (is_bits t) (some (named_bits (asserted_bits t))) (bind (listed_bits ns t) (λ l. some (named_bits l)))
+asserted_bits_by None t = asserts (is_bits t) (bits (asserted_bits t))
+asserted_bits_by (Some ns) t = pick (is_bits t) (Some (named_bits (asserted_bits t))) (bind (listed_bits ns t) (λ l. Some (named_bits l)))
 
 -- OIDs: "a name there doesn't conform"; "asserted names are quoted RFC 4514 strings" (document 02, Q-3)
 unfoldable pub asserted_in : Syntax → Target → List ℕ → Option Asserted
@@ -65,9 +65,9 @@ asserted_in object_identifiers g t = asserts (is_dotted t) (arcs (dotted_arcs t)
 asserted_in octet_strings g t = asserts (is_octets t) (octets (asserted_octets t))
 asserted_in bit_strings g t = asserted_bits_by (names_at g) t
 asserted_in (strings fold) g t = asserts (is_text t) (text fold (asserted_text t))
-asserted_in times g t = bind (asserted_time t) (λ u. some (time u))
-asserted_in names g t = bind (bind (unquoted t) asserted_name) (λ n. some (name n))
-asserted_in rdns g t = bind (bind (unquoted t) asserted_rdn) (λ l. some (rdn l))
+asserted_in times g t = bind (asserted_time t) (λ u. Some (time u))
+asserted_in names g t = bind (bind (unquoted t) asserted_name) (λ n. Some (name n))
+asserted_in rdns g t = bind (bind (unquoted t) asserted_rdn) (λ l. Some (rdn l))
 
 -- presentMatch: "value `NULL`"
 unfoldable pub asserted_of : Rule → Target → List ℕ → Option Asserted

@@ -1,7 +1,7 @@
 -- Rules: the table of matching rules, with names and object identifiers.
 use Rattle.std.specs.Prelude.{ℕ, Bool, true, false, List, [], ◌∷◌, map}
 use Prim.Native.String.{String}
-use Rattle.std.proofs.Math.Option.{Option, none, some}
+use Rattle.std.specs.Prelude.{Option, None, Some}
 use Rattle.octets.specs.Pick.{pick, either}
 use Rattle.octets.specs.Octets.{same, bytes}
 use Rattle.octets.specs.Text.{lower}
@@ -57,5 +57,5 @@ same_name a b = same (map lower a) (map lower b)
 
 -- the rule that a name or dotted OID has among the known ones; none where it is unknown
 unfoldable pub rule_of : List Known → List ℕ → Option Rule
-rule_of [] t = none
-rule_of (k ∷ ks) t = let r = rule_of ks t in pick (either (same_name t k.name) (same t k.oid)) (some k.rule) r
+rule_of [] t = None
+rule_of (k ∷ ks) t = let r = rule_of ks t in pick (either (same_name t k.name) (same t k.oid)) (Some k.rule) r

@@ -1,6 +1,6 @@
 -- The rule of an assertion with what it asserts: none where "its rule is unknown or not for that type, or its value text doesn't conform".
 use Rattle.std.specs.Prelude.{ℕ, List}
-use Rattle.std.proofs.Math.Option.{Option, none, some}
+use Rattle.std.specs.Prelude.{Option, None, Some}
 use Rattle.octets.specs.Pick.{pick, bind}
 use Rattle.reference.specs.Allowed.{Target}
 use Rattle.rules.specs.Rule.{Rule, Known, rule_of}
@@ -16,7 +16,7 @@ comparison r a = record { rule = r; asserted = a }
 
 -- a rule that is for the target g, with what the value text asserts there
 abbrev pub if_for : Target → List ℕ → Rule → Option Comparison
-if_for g value r = pick (suits r g) (bind (asserted_of r g value) (λ a. some (comparison r a))) none
+if_for g value r = pick (suits r g) (bind (asserted_of r g value) (λ a. Some (comparison r a))) None
 
 -- of its rule's text and its value text, at what its reference leads to; ks are the known rules
 unfoldable pub rule_for : List Known → Target → List ℕ → List ℕ → Option Comparison

@@ -1,7 +1,7 @@
 -- What the layers above use of quoted strings.
 use mathlib.Core.Path.{◌≡◌, refl, sym, ap, ◌∙◌}
 use mathlib.Core.Bool.{Bool}
-use mathlib.Core.Option.{Option, none, some}
+use Rattle.std.specs.Prelude.{Option, None, Some}
 use mathlib.Core.List.{List}
 use Prim.Native.Nat.{ℕ}
 use native.Mathlib.Omega.{arith}
@@ -17,8 +17,8 @@ unfolding asserted_text is_text
 some_text_lem t = go (unquoted t)
   where
     go : (o : Option (List ℕ)) → leb 1 (length (text_or o)) ≡ some_text o
-    go none = lt-leb 1 0 (omega arith)
-    go (some s) = refl
+    go None = lt-leb 1 0 (omega arith)
+    go (Some s) = refl
 
 -- a text conforms where octets stand between its quotes
 pub text-is : (t p : List ℕ) (r : Bool) → undoubled p ≡ asserted_text t → r ≡ leb 1 (length p) → r ≡ is_text t

@@ -1,7 +1,7 @@
 -- Quoted strings and characters: one lemma for each return; its premises are the facts as the code has them.
 use mathlib.Core.Path.{◌≡◌, refl, sym, ap, ap₂, ◌∙◌}
 use mathlib.Core.Bool.{Bool, true, false, not, false≢true}
-use mathlib.Core.Option.{none, some}
+use Rattle.std.specs.Prelude.{None, Some}
 use mathlib.Core.List.{List, [], ◌∷◌}
 use Prim.Native.Nat.{ℕ, ◌≤◌, ◌<◌, ◌+◌, ◌-◌, ◌*◌}
 use native.Mathlib.Omega.{arith}
@@ -23,11 +23,11 @@ use Rattle.strings.specs.declared.Form.{Form}
 use Rattle.strings.specs.declared.Letter.{Letter}
 
 -- ---- what stands between the quotes
-text-none : (t : List ℕ) → unquoted t ≡ none → [] ≡ asserted_text t
+text-none : (t : List ℕ) → unquoted t ≡ None → [] ≡ asserted_text t
 unfolding asserted_text
 text-none t e = rw e
 
-nothing : (t p : List ℕ) → p ≡ part t 0 0 → unquoted t ≡ none → undoubled p ≡ asserted_text t
+nothing : (t p : List ℕ) → p ≡ part t 0 0 → unquoted t ≡ None → undoubled p ≡ asserted_text t
 nothing t p e h = ap undoubled e ∙ undoubled-nil ∙ text-none t h
 
 module _ (t p : List ℕ) (r : Place) (told : answers.report_place r ≡ closing_at t 0) where
@@ -35,7 +35,7 @@ module _ (t p : List ℕ) (r : Place) (told : answers.report_place r ≡ closing
   part_unclosed h e = nothing t p e (unquoted-none t (sym told ∙ ap answers.report_place h))
 
   module _ (close : ℕ) (h : r ≡ Place.At close) where
-    closed : closing_at t 0 ≡ some close
+    closed : closing_at t 0 ≡ Some close
     closed = sym told ∙ ap answers.report_place h
 
     pub part-past : length t ≤ close → p ≡ part t 0 0 → undoubled p ≡ asserted_text t
@@ -62,7 +62,7 @@ module _ (t : List ℕ) (r : Place) (told : answers.report_place r ≡ closing_a
   is_unclosed h = rw (unquoted-none t (sym told ∙ ap answers.report_place h))
 
   module _ (close : ℕ) (h : r ≡ Place.At close) where
-    is-closed : closing_at t 0 ≡ some close
+    is-closed : closing_at t 0 ≡ Some close
     is-closed = sym told ∙ ap answers.report_place h
 
     pub is-past : length t ≤ close → false ≡ is_some (unquoted t)
@@ -131,8 +131,8 @@ module _ (s : List ℕ) (at : ℕ) (h : at < length s) where
     pub escaped-last : length s - at ≡ 1 → 92 ∷ unescaped (drop (at + 1) s) ≡ unescaped (drop at s)
     unfolding unescaped
     escaped-last e =
-        let none = rest-none s (at + 1) (omega arith) in
-        ap (λ (l : List ℕ). 92 ∷ unescaped l) none ∙ sym (ap unescaped (rest-cons s at h ∙ ap₂ (λ (b : ℕ) (l : List ℕ). b ∷ l) backslash none))
+        let None = rest-none s (at + 1) (omega arith) in
+        ap (λ (l : List ℕ). 92 ∷ unescaped l) None ∙ sym (ap unescaped (rest-cons s at h ∙ ap₂ (λ (b : ℕ) (l : List ℕ). b ∷ l) backslash None))
 
     next : 2 ≤ length s - at → drop (at + 1) s ≡ octet s (at + 1) ∷ drop (at + 2) s
     next more = let e : at + 1 + 1 ≡ at + 2 = omega arith in rest-cons s (at + 1) (omega arith) ∙ ap (λ (n : ℕ). octet s (at + 1) ∷ drop n s) e
@@ -140,10 +140,10 @@ module _ (s : List ℕ) (at : ℕ) (h : at < length s) where
     pub escaped-one : length s - at ≡ 2 → octet s (at + 1) ∷ unescaped (drop (at + 2) s) ≡ unescaped (drop at s)
     unfolding unescaped
     escaped-one e =
-        let none = rest-none s (at + 2) (omega arith) in
-        ap (λ (l : List ℕ). octet s (at + 1) ∷ unescaped l) none
+        let None = rest-none s (at + 2) (omega arith) in
+        ap (λ (l : List ℕ). octet s (at + 1) ∷ unescaped l) None
         ∙ sym (ap unescaped (rest-cons s at h ∙ ap₂ (λ (b : ℕ) (l : List ℕ). b ∷ l) backslash
-        (next (omega arith) ∙ ap (λ (l : List ℕ). octet s (at + 1) ∷ l) none)))
+        (next (omega arith) ∙ ap (λ (l : List ℕ). octet s (at + 1) ∷ l) None)))
 
 -- a backslash before two octets or more
 module _ (s : List ℕ) (at : ℕ) (here : at + 2 < length s) (backslash : octet s at ≡ 92) where

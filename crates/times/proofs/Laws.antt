@@ -1,7 +1,7 @@
 -- Asserted times, by what stands between the quotes: what the steps and the layers above use.
 use mathlib.Core.Path.{◌≡◌, refl, sym, ap, ◌∙◌}
 use mathlib.Core.Bool.{Bool, true, false, false≢true}
-use mathlib.Core.Option.{none, some}
+use Rattle.std.specs.Prelude.{None, Some}
 use mathlib.Core.List.{List}
 use Prim.Native.Nat.{ℕ, ◌≤◌}
 use native.Mathlib.Omega.{arith}
@@ -39,11 +39,11 @@ time_some : (t : List ℕ) → is_time t ≡ is_some (asserted_time t)
 unfolding asserted_time
 time_some t = go (is_time t)
   where
-    go : (b : Bool) → b ≡ is_some (pick b (some (time_of (asserted_text t))) none)
+    go : (b : Bool) → b ≡ is_some (pick b (Some (time_of (asserted_text t))) None)
     go true = refl
     go false = refl
 
-pub time-asserted : (t : List ℕ) → is_some (asserted_time t) ≡ true → asserted_time t ≡ some (time_of (asserted_text t))
+pub time-asserted : (t : List ℕ) → is_some (asserted_time t) ≡ true → asserted_time t ≡ Some (time_of (asserted_text t))
 unfolding asserted_time
 time-asserted t e = rw (time_some t ∙ e)
 

@@ -1,6 +1,6 @@
 -- Computed examples.
 use Rattle.std.specs.Prelude.{◌≡◌, refl, true, false, [], ◌∷◌, map}
-use Rattle.std.proofs.Math.Option.{none, some}
+use Rattle.std.specs.Prelude.{None, Some}
 use Rattle.octets.specs.Octets.{bytes}
 use Rattle.der.specs.Computing.{der_computes}
 use Rattle.strings.specs.Asserted.{is_text, asserted_text}
@@ -13,6 +13,6 @@ unfolding der_computes is_text asserted_text is_time
 conforming = refl
 
 read : map asserted_time (bytes "\"20240229120000.5Z\"" ∷ bytes "\"20230229120000Z\"" ∷ [])
-    ≡ some (record { stamp = 20240229120000; fraction = 500000000 }) ∷ none ∷ []
+    ≡ Some (record { stamp = 20240229120000; fraction = 500000000 }) ∷ None ∷ []
 unfolding der_computes is_text asserted_text is_time asserted_time
 read = refl

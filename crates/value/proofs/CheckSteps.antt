@@ -1,7 +1,7 @@
 -- The check of one value: one lemma for each return; its premises are the facts as the code has them.
 use mathlib.Core.Path.{◌≡◌, refl, sym, ap, ap₂, ◌∙◌}
 use mathlib.Core.Bool.{Bool, true, false}
-use mathlib.Core.Option.{Option, none, some}
+use Rattle.std.specs.Prelude.{Option, None, Some}
 use mathlib.Core.List.{List}
 use Prim.Native.Nat.{ℕ, ◌<◌, ◌+◌, ◌-◌, ◌*◌}
 use native.Mathlib.Omega.{arith}
@@ -34,7 +34,7 @@ use Rattle.value.proofs.ModeSteps.{own_tag, mode_tag, mode_wrapper, is-explicit,
 pub told_leaf : (k : ℕ) (v : List ℕ) (at start n : ℕ) → checked (leaf_of k v at start n) ≡ up_to (start + n) (legal k (part v start n))
 told_leaf k v at start n = go (legal k (part v start n))
   where
-    go : (x : Bool) → checked (pick x (decoded (leaf k (spot_at v at start n)) (start + n)) none) ≡ up_to (start + n) x
+    go : (x : Bool) → checked (pick x (decoded (leaf k (spot_at v at start n)) (start + n)) None) ≡ up_to (start + n) x
     go true = refl
     go false = refl
 
@@ -42,19 +42,19 @@ told-fields : (v : List ℕ) (at : ℕ) (f : ℕ → ℕ → Option Fields) (sta
 told-fields v at f start n = go (f (start + n) start)
   where
     go : (o : Option Fields) → checked (bind o (λ fs. decoded (fields (spot_at v at start n) fs) (start + n))) ≡ up_to (start + n) (is_some o)
-    go none = refl
-    go (some fs) = refl
+    go None = refl
+    go (Some fs) = refl
 
 told_elements : (k : ℕ) (v : List ℕ) (at : ℕ) (f : ℕ → ℕ → ℕ → Option Values) (start n : ℕ) → checked (elements_of k v at f start n) ≡ up_to (start + n) (in_order k v (f n (start + n) start))
 told_elements k v at f start n = go (f n (start + n) start)
   where
-    by : (x : Bool) (d : Decoded) → d.after ≡ start + n → checked (pick x (some d) none) ≡ up_to (start + n) x
+    by : (x : Bool) (d : Decoded) → d.after ≡ start + n → checked (pick x (Some d) None) ≡ up_to (start + n) x
     by true d e = ap Checked.At e
     by false d e = refl
 
-    go : (o : Option Values) → checked (bind o (λ xs. pick (either (eqb k kind.sequence_of) (rising v xs)) (some (record { value = Value.elements (spot_at v at start n) xs; after = start + n })) none)) ≡ up_to (start + n) (in_order k v o)
-    go none = refl
-    go (some xs) = by (either (eqb k kind.sequence_of) (rising v xs)) _ refl
+    go : (o : Option Values) → checked (bind o (λ xs. pick (either (eqb k kind.sequence_of) (rising v xs)) (Some (record { value = Value.elements (spot_at v at start n) xs; after = start + n })) None)) ≡ up_to (start + n) (in_order k v o)
+    go None = refl
+    go (Some xs) = by (either (eqb k kind.sequence_of) (rising v xs)) _ refl
 
 module _ (chain : ℕ) (t s m : List ℕ) (row : ℕ) (ok : Sound chain t s m) (here : row < length s) (k : ℕ) (read : k ≡ kind_at t (row_at s row)) where
   abbrev element : Ty
@@ -198,25 +198,25 @@ module _ (ty : Ty) (v : List ℕ) (at end number : ℕ) where
     wrapped_misfit e = rw (explicit-decode, wrapper Inside.Misfit e)
 
     module _ (start n : ℕ) (found : h ≡ Inside.Of start n) (c : Checked) (inner : c ≡ checked (unwrapped ty (tagging_of 1 number) v start (start + n))) where
-      filling : checked (decode ty (tagging_of 1 number) v at end) ≡ checked (bind (unwrapped ty (tagging_of 1 number) v start (start + n)) (λ d. pick (eqb d.after (start + n)) (some d) none))
+      filling : checked (decode ty (tagging_of 1 number) v at end) ≡ checked (bind (unwrapped ty (tagging_of 1 number) v start (start + n)) (λ d. pick (eqb d.after (start + n)) (Some d) None))
       filling =
           ap checked
           (explicit-decode ∙ ap (λ (i : Inside). opened i (inside after_of (unwrapped ty (tagging_of 1 number) v))) (wrapper (Inside.Of start n) found))
 
-      filled : (x : Option Decoded) (a : ℕ) → Checked.At a ≡ checked x → checked (bind x (λ d. pick (eqb d.after (start + n)) (some d) none)) ≡ pick (eqb a (start + n)) (Checked.At a) Checked.Bad
-      filled none a e = absurd (let z : ◌≡◌ {A = ℕ} 0 1 = cc in omega arith)
-      filled (some d) a e = let q : a ≡ d.after = cc in rw q (go (eqb d.after (start + n)))
+      filled : (x : Option Decoded) (a : ℕ) → Checked.At a ≡ checked x → checked (bind x (λ d. pick (eqb d.after (start + n)) (Some d) None)) ≡ pick (eqb a (start + n)) (Checked.At a) Checked.Bad
+      filled None a e = absurd (let z : ◌≡◌ {A = ℕ} 0 1 = cc in omega arith)
+      filled (Some d) a e = let q : a ≡ d.after = cc in rw q (go (eqb d.after (start + n)))
         where
-          go : (x : Bool) → checked (pick x (some d) none) ≡ pick x (Checked.At d.after) Checked.Bad
+          go : (x : Bool) → checked (pick x (Some d) None) ≡ pick x (Checked.At d.after) Checked.Bad
           go true = refl
           go false = refl
 
       wrapped_inner : c ≡ Checked.Bad → Checked.Bad ≡ checked (decode ty (tagging_of 1 number) v at end)
       wrapped_inner e = sym (filling ∙ go (unwrapped ty (tagging_of 1 number) v start (start + n)) (sym e ∙ inner))
         where
-          go : (x : Option Decoded) → Checked.Bad ≡ checked x → checked (bind x (λ d. pick (eqb d.after (start + n)) (some d) none)) ≡ Checked.Bad
-          go none q = refl
-          go (some d) q = absurd (let z : ◌≡◌ {A = ℕ} 0 1 = cc in omega arith)
+          go : (x : Option Decoded) → Checked.Bad ≡ checked x → checked (bind x (λ d. pick (eqb d.after (start + n)) (Some d) None)) ≡ Checked.Bad
+          go None q = refl
+          go (Some d) q = absurd (let z : ◌≡◌ {A = ℕ} 0 1 = cc in omega arith)
 
       module _ (next : ℕ) (after : c ≡ Checked.At next) where
         whole : checked (decode ty (tagging_of 1 number) v at end) ≡ pick (eqb next (start + n)) (Checked.At next) Checked.Bad

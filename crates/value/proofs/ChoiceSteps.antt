@@ -1,7 +1,7 @@
 -- Alternatives: one lemma for each return; its premises are the facts as the code has them.
 use mathlib.Core.Path.{◌≡◌, refl, sym, ap, ap₂, ◌∙◌}
 use mathlib.Core.Bool.{Bool, true, false}
-use mathlib.Core.Option.{Option, none, some}
+use Rattle.std.specs.Prelude.{Option, None, Some}
 use mathlib.Core.List.{List}
 use Prim.Native.Nat.{ℕ, zero, suc, ◌≤◌, ◌<◌, ◌+◌}
 use native.Mathlib.Omega.{arith}
@@ -23,8 +23,8 @@ told_choice : (mem : Member) (ty : Ty) (g : Tagging) (v : List ℕ) (at end : �
 told_choice mem ty g v at end = go (decode ty g v at end) refl
   where
     go : (o : Option Decoded) → decode ty g v at end ≡ o → checked (choice_of mem v at end o) ≡ checked o
-    go none q = refl
-    go (some d) q = let w = framed_by (decodes-tagged ty g v at end d q) in rw w.header
+    go None q = refl
+    go (Some d) q = let w = framed_by (decodes-tagged ty g v at end d q) in rw w.header
 
 module _ (chain : ℕ) (t s m : List ℕ) (row : ℕ) (ok : Sound chain t s m) (here : row < length s) (v : List ℕ) (at end : ℕ) where
   abbrev tests : ℕ → Bool
@@ -46,37 +46,37 @@ module _ (chain : ℕ) (t s m : List ℕ) (row : ℕ) (ok : Sound chain t s m) (
       let q : row + 1 + a + 1 ≡ row + 1 + (a + 1) = omega arith in
       ap (λ (x : ℕ). pick (tests a) (taken a) (alternative_from (members_from (type_from chain t s) t s x k) v at end)) q
 
-  none_left : (a : ℕ) → alternative_from (members_from (type_from chain t s) t s (row + 1 + a) 0) v at end ≡ none
+  none_left : (a : ℕ) → alternative_from (members_from (type_from chain t s) t s (row + 1 + a) 0) v at end ≡ None
   unfolding members_from unwrapped
   none_left a = refl
 
   by_first : (k a : ℕ)
-      → alternative_from (members_from (type_from chain t s) t s (row + 1 + a) k) v at end ≡ pick (ltb (first tests k a) (a + k)) (taken (first tests k a)) none
+      → alternative_from (members_from (type_from chain t s) t s (row + 1 + a) k) v at end ≡ pick (ltb (first tests k a) (a + k)) (taken (first tests k a)) None
   by_first zero a =
       let q : ltb a (a + 0) ≡ false = le-ltb a (a + 0) (omega arith) in
-      none_left a ∙ sym (ap (λ (x : ℕ). pick (ltb x (a + 0)) (taken x) none) (sym (first-none tests a)) ∙ ap (λ (x : Bool). pick x (taken a) none) q)
+      none_left a ∙ sym (ap (λ (x : ℕ). pick (ltb x (a + 0)) (taken x) None) (sym (first-none tests a)) ∙ ap (λ (x : Bool). pick x (taken a) None) q)
   by_first (suc k) a =
       one a k
       ∙ ap (pick (tests a) (taken a)) (by_first k (a + 1))
       ∙ found a k (tests a)
-      ∙ ap (λ (x : ℕ). pick (ltb x (a + suc k)) (taken x) none) (sym (first_step_lem tests k a))
+      ∙ ap (λ (x : ℕ). pick (ltb x (a + suc k)) (taken x) None) (sym (first_step_lem tests k a))
     where
-      found : (a k : ℕ) (x : Bool) → pick x (taken a) (pick (ltb (first tests k (a + 1)) (a + 1 + k)) (taken (first tests k (a + 1))) none)
-          ≡ pick (ltb (pick x a (first tests k (a + 1))) (a + suc k)) (taken (pick x a (first tests k (a + 1)))) none
-      found a k true = let q : ltb a (a + suc k) ≡ true = lt-ltb a (a + suc k) (omega arith) in sym (ap (λ (x : Bool). pick x (taken a) none) q)
-      found a k false = let q : a + 1 + k ≡ a + suc k = omega arith in ap (λ (x : ℕ). pick (ltb (first tests k (a + 1)) x) (taken (first tests k (a + 1))) none) q
+      found : (a k : ℕ) (x : Bool) → pick x (taken a) (pick (ltb (first tests k (a + 1)) (a + 1 + k)) (taken (first tests k (a + 1))) None)
+          ≡ pick (ltb (pick x a (first tests k (a + 1))) (a + suc k)) (taken (pick x a (first tests k (a + 1)))) None
+      found a k true = let q : ltb a (a + suc k) ≡ true = lt-ltb a (a + suc k) (omega arith) in sym (ap (λ (x : Bool). pick x (taken a) None) q)
+      found a k false = let q : a + 1 + k ≡ a + suc k = omega arith in ap (λ (x : ℕ). pick (ltb (first tests k (a + 1)) x) (taken (first tests k (a + 1))) None) q
 
   module _ (n j : ℕ) (counted : n ≡ members_at t (row_at s row)) (found : j ≡ first (starts_of chain t s row v end at) n 0) where
-    whole : alternative_from (members_from (type_from chain t s) t s (row + 1) (members_at t (row_at s row))) v at end ≡ pick (ltb j n) (taken j) none
+    whole : alternative_from (members_from (type_from chain t s) t s (row + 1) (members_at t (row_at s row))) v at end ≡ pick (ltb j n) (taken j) None
     whole =
         let a : row + 1 ≡ row + 1 + 0 = omega arith in
         let d : 0 + n ≡ n = omega arith in
         ap₂ (λ (x y : ℕ). alternative_from (members_from (type_from chain t s) t s x y) v at end) a (sym counted)
         ∙ by_first n 0
-        ∙ ap₂ (λ (x y : ℕ). pick (ltb x y) (taken x) none) (sym found) d
+        ∙ ap₂ (λ (x y : ℕ). pick (ltb x y) (taken x) None) (sym found) d
 
     pub choice-none : n ≤ j → Checked.Bad ≡ checked (alternative_from (members_from (type_from chain t s) t s (row + 1) (members_at t (row_at s row))) v at end)
-    choice-none h = sym (ap checked (whole ∙ ap (λ (x : Bool). pick x (taken j) none) (le-ltb j n h)))
+    choice-none h = sym (ap checked (whole ∙ ap (λ (x : Bool). pick x (taken j) None) (le-ltb j n h)))
 
     module _ (l : j < n) where
       in_row : j < members_at t (row_at s row)
@@ -89,5 +89,5 @@ module _ (chain : ℕ) (t s m : List ℕ) (row : ℕ) (ok : Sound chain t s m) (
       choice-member = ok.members row here j in_row
 
       pub choice-is : (r : Checked) → r ≡ checked (alternative j) → r ≡ checked (alternative_from (members_from (type_from chain t s) t s (row + 1) (members_at t (row_at s row))) v at end)
-      choice-is r e = e ∙ sym (ap checked (whole ∙ ap (λ (x : Bool). pick x (taken j) none) (lt-ltb j n l))
+      choice-is r e = e ∙ sym (ap checked (whole ∙ ap (λ (x : Bool). pick x (taken j) None) (lt-ltb j n l))
           ∙ told_choice (member_of t (row + 1 + j) (row_at s (row + 1 + j))) (type_from chain t s (named_at t (row_at s (row + 1 + j)))) (tagging_of (mode_at t (row_at s (row + 1 + j))) (number_at t (row_at s (row + 1 + j)))) v at end)

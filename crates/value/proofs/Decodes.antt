@@ -1,7 +1,7 @@
 -- The families of `specs/Inner/Decodes` are made from the decoder's equations; what they say of the header at a value's place.
 use mathlib.Core.Path.{◌≡◌, refl, sym, ap₂, ◌∙◌, subst}
 use mathlib.Core.Bool.{Bool, true, false}
-use mathlib.Core.Option.{Option, none, some}
+use Rattle.std.specs.Prelude.{Option, None, Some}
 use mathlib.Core.List.{List}
 use Prim.Native.Nat.{ℕ, zero, suc, ◌≤◌, ◌+◌}
 use borrow.Author.Tests.{eqb-true, eq-eqb, ltb-true, ltb-false}
@@ -82,10 +82,10 @@ behind_any v at end start n after e w =
 
 -- what is decoded inside a wrapper, at any place, is made; the same under a tag mode, at a place
 abbrev Made : List ℕ → Ty → Tagging → Decoded → Type 0
-Made v ty g d = (a e : ℕ) → unwrapped ty g v a e ≡ some d → Decodes v ty g a e d.value d.after
+Made v ty g d = (a e : ℕ) → unwrapped ty g v a e ≡ Some d → Decodes v ty g a e d.value d.after
 
 abbrev MadeTagged : List ℕ → Ty → Tagging → ℕ → ℕ → Decoded → Type 0
-MadeTagged v ty g at end d = in_wrapper after_of g (λ a e. unwrapped ty g v a e) v at end ≡ some d → Tagged v ty g at end d.value d.after
+MadeTagged v ty g at end d = in_wrapper after_of g (λ a e. unwrapped ty g v a e) v at end ≡ Some d → Tagged v ty g at end d.value d.after
 
 tagged-by : (ty : Ty) (g : Tagging) (v : List ℕ) (at end : ℕ) (d : Decoded) → Made v ty g d → MadeTagged v ty g at end d
 unfolding in_wrapper
@@ -96,16 +96,16 @@ tagged-by ty (explicit n) v at end d one e =
 
 -- elements, where one is made
 elements_by : (v : List ℕ) (ty : Ty) → ((d : Decoded) → Made v ty untagged d)
-    → (k stop i : ℕ) (xs : Values) → many (λ i stop. unwrapped ty untagged v i stop) k stop i ≡ some xs → Elements v ty stop k i xs
+    → (k stop i : ℕ) (xs : Values) → many (λ i stop. unwrapped ty untagged v i stop) k stop i ≡ Some xs → Elements v ty stop k i xs
 elements_by v ty one k stop i xs e = go k i xs e
   where
     f : ℕ → ℕ → Option Decoded
     f i stop = unwrapped ty untagged v i stop
 
-    over : (k i : ℕ) (xs : Values) → many f k stop i ≡ some xs → stop ≤ i → Elements v ty stop k i xs
+    over : (k i : ℕ) (xs : Values) → many f k stop i ≡ Some xs → stop ≤ i → Elements v ty stop k i xs
     over k i xs e q = subst (Elements v ty stop k i) (some_same end_values xs (sym (many-end f stop i k q) ∙ e)) (ends q)
 
-    go : (k i : ℕ) (xs : Values) → many f k stop i ≡ some xs → Elements v ty stop k i xs
+    go : (k i : ℕ) (xs : Values) → many f k stop i ≡ Some xs → Elements v ty stop k i xs
     go zero i xs e = by (ltb i stop) refl
       where
         by : (x : Bool) → ltb i stop ≡ x → Elements v ty stop zero i xs
@@ -113,7 +113,7 @@ elements_by v ty one k stop i xs e = go k i xs e
         by false q = over zero i xs e (ltb-false i stop q)
     go (suc k) i xs e = by (ltb i stop) refl (λ j ys. go k j ys)
       where
-        by : (x : Bool) → ltb i stop ≡ x → ((j : ℕ) (ys : Values) → many f k stop j ≡ some ys → Elements v ty stop k j ys) → Elements v ty stop (suc k) i xs
+        by : (x : Bool) → ltb i stop ≡ x → ((j : ℕ) (ys : Values) → many f k stop j ≡ Some ys → Elements v ty stop k j ys) → Elements v ty stop (suc k) i xs
         by false q rest = over (suc k) i xs e (ltb-false i stop q)
         by true q rest =
             let w = next_view (λ j. many f k stop j) (f i stop) xs (sym (many_more f stop i k (ltb-true i stop q)) ∙ e) in
@@ -122,7 +122,7 @@ elements_by v ty one k stop i xs e = go k i xs e
 mutual
   unfolding unwrapped
 
-  pub decodes : (ty : Ty) (g : Tagging) (v : List ℕ) (at end : ℕ) (d : Decoded) → unwrapped ty g v at end ≡ some d → Decodes v ty g at end d.value d.after
+  pub decodes : (ty : Ty) (g : Tagging) (v : List ℕ) (at end : ℕ) (d : Decoded) → unwrapped ty g v at end ≡ Some d → Decodes v ty g at end d.value d.after
   decodes (basic k names) g v at end d e =
       let w = leaf_view v at end d k names g e in
       subst (λ (y : Decoded). Decodes v (basic k names) g at end y.value y.after) w.4 (is_basic_type (behind w.2) w.3)
@@ -136,7 +136,7 @@ mutual
       let turn = elements_by v ty (λ x i stop q. decodes ty untagged v i stop x q) w.1 (w.0 + w.1) w.0 w.2 w.4 in
       subst (λ (y : Decoded). Decodes v (list_of k ty) g at end y.value y.after) w.6 (is-list (behind w.3) turn w.5)
 
-  decodes-fields : (ms : Members) (v : List ℕ) (stop i : ℕ) (fs : Fields) → fields_from ms v stop i ≡ some fs → Fielded v stop ms i fs
+  decodes-fields : (ms : Members) (v : List ℕ) (stop i : ℕ) (fs : Fields) → fields_from ms v stop i ≡ Some fs → Fielded v stop ms i fs
   decodes-fields no_more v stop i fs e =
       let w = pick_view (eqb i stop) end_fields fs e in subst (Fielded v stop no_more i) w.1 (none_left (eqb-true i stop w.0))
   decodes-fields (more m ty ms) v stop i fs e =
@@ -150,14 +150,14 @@ mutual
       rest i = fields_from ms v stop i
 
       go : (b : Bool) → starts_here m ty v stop i ≡ b → ((d : Decoded) → MadeTagged v ty m.tagging i stop d)
-          → ((j : ℕ) (gs : Fields) → rest j ≡ some gs → Fielded v stop ms j gs)
-          → pick b (present_then m rest member) (absent_then m (rest i)) ≡ some fs → Fielded v stop (more m ty ms) i fs
+          → ((j : ℕ) (gs : Fields) → rest j ≡ Some gs → Fielded v stop ms j gs)
+          → pick b (present_then m rest member) (absent_then m (rest i)) ≡ Some fs → Fielded v stop (more m ty ms) i fs
       go true q one others f =
           let w = present_view m rest member fs f in
           subst (Fielded v stop (more m ty ms) i) w.5 (there q (one w.0 w.2) w.3 (others w.0.after w.1 w.4))
       go false q one others f = let w = absent_view m (rest i) fs f in subst (Fielded v stop (more m ty ms) i) w.3 (lacks q w.1 (others i w.0 w.2))
 
-  decodes-choice : (ms : Members) (v : List ℕ) (at end : ℕ) (d : Decoded) → alternative_from ms v at end ≡ some d → Chosen v end at ms d.value d.after
+  decodes-choice : (ms : Members) (v : List ℕ) (at end : ℕ) (d : Decoded) → alternative_from ms v at end ≡ Some d → Chosen v end at ms d.value d.after
   decodes-choice no_more v at end d e = none-some d e
   decodes-choice (more m ty ms) v at end d e =
       go (starts_here m ty v end at) refl (λ x q. tagged-by ty m.tagging v at end x (λ a z r. decodes ty m.tagging v a z x r) q)
@@ -167,8 +167,8 @@ mutual
       alternative = in_wrapper after_of m.tagging (λ a e. unwrapped ty m.tagging v a e) v at end
 
       go : (b : Bool) → starts_here m ty v end at ≡ b → ((x : Decoded) → MadeTagged v ty m.tagging at end x)
-          → (alternative_from ms v at end ≡ some d → Chosen v end at ms d.value d.after)
-          → pick b (choice_of m v at end alternative) (alternative_from ms v at end) ≡ some d → Chosen v end at (more m ty ms) d.value d.after
+          → (alternative_from ms v at end ≡ Some d → Chosen v end at ms d.value d.after)
+          → pick b (choice_of m v at end alternative) (alternative_from ms v at end) ≡ Some d → Chosen v end at (more m ty ms) d.value d.after
       go true q one others f =
           let w = choice_view v at end d m alternative f in
           let t = one w.0 w.3 in
@@ -177,16 +177,16 @@ mutual
       go false q one others f = other q (others f)
 
 -- under a tag mode
-pub decodes-tagged : (ty : Ty) (g : Tagging) (v : List ℕ) (at end : ℕ) (d : Decoded) → decode ty g v at end ≡ some d
+pub decodes-tagged : (ty : Ty) (g : Tagging) (v : List ℕ) (at end : ℕ) (d : Decoded) → decode ty g v at end ≡ Some d
     → Tagged v ty g at end d.value d.after
 unfolding decode
 decodes-tagged ty g v at end d e = tagged-by ty g v at end d (λ a z. decodes ty g v a z d) e
 
 -- a stored value, from the first octet to the last
-pub decodes-stored : (ty : Ty) (v : List ℕ) (x : Value) → stored_value ty v ≡ some x → Decodes v ty untagged 0 (length v) x (length v)
+pub decodes-stored : (ty : Ty) (v : List ℕ) (x : Value) → stored_value ty v ≡ Some x → Decodes v ty untagged 0 (length v) x (length v)
 unfolding stored_value decode in_wrapper
 decodes-stored ty v x e =
-    let w = bind_view (unwrapped ty untagged v 0 (length v)) (λ d. pick (eqb d.after (length v)) (some d.value) none) x e in
+    let w = bind_view (unwrapped ty untagged v 0 (length v)) (λ d. pick (eqb d.after (length v)) (Some d.value) None) x e in
     let p = pick_view (eqb w.0.after (length v)) w.0.value x w.2 in
     subst (λ (y : Value). Decodes v ty untagged 0 (length v) y (length v)) p.1
     (subst (Decodes v ty untagged 0 (length v) w.0.value) (eqb-true w.0.after (length v) p.0) (decodes ty untagged v 0 (length v) w.0 w.1))

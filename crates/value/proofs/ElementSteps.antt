@@ -1,7 +1,7 @@
 -- Elements: one lemma for each return and each turn of the loop; its premises are the facts as the code has them.
 use mathlib.Core.Path.{◌≡◌, refl, sym, ap, ap₂, ◌∙◌}
 use mathlib.Core.Bool.{Bool, true, false, not}
-use mathlib.Core.Option.{Option, none, some}
+use Rattle.std.specs.Prelude.{Option, None, Some}
 use mathlib.Core.List.{List, []}
 use Prim.Native.Nat.{ℕ, zero, suc, ◌≤◌, ◌<◌, ◌+◌, ◌-◌, ◌*◌}
 use native.Mathlib.Omega.{arith}
@@ -39,29 +39,29 @@ rises-all v end_values = refl
 rises-all v (next x xs) = rises v x xs
 
 order_all : (k : ℕ) (v : List ℕ) (o : Option Values) → order_after k v [] o ≡ in_order k v o
-order_all k v none = refl
-order_all k v (some xs) = ap (either (eqb k kind.sequence_of)) (sym (rises-all v xs))
+order_all k v None = refl
+order_all k v (Some xs) = ap (either (eqb k kind.sequence_of)) (sym (rises-all v xs))
 
-order_next : (k : ℕ) (v p : List ℕ) (x : Value) (o : Option Values) → order_after k v p (bind o (λ xs. some (next x xs))) ≡ both (either (eqb k kind.sequence_of) (not_above p (encoding v x))) (order_after k v (encoding v x) o)
+order_next : (k : ℕ) (v p : List ℕ) (x : Value) (o : Option Values) → order_after k v p (bind o (λ xs. Some (next x xs))) ≡ both (either (eqb k kind.sequence_of) (not_above p (encoding v x))) (order_after k v (encoding v x) o)
 unfolding rising_after
-order_next k v p x none = go (either (eqb k kind.sequence_of) (not_above p (encoding v x)))
+order_next k v p x None = go (either (eqb k kind.sequence_of) (not_above p (encoding v x)))
   where
     go : (z : Bool) → false ≡ both z false
     go true = refl
     go false = refl
-order_next k v p x (some xs) = go (eqb k kind.sequence_of) (not_above p (encoding v x)) (rising_after v (encoding v x) xs)
+order_next k v p x (Some xs) = go (eqb k kind.sequence_of) (not_above p (encoding v x)) (rising_after v (encoding v x) xs)
   where
     go : (a b c : Bool) → either a (both b c) ≡ both (either a b) (either a c)
     go true b c = refl
     go false b c = refl
 
-told_at : (o : Option Decoded) (x : ℕ) → Checked.At x ≡ checked o → (d : Decoded) × (o ≡ some d) × (d.after ≡ x)
-told_at none x e = absurd (let z : ◌≡◌ {A = ℕ} 0 1 = cc in omega arith)
-told_at (some d) x e = (d, refl, cc)
+told_at : (o : Option Decoded) (x : ℕ) → Checked.At x ≡ checked o → (d : Decoded) × (o ≡ Some d) × (d.after ≡ x)
+told_at None x e = absurd (let z : ◌≡◌ {A = ℕ} 0 1 = cc in omega arith)
+told_at (Some d) x e = (d, refl, cc)
 
-told_bad : (o : Option Decoded) → Checked.Bad ≡ checked o → o ≡ none
-told_bad none e = refl
-told_bad (some d) e = absurd (let z : ◌≡◌ {A = ℕ} 0 1 = cc in omega arith)
+told_bad : (o : Option Decoded) → Checked.Bad ≡ checked o → o ≡ None
+told_bad None e = refl
+told_bad (Some d) e = absurd (let z : ◌≡◌ {A = ℕ} 0 1 = cc in omega arith)
 
 -- the elements from i on, after the one from before to i, have the answer of all of them; n is enough for them
 pub record Listed (chain : ℕ) (t s : List ℕ) (row : ℕ) (v : List ℕ) (start stop before i : ℕ) : Type 0 where
@@ -120,7 +120,7 @@ module _ (chain : ℕ) (t s m : List ℕ) (row : ℕ) (ok : Sound chain t s m) (
       elements_bad b = sym (answer ∙ ap (λ (o : Option Decoded). up_to stop (order_after k v (part v before (i - before)) (next_then (λ j. many one opens.0 stop j) o))) (told_bad (one i stop) (sym b ∙ asks)))
 
       module _ (after : ℕ) (found : c ≡ Checked.At after) where
-        value_there_lem : (d : Decoded) × (one i stop ≡ some d) × (d.after ≡ after)
+        value_there_lem : (d : Decoded) × (one i stop ≡ Some d) × (d.after ≡ after)
         value_there_lem = told_at (one i stop) after (sym found ∙ asks)
 
         owned : Own v i stop value_there_lem.0.value value_there_lem.0.after

@@ -1,7 +1,7 @@
 -- The value check: one lemma for each return; its premises are the facts as the code has them.
 use mathlib.Core.Path.{◌≡◌, refl, sym, ap, ◌∙◌}
 use mathlib.Core.Bool.{Bool, true, false, not}
-use mathlib.Core.Option.{Option, none, some}
+use Rattle.std.specs.Prelude.{Option, None, Some}
 use mathlib.Core.List.{List}
 use Prim.Native.Nat.{ℕ, ◌<◌}
 use native.Mathlib.Omega.{arith}
@@ -30,7 +30,7 @@ use Rattle.value.proofs.ModeSteps.{own_tag}
 
 -- ---- the whole buffer
 module _ (ty : Ty) (v : List ℕ) (k tag : ℕ) (c : Checked) (tagged : tag ≡ first_octet untagged k) (answered : Answers ty k tag v 0 (length v) c) where
-  stored-by : is_some (stored_value ty v) ≡ is_some (bind (unwrapped ty untagged v 0 (length v)) (λ d. pick (eqb d.after (length v)) (some d.value) none))
+  stored-by : is_some (stored_value ty v) ≡ is_some (bind (unwrapped ty untagged v 0 (length v)) (λ d. pick (eqb d.after (length v)) (Some d.value) None))
   unfolding stored_value decode in_wrapper
   stored-by = refl
 
@@ -38,15 +38,15 @@ module _ (ty : Ty) (v : List ℕ) (k tag : ℕ) (c : Checked) (tagged : tag ≡ 
   unfolding tagging_of
   asks = answered.says 0 0 (λ z. (own_tag tag k 0 tagged z).0)
 
-  by-none : (o : Option Decoded) → Checked.Bad ≡ checked o → false ≡ is_some (bind o (λ d. pick (eqb d.after (length v)) (some d.value) none))
-  by-none none e = refl
-  by-none (some d) e = absurd (let z : ◌≡◌ {A = ℕ} 0 1 = cc in omega arith)
+  by-none : (o : Option Decoded) → Checked.Bad ≡ checked o → false ≡ is_some (bind o (λ d. pick (eqb d.after (length v)) (Some d.value) None))
+  by-none None e = refl
+  by-none (Some d) e = absurd (let z : ◌≡◌ {A = ℕ} 0 1 = cc in omega arith)
 
-  by_some : (o : Option Decoded) (x : ℕ) → Checked.At x ≡ checked o → eqb x (length v) ≡ is_some (bind o (λ d. pick (eqb d.after (length v)) (some d.value) none))
-  by_some none x e = absurd (let z : ◌≡◌ {A = ℕ} 0 1 = cc in omega arith)
-  by_some (some d) x e = let q : x ≡ d.after = cc in ap (λ (y : ℕ). eqb y (length v)) q ∙ go (eqb d.after (length v))
+  by_some : (o : Option Decoded) (x : ℕ) → Checked.At x ≡ checked o → eqb x (length v) ≡ is_some (bind o (λ d. pick (eqb d.after (length v)) (Some d.value) None))
+  by_some None x e = absurd (let z : ◌≡◌ {A = ℕ} 0 1 = cc in omega arith)
+  by_some (Some d) x e = let q : x ≡ d.after = cc in ap (λ (y : ℕ). eqb y (length v)) q ∙ go (eqb d.after (length v))
     where
-      go : (x : Bool) → x ≡ is_some (pick x (some d.value) none)
+      go : (x : Bool) → x ≡ is_some (pick x (Some d.value) None)
       go true = refl
       go false = refl
 

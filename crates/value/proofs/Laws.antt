@@ -1,7 +1,7 @@
 -- Laws of decoded values, for the check and for the layers above.
 use mathlib.Core.Path.{◌≡◌, refl, sym, ap, ap₂, ◌∙◌, subst}
 use mathlib.Core.Bool.{Bool, true, false}
-use mathlib.Core.Option.{some}
+use Rattle.std.specs.Prelude.{Some}
 use mathlib.Core.List.{List}
 use Prim.Native.Nat.{ℕ, ◌≤◌, ◌+◌, ◌-◌}
 use native.Mathlib.Omega.{arith}
@@ -155,5 +155,5 @@ module _ {v : List ℕ} where
         (lies_wider i stop i after x (omega arith) p.within p.lies, turn_wider (end_of x) after stop xs (omega arith) (lies_elements w p.within))
 
 -- a stored value lies from the first octet on, up to the last
-pub stored-lies : (ty : Ty) (v : List ℕ) (x : Value) → stored_value ty v ≡ some x → Lies 0 (length v) x
+pub stored-lies : (ty : Ty) (v : List ℕ) (x : Value) → stored_value ty v ≡ Some x → Lies 0 (length v) x
 stored-lies ty v x e = lies (decodes-stored ty v x e)

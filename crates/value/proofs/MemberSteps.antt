@@ -1,7 +1,7 @@
 -- Members and alternatives: one lemma for each return and each turn of a loop; its premises are the facts as the code has them.
 use mathlib.Core.Path.{◌≡◌, refl, sym, ap, ap₂, ◌∙◌}
 use mathlib.Core.Bool.{Bool, true, false, not}
-use mathlib.Core.Option.{Option, none, some}
+use Rattle.std.specs.Prelude.{Option, None, Some}
 use mathlib.Core.List.{List}
 use Prim.Native.Nat.{ℕ, suc, ◌≤◌, ◌<◌, ◌+◌, ◌-◌, ◌*◌}
 use native.Mathlib.Omega.{arith}
@@ -33,7 +33,7 @@ use Rattle.value.proofs.ModeSteps.{plain_basic}
 use Rattle.value.proofs.PlainSteps.{plain-decoded}
 
 -- ---- a default that is stored: the contents of a basic value under a tag mode
-contents_are : (g : Tagging) (k : ℕ) (names : List NamedBit) (v : List ℕ) (at end : ℕ) (d : Decoded) → decode (basic k names) g v at end ≡ some d
+contents_are : (g : Tagging) (k : ℕ) (names : List NamedBit) (v : List ℕ) (at end : ℕ) (d : Decoded) → decode (basic k names) g v at end ≡ Some d
     → (start : ℕ) × (n : ℕ) × (contents_at g k v at end ≡ Inside.Of start n) × ((spot_of d.value).contents ≡ part v start n)
 unfolding decode in_wrapper contents_at spot_at
 contents_are untagged k names v at end d e = let w = leaf_view v at end d k names untagged e in
@@ -108,7 +108,7 @@ module _ (chain : ℕ) (t s m : List ℕ) (row : ℕ) (ok : Ready chain t s m) (
       basic_type (small-kind (kind_at t (row_at s target_row)) b.1)
 
   module _ (v : List ℕ) (i stop : ℕ) where
-    is-default : (d : Decoded) → decode target-type tagging v i stop ≡ some d → is_default (presence_of (presence_at t place) (default_at t place)) (spot_of d.value).contents ≡ stored_default t s place v i stop
+    is-default : (d : Decoded) → decode target-type tagging v i stop ≡ Some d → is_default (presence_of (presence_at t place) (default_at t place)) (spot_of d.value).contents ≡ stored_default t s place v i stop
     unfolding presence_of stored_default
     is-default d e = go (eqb (presence_at t place) 0) refl (eqb (presence_at t place) 1) refl (eqb (presence_at t place) 2) refl
       where
@@ -120,7 +120,7 @@ module _ (chain : ℕ) (t s m : List ℕ) (row : ℕ) (ok : Ready chain t s m) (
         go false p true q false u = refl
         go false p true q true u = absurd (let a = eqb-true (presence_at t place) 1 q in let b = eqb-true (presence_at t place) 2 u in omega arith)
         go false p false q true u =
-            let f : decode (basic (kind_at t (row_at s target_row)) (bits_after t s target_row)) tagging v i stop ≡ some d = ap
+            let f : decode (basic (kind_at t (row_at s target_row)) (bits_after t s target_row)) tagging v i stop ≡ Some d = ap
             (λ (ty : Ty). decode ty tagging v i stop) (sym (default-kind (eqb-true (presence_at t place) 2 u))) ∙ e in
             let w = contents_are tagging (kind_at t (row_at s target_row)) (bits_after t s target_row) v i stop d f in
             ap (λ (x : List ℕ). same x (default_at t place)) w.3 ∙ ap (holds v (default_at t place)) (sym w.2)
@@ -136,20 +136,20 @@ module _ (chain : ℕ) (t s m : List ℕ) (row : ℕ) (ok : Ready chain t s m) (
           rw off (e ∙ ap (λ (y : Bool). pick y Checked.Bad (Checked.At i)) (sym (mandatory_as (presence_at t place) (default_at t place))))
 
       module _ (on : not x ≡ false) (y : Bool) (stored : y ≡ stored_default t s (row_at s row) v i stop) where
-        there : member_checked the_member target-type v stop i ≡ checked (bind (decode target-type tagging v i stop) (λ d. pick (is_default (presence_of (presence_at t place) (default_at t place)) (spot_of d.value).contents) none (some d)))
+        there : member_checked the_member target-type v stop i ≡ checked (bind (decode target-type tagging v i stop) (λ d. pick (is_default (presence_of (presence_at t place) (default_at t place)) (spot_of d.value).contents) None (Some d)))
         unfolding member_checked member_of
         there = let h : starts_here the_member target-type v stop i ≡ true = sym starting ∙ not-false x on in rw h
 
         by_default_lem : (o : Option Decoded) → decode target-type tagging v i stop ≡ o
-            → checked (bind o (λ d. pick (is_default (presence_of (presence_at t place) (default_at t place)) (spot_of d.value).contents) none (some d))) ≡ pick y Checked.Bad (checked o)
-        by_default_lem none q = go y
+            → checked (bind o (λ d. pick (is_default (presence_of (presence_at t place) (default_at t place)) (spot_of d.value).contents) None (Some d))) ≡ pick y Checked.Bad (checked o)
+        by_default_lem None q = go y
           where
             go : (z : Bool) → Checked.Bad ≡ pick z Checked.Bad Checked.Bad
             go true = refl
             go false = refl
-        by_default_lem (some d) q = ap (λ (z : Bool). checked (pick z none (some d))) (is-default d q ∙ sym stored) ∙ go y
+        by_default_lem (Some d) q = ap (λ (z : Bool). checked (pick z None (Some d))) (is-default d q ∙ sym stored) ∙ go y
           where
-            go : (z : Bool) → checked (pick z none (some d)) ≡ pick z Checked.Bad (Checked.At d.after)
+            go : (z : Bool) → checked (pick z None (Some d)) ≡ pick z Checked.Bad (Checked.At d.after)
             go true = refl
             go false = refl
 
@@ -181,26 +181,26 @@ fields_next : (mem : Member) (ty : Ty) (ms : Members) (v : List ℕ) (stop i : �
 unfolding unwrapped member_checked decode
 fields_next mem ty ms v stop i = go (starts_here mem ty v stop i) (in_wrapper after_of mem.tagging (λ a e. unwrapped ty mem.tagging v a e) v i stop)
   where
-    found : (x : Bool) (d : Decoded) → is_some (bind (pick x none (some d)) (λ d. bind (fields_from ms v stop d.after) (λ fs. some (present mem d.value fs)))) ≡ then_fields ms v stop (checked (pick x none (some d)))
+    found : (x : Bool) (d : Decoded) → is_some (bind (pick x None (Some d)) (λ d. bind (fields_from ms v stop d.after) (λ fs. Some (present mem d.value fs)))) ≡ then_fields ms v stop (checked (pick x None (Some d)))
     found true d = refl
     found false d = rest (fields_from ms v stop d.after)
       where
-        rest : (o : Option Fields) → is_some (bind o (λ fs. some (present mem d.value fs))) ≡ is_some o
-        rest none = refl
-        rest (some fs) = refl
+        rest : (o : Option Fields) → is_some (bind o (λ fs. Some (present mem d.value fs))) ≡ is_some o
+        rest None = refl
+        rest (Some fs) = refl
 
-    missing : (x : Bool) → is_some (pick x none (bind (fields_from ms v stop i) (λ fs. some (absent mem fs)))) ≡ then_fields ms v stop (pick x Checked.Bad (Checked.At i))
+    missing : (x : Bool) → is_some (pick x None (bind (fields_from ms v stop i) (λ fs. Some (absent mem fs)))) ≡ then_fields ms v stop (pick x Checked.Bad (Checked.At i))
     missing true = refl
     missing false = rest (fields_from ms v stop i)
       where
-        rest : (o : Option Fields) → is_some (bind o (λ fs. some (absent mem fs))) ≡ is_some o
-        rest none = refl
-        rest (some fs) = refl
+        rest : (o : Option Fields) → is_some (bind o (λ fs. Some (absent mem fs))) ≡ is_some o
+        rest None = refl
+        rest (Some fs) = refl
 
     go : (x : Bool) (o : Option Decoded) → is_some (pick x (present_then mem (λ i. fields_from ms v stop i) o) (absent_then mem (fields_from ms v stop i)))
         ≡ then_fields ms v stop (pick x (checked (bind o (unless_default mem))) (pick (is_mandatory mem.presence) Checked.Bad (Checked.At i)))
-    go true none = refl
-    go true (some d) = found (is_default mem.presence (spot_of d.value).contents) d
+    go true None = refl
+    go true (Some d) = found (is_default mem.presence (spot_of d.value).contents) d
     go false o = missing (is_mandatory mem.presence)
 
 -- ---- the loop over the members of a SEQUENCE
@@ -258,12 +258,12 @@ module _ (chain : ℕ) (t s m : List ℕ) (row : ℕ) (ok : Sound chain t s m) (
             }
 
     module _ (l : n ≤ j) where
-      ending : is_some (fields_from (members_from (type_from chain t s) t s (row + 1 + j) (n - j)) v stop i) ≡ is_some (pick (eqb i stop) (some end_fields) none)
+      ending : is_some (fields_from (members_from (type_from chain t s) t s (row + 1 + j) (n - j)) v stop i) ≡ is_some (pick (eqb i stop) (Some end_fields) None)
       unfolding members_from unwrapped
       ending = let q : n - j ≡ 0 = omega arith in ap (λ (x : ℕ). is_some (fields_from (members_from (type_from chain t s) t s (row + 1 + j) x) v stop i)) q
 
       pub fields_short : (i ≡ stop → ⊥) → Checked.Bad ≡ fields_checked (members_from (type_from chain t s) t s (row + 1) (members_at t (row_at s row))) v stop start
-      fields_short h = ap (up_to stop) (sym (ending ∙ ap (λ (x : Bool). is_some (pick x (some end_fields) none)) (ne_eqb i stop h))) ∙ whole
+      fields_short h = ap (up_to stop) (sym (ending ∙ ap (λ (x : Bool). is_some (pick x (Some end_fields) None)) (ne_eqb i stop h))) ∙ whole
 
       pub fields_done : i ≡ stop → Checked.At stop ≡ fields_checked (members_from (type_from chain t s) t s (row + 1) (members_at t (row_at s row))) v stop start
-      fields_done h = ap (up_to stop) (sym (ending ∙ ap (λ (x : Bool). is_some (pick x (some end_fields) none)) (eq-eqb i stop h))) ∙ whole
+      fields_done h = ap (up_to stop) (sym (ending ∙ ap (λ (x : Bool). is_some (pick x (Some end_fields) None)) (eq-eqb i stop h))) ∙ whole

@@ -1,7 +1,7 @@
 -- Views of the decoder's equations: what each part of it says, where it gives a value. The families of `Decodes` are made of these.
 use mathlib.Core.Path.{◌≡◌, refl, sym, ap, ◌∙◌}
 use mathlib.Core.Bool.{Bool, true, false, false≢true}
-use mathlib.Core.Option.{Option, none, some}
+use Rattle.std.specs.Prelude.{Option, None, Some}
 use mathlib.Core.List.{List}
 use Prim.Native.Nat.{ℕ, zero, suc, ◌≤◌, ◌<◌, ◌+◌}
 use native.Mathlib.Omega.{arith}
@@ -23,28 +23,28 @@ use Rattle.value.specs.Decode.{Decoded, decoded, tag_octet, inside, in_wrapper, 
 use Rattle.value.specs.Decode.{present_then, absent_then, next_then, many, unwrapped, fields_from}
 
 -- ---- things that are there
-pub none-some : {A B : Type 0} (a : A) → ◌≡◌ {A = Option A} none (some a) → B
+pub none-some : {A B : Type 0} (a : A) → ◌≡◌ {A = Option A} None (Some a) → B
 none-some a e = absurd (let z : ◌≡◌ {A = ℕ} 0 1 = cc in omega arith)
 
-pub some_same : {A : Type 0} (a b : A) → ◌≡◌ {A = Option A} (some a) (some b) → a ≡ b
+pub some_same : {A : Type 0} (a b : A) → ◌≡◌ {A = Option A} (Some a) (Some b) → a ≡ b
 some_same a b e = cc
 
-pub bind_view : {A B : Type 0} (o : Option A) (f : A → Option B) (b : B) → bind o f ≡ some b → (a : A) × (o ≡ some a) × (f a ≡ some b)
-bind_view none f b e = none-some b e
-bind_view (some a) f b e = (a, refl, e)
+pub bind_view : {A B : Type 0} (o : Option A) (f : A → Option B) (b : B) → bind o f ≡ Some b → (a : A) × (o ≡ Some a) × (f a ≡ Some b)
+bind_view None f b e = none-some b e
+bind_view (Some a) f b e = (a, refl, e)
 
-pub pick_view : {A : Type 0} (t : Bool) (a b : A) → pick t (some a) none ≡ some b → (t ≡ true) × (a ≡ b)
+pub pick_view : {A : Type 0} (t : Bool) (a b : A) → pick t (Some a) None ≡ Some b → (t ≡ true) × (a ≡ b)
 pick_view true a b e = (refl, some_same a b e)
 pick_view false a b e = none-some b e
 
-pub opened_view : {A : Type 0} (i : Inside) (f : ℕ → ℕ → Option A) (a : A) → opened i f ≡ some a → (start : ℕ) × (n : ℕ) × (i ≡ Inside.Of start n) × (f start n ≡ some a)
+pub opened_view : {A : Type 0} (i : Inside) (f : ℕ → ℕ → Option A) (a : A) → opened i f ≡ Some a → (start : ℕ) × (n : ℕ) × (i ≡ Inside.Of start n) × (f start n ≡ Some a)
 opened_view Inside.Misfit f a e = none-some a e
 opened_view (Inside.Of start n) f a e = (start, n, refl, e)
 
 -- ---- values
 module _ (v : List ℕ) (at end : ℕ) (d : Decoded) where
   -- a basic value: its header, legal contents, its spot
-  pub leaf_view : (k : ℕ) (names : List NamedBit) (g : Tagging) → unwrapped (basic k names) g v at end ≡ some d
+  pub leaf_view : (k : ℕ) (names : List NamedBit) (g : Tagging) → unwrapped (basic k names) g v at end ≡ Some d
       → (start : ℕ) × (n : ℕ) × (inside_at (tag_octet g k) v at end ≡ Inside.Of start n) × (legal k (part v start n) ≡ true) × (record { value = leaf k (spot_at v at start n); after = start + n } ≡ d)
   unfolding unwrapped
   leaf_view k names g e =
@@ -53,8 +53,8 @@ module _ (v : List ℕ) (at end : ℕ) (d : Decoded) where
       (w.0, w.1, w.2, p.0, p.1)
 
   -- a SEQUENCE: its header, its members, its spot
-  pub fields_view : (ms : Members) (g : Tagging) → unwrapped (sequence ms) g v at end ≡ some d
-      → (start : ℕ) × (n : ℕ) × (fs : Fields) × (inside_at (tag_octet g kind.sequence) v at end ≡ Inside.Of start n) × (fields_from ms v (start + n) start ≡ some fs) × (record { value = fields (spot_at v at start n) fs; after = start + n } ≡ d)
+  pub fields_view : (ms : Members) (g : Tagging) → unwrapped (sequence ms) g v at end ≡ Some d
+      → (start : ℕ) × (n : ℕ) × (fs : Fields) × (inside_at (tag_octet g kind.sequence) v at end ≡ Inside.Of start n) × (fields_from ms v (start + n) start ≡ Some fs) × (record { value = fields (spot_at v at start n) fs; after = start + n } ≡ d)
   unfolding unwrapped
   fields_view ms g e =
       let w = opened_view (inside_at (tag_octet g kind.sequence) v at end) (fields_of v at (λ stop i. fields_from ms v stop i)) d e in
@@ -62,19 +62,19 @@ module _ (v : List ℕ) (at end : ℕ) (d : Decoded) where
       (w.0, w.1, b.0, w.2, b.1, some_same _ d b.2)
 
   -- a SEQUENCE OF or SET OF: its header, its elements in order, its spot
-  pub elements_view : (k : ℕ) (ty : Ty) (g : Tagging) → unwrapped (list_of k ty) g v at end ≡ some d
-      → (start : ℕ) × (n : ℕ) × (xs : Values) × (inside_at (tag_octet g k) v at end ≡ Inside.Of start n) × (many (λ i stop. unwrapped ty untagged v i stop) n (start + n) start ≡ some xs)
+  pub elements_view : (k : ℕ) (ty : Ty) (g : Tagging) → unwrapped (list_of k ty) g v at end ≡ Some d
+      → (start : ℕ) × (n : ℕ) × (xs : Values) × (inside_at (tag_octet g k) v at end ≡ Inside.Of start n) × (many (λ i stop. unwrapped ty untagged v i stop) n (start + n) start ≡ Some xs)
       × (either (eqb k kind.sequence_of) (rising v xs) ≡ true) × (record { value = elements (spot_at v at start n) xs; after = start + n } ≡ d)
   unfolding unwrapped
   elements_view k ty g e =
       let w = opened_view (inside_at (tag_octet g k) v at end) (elements_of k v at (many (λ i stop. unwrapped ty untagged v i stop))) d e in
-      let b = bind_view (many (λ i stop. unwrapped ty untagged v i stop) w.1 (w.0 + w.1) w.0) (λ xs. pick (either (eqb k kind.sequence_of) (rising v xs)) (decoded (elements (spot_at v at w.0 w.1) xs) (w.0 + w.1)) none) d w.3 in
+      let b = bind_view (many (λ i stop. unwrapped ty untagged v i stop) w.1 (w.0 + w.1) w.0) (λ xs. pick (either (eqb k kind.sequence_of) (rising v xs)) (decoded (elements (spot_at v at w.0 w.1) xs) (w.0 + w.1)) None) d w.3 in
       let p = pick_view (either (eqb k kind.sequence_of) (rising v b.0)) _ d b.2 in
       (w.0, w.1, b.0, w.2, b.1, p.0, p.1)
 
   -- a CHOICE is its alternative, behind any header
-  pub choice_view : (m : Member) (alternative : Option Decoded) → choice_of m v at end alternative ≡ some d
-      → (x : Decoded) × (start : ℕ) × (n : ℕ) × (alternative ≡ some x) × (any_tag (header_at v at end) ≡ Inside.Of start n) × (record { value = chosen (spot_at v at start n) m x.value; after = x.after } ≡ d)
+  pub choice_view : (m : Member) (alternative : Option Decoded) → choice_of m v at end alternative ≡ Some d
+      → (x : Decoded) × (start : ℕ) × (n : ℕ) × (alternative ≡ Some x) × (any_tag (header_at v at end) ≡ Inside.Of start n) × (record { value = chosen (spot_at v at start n) m x.value; after = x.after } ≡ d)
   choice_view m alternative e =
       let b = bind_view alternative (λ x. opened (any_tag (header_at v at end)) (λ start n. decoded (chosen (spot_at v at start n) m x.value) x.after)) d e in
       let w = opened_view (any_tag (header_at v at end)) (λ start n. decoded (chosen (spot_at v at start n) m b.0.value) b.0.after) d b.2 in
@@ -94,23 +94,23 @@ module _ {A : Type 0} (after : A → ℕ) where
   in_explicit n f v at end = refl
 
   -- under an explicit tag: a wrapper that the value fills
-  pub wrapper_view : (v : List ℕ) (at end : ℕ) (d : A) (k : ℕ) (f : ℕ → ℕ → Option A) → in_wrapper after (explicit k) f v at end ≡ some d
-      → (start : ℕ) × (n : ℕ) × (inside_at (wrapper_octet k) v at end ≡ Inside.Of start n) × (f start (start + n) ≡ some d) × (after d ≡ start + n)
+  pub wrapper_view : (v : List ℕ) (at end : ℕ) (d : A) (k : ℕ) (f : ℕ → ℕ → Option A) → in_wrapper after (explicit k) f v at end ≡ Some d
+      → (start : ℕ) × (n : ℕ) × (inside_at (wrapper_octet k) v at end ≡ Inside.Of start n) × (f start (start + n) ≡ Some d) × (after d ≡ start + n)
   unfolding in_wrapper
   wrapper_view v at end d k f e =
       let w = opened_view (inside_at (wrapper_octet k) v at end) (inside after f) d e in
-      let b = bind_view (f w.0 (w.0 + w.1)) (λ a. pick (eqb (after a) (w.0 + w.1)) (some a) none) d w.3 in
+      let b = bind_view (f w.0 (w.0 + w.1)) (λ a. pick (eqb (after a) (w.0 + w.1)) (Some a) None) d w.3 in
       let p = pick_view (eqb (after b.0) (w.0 + w.1)) b.0 d b.2 in
-      (w.0, w.1, w.2, b.1 ∙ ap some p.1, ap after (sym p.1) ∙ eqb-true (after b.0) (w.0 + w.1) p.0)
+      (w.0, w.1, w.2, b.1 ∙ ap Some p.1, ap after (sym p.1) ∙ eqb-true (after b.0) (w.0 + w.1) p.0)
 
 -- ---- elements in turn
 module _ (f : ℕ → ℕ → Option Decoded) (stop i : ℕ) where
-  pub many-end : (k : ℕ) → stop ≤ i → many f k stop i ≡ some end_values
+  pub many-end : (k : ℕ) → stop ≤ i → many f k stop i ≡ Some end_values
   unfolding many
   many-end zero h = rw (le-ltb i stop h)
   many-end (suc k) h = rw (le-ltb i stop h)
 
-  pub many_zero : i < stop → many f 0 stop i ≡ none
+  pub many_zero : i < stop → many f 0 stop i ≡ None
   unfolding many
   many_zero h = rw (lt-ltb i stop h)
 
@@ -119,35 +119,35 @@ module _ (f : ℕ → ℕ → Option Decoded) (stop i : ℕ) where
   many_more k h = rw (lt-ltb i stop h)
 
 -- the first of some elements, and those after it
-pub next_view : (rest : ℕ → Option Values) (element : Option Decoded) (xs : Values) → next_then rest element ≡ some xs
-    → (d : Decoded) × (ys : Values) × (element ≡ some d) × (rest d.after ≡ some ys) × (next d.value ys ≡ xs)
+pub next_view : (rest : ℕ → Option Values) (element : Option Decoded) (xs : Values) → next_then rest element ≡ Some xs
+    → (d : Decoded) × (ys : Values) × (element ≡ Some d) × (rest d.after ≡ Some ys) × (next d.value ys ≡ xs)
 next_view rest element xs e =
-    let b = bind_view element (λ d. bind (rest d.after) (λ ys. some (next d.value ys))) xs e in
-    let c = bind_view (rest b.0.after) (λ ys. some (next b.0.value ys)) xs b.2 in
+    let b = bind_view element (λ d. bind (rest d.after) (λ ys. Some (next d.value ys))) xs e in
+    let c = bind_view (rest b.0.after) (λ ys. Some (next b.0.value ys)) xs b.2 in
     (b.0, c.0, b.1, c.1, some_same _ xs c.2)
 
 -- ---- members in turn: one that is there, and those after it; one that isn't
-pub present_view : (m : Member) (rest : ℕ → Option Fields) (member : Option Decoded) (fs : Fields) → present_then m rest member ≡ some fs
-    → (d : Decoded) × (gs : Fields) × (member ≡ some d) × (is_default m.presence (spot_of d.value).contents ≡ false) × (rest d.after ≡ some gs)
+pub present_view : (m : Member) (rest : ℕ → Option Fields) (member : Option Decoded) (fs : Fields) → present_then m rest member ≡ Some fs
+    → (d : Decoded) × (gs : Fields) × (member ≡ Some d) × (is_default m.presence (spot_of d.value).contents ≡ false) × (rest d.after ≡ Some gs)
     × (present m d.value gs ≡ fs)
 present_view m rest member fs e =
-    let b = bind_view member (λ any. bind (unless_default m any) (λ d. bind (rest d.after) (λ gs. some (present m d.value gs)))) fs e in
-    let c = bind_view (unless_default m b.0) (λ d. bind (rest d.after) (λ gs. some (present m d.value gs))) fs b.2 in
+    let b = bind_view member (λ any. bind (unless_default m any) (λ d. bind (rest d.after) (λ gs. Some (present m d.value gs)))) fs e in
+    let c = bind_view (unless_default m b.0) (λ d. bind (rest d.after) (λ gs. Some (present m d.value gs))) fs b.2 in
     let u = unless_view (is_default m.presence (spot_of b.0.value).contents) b.0 c.0 c.1 in
-    let r = bind_view (rest c.0.after) (λ gs. some (present m c.0.value gs)) fs c.2 in
+    let r = bind_view (rest c.0.after) (λ gs. Some (present m c.0.value gs)) fs c.2 in
     let same : b.0 ≡ c.0 = u.1 in
     let other = ap (λ (d : Decoded). is_default m.presence (spot_of d.value).contents) same in
-    (c.0, r.0, b.1 ∙ ap some same, sym other ∙ u.0, r.1, some_same _ fs r.2)
+    (c.0, r.0, b.1 ∙ ap Some same, sym other ∙ u.0, r.1, some_same _ fs r.2)
   where
-    unless_view : (t : Bool) (a b : Decoded) → pick t none (some a) ≡ some b → (t ≡ false) × (a ≡ b)
+    unless_view : (t : Bool) (a b : Decoded) → pick t None (Some a) ≡ Some b → (t ≡ false) × (a ≡ b)
     unless_view true a b e = none-some b e
     unless_view false a b e = (refl, some_same a b e)
 
-pub absent_view : (m : Member) (rest : Option Fields) (fs : Fields) → absent_then m rest ≡ some fs
-    → (gs : Fields) × (is_mandatory m.presence ≡ false) × (rest ≡ some gs) × (absent m gs ≡ fs)
+pub absent_view : (m : Member) (rest : Option Fields) (fs : Fields) → absent_then m rest ≡ Some fs
+    → (gs : Fields) × (is_mandatory m.presence ≡ false) × (rest ≡ Some gs) × (absent m gs ≡ fs)
 absent_view m rest fs e = go (is_mandatory m.presence) refl e
   where
-    go : (t : Bool) → is_mandatory m.presence ≡ t → pick t none (bind rest (λ gs. some (absent m gs))) ≡ some fs
-        → (gs : Fields) × (is_mandatory m.presence ≡ false) × (rest ≡ some gs) × (absent m gs ≡ fs)
+    go : (t : Bool) → is_mandatory m.presence ≡ t → pick t None (bind rest (λ gs. Some (absent m gs))) ≡ Some fs
+        → (gs : Fields) × (is_mandatory m.presence ≡ false) × (rest ≡ Some gs) × (absent m gs ≡ fs)
     go true q e = none-some fs e
-    go false q e = let b = bind_view rest (λ gs. some (absent m gs)) fs e in (b.0, q, b.1, some_same _ fs b.2)
+    go false q e = let b = bind_view rest (λ gs. Some (absent m gs)) fs e in (b.0, q, b.1, some_same _ fs b.2)

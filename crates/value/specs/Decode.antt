@@ -1,6 +1,6 @@
 -- Stored value: the value of a type that stands at a place, before an end; and the place after it.
 use Rattle.std.specs.Prelude.{ℕ, zero, suc, ◌+◌, Bool, false, List, length, ltb, eqb}
-use Rattle.std.proofs.Math.Option.{Option, none, some}
+use Rattle.std.specs.Prelude.{Option, None, Some}
 use Rattle.octets.specs.Pick.{pick, both, either, bind, ◌>>=◌}
 use Rattle.octets.specs.Octets.{octet, part, same}
 use Rattle.der.specs.Kind as kind
@@ -17,7 +17,7 @@ pub record Decoded : Type 0 where
   pub after : ℕ
 
 abbrev pub decoded : Value → ℕ → Option Decoded
-decoded x after = some (record { value = x; after = after })
+decoded x after = Some (record { value = x; after = after })
 
 abbrev pub after_of : Decoded → ℕ
 after_of d = d.after
@@ -31,7 +31,7 @@ tag_octet (implicit n) k = implicit_octet n k
 
 -- an explicit wrapper is exactly filled: what is inside ends where the wrapper does
 abbrev pub if_filling : {A : Type 0} → (A → ℕ) → ℕ → A → Option A
-if_filling after stop a = pick (eqb (after a) stop) (some a) none
+if_filling after stop a = pick (eqb (after a) stop) (Some a) None
 
 abbrev pub inside : {A : Type 0} → (A → ℕ) → (ℕ → ℕ → Option A) → ℕ → ℕ → Option A
 inside after f start n = bind (f start (start + n)) (if_filling after (start + n))
@@ -48,7 +48,7 @@ starts_here m ty v stop i = both (ltb i stop) (member_begins m ty (tag_of (octet
 
 -- ---- values of one header, whose contents are n octets from start on
 abbrev pub leaf_of : ℕ → List ℕ → ℕ → ℕ → ℕ → Option Decoded
-leaf_of k v at start n = pick (legal k (part v start n)) (decoded (leaf k (spot_at v at start n)) (start + n)) none
+leaf_of k v at start n = pick (legal k (part v start n)) (decoded (leaf k (spot_at v at start n)) (start + n)) None
 
 -- a SEQUENCE; f decodes its members before a stop
 abbrev pub fields_of : List ℕ → ℕ → (ℕ → ℕ → Option Fields) → ℕ → ℕ → Option Decoded
@@ -60,7 +60,7 @@ fields_of v at f start n = do
 abbrev pub elements_of : ℕ → List ℕ → ℕ → (ℕ → ℕ → ℕ → Option Values) → ℕ → ℕ → Option Decoded
 elements_of k v at f start n = do
   xs ← f n (start + n) start
-  pick (either (eqb k kind.sequence_of) (rising v xs)) (decoded (elements (spot_at v at start n) xs) (start + n)) none
+  pick (either (eqb k kind.sequence_of) (rising v xs)) (decoded (elements (spot_at v at start n) xs) (start + n)) None
 
 -- a CHOICE, by its alternative
 abbrev pub chosen_of : Member → List ℕ → ℕ → Decoded → ℕ → ℕ → Option Decoded
@@ -79,7 +79,7 @@ is_default optional c = false
 is_default (default d) c = same c d
 
 abbrev pub unless_default : Member → Decoded → Option Decoded
-unless_default m d = pick (is_default m.presence (spot_of d.value).contents) none (some d)
+unless_default m d = pick (is_default m.presence (spot_of d.value).contents) None (Some d)
 
 -- a member that is there, and those after it
 abbrev pub present_then : Member → (ℕ → Option Fields) → Option Decoded → Option Fields
@@ -87,24 +87,24 @@ present_then m rest member = do
   any ← member
   d ← unless_default m any
   fs ← rest d.after
-  some (present m d.value fs)
+  Some (present m d.value fs)
 
 -- a member that isn't there; a mandatory one has to be
 abbrev pub absent_then : Member → Option Fields → Option Fields
-absent_then m rest = pick (is_mandatory m.presence) none (bind rest (λ fs. some (absent m fs)))
+absent_then m rest = pick (is_mandatory m.presence) None (bind rest (λ fs. Some (absent m fs)))
 
 abbrev pub next_then : (ℕ → Option Values) → Option Decoded → Option Values
 next_then rest element = do
   d ← element
   xs ← rest d.after
-  some (next d.value xs)
+  Some (next d.value xs)
 
 -- the elements from i up to stop, at most k of them; f decodes one
 unfoldable pub many : (ℕ → ℕ → Option Decoded) → ℕ → ℕ → ℕ → Option Values
-many f zero stop i = pick (ltb i stop) none (some end_values)
+many f zero stop i = pick (ltb i stop) None (Some end_values)
 many f (suc k) stop i =
     let more = next_then (λ j. many f k stop j) (f i stop) in
-    pick (ltb i stop) more (some end_values)
+    pick (ltb i stop) more (Some end_values)
 
 -- ---- "Otherwise a nested value is checked as its row says, one level deeper."
 unfoldable mutual
@@ -116,7 +116,7 @@ unfoldable mutual
   unwrapped (list_of k ty) g v at end = opened (inside_at (tag_octet g k) v at end) (elements_of k v at (many (λ i stop. unwrapped ty untagged v i stop)))
 
   pub fields_from : Members → List ℕ → ℕ → ℕ → Option Fields
-  fields_from no_more v stop i = pick (eqb i stop) (some end_fields) none
+  fields_from no_more v stop i = pick (eqb i stop) (Some end_fields) None
   fields_from (more m ty ms) v stop i =
       let there = present_then m (λ i. fields_from ms v stop i) (in_wrapper after_of m.tagging (λ a e. unwrapped ty m.tagging v a e) v i stop) in
       let without = absent_then m (fields_from ms v stop i) in
@@ -124,7 +124,7 @@ unfoldable mutual
 
   -- the alternative that can begin with the tag here
   pub alternative_from : Members → List ℕ → ℕ → ℕ → Option Decoded
-  alternative_from no_more v at end = none
+  alternative_from no_more v at end = None
   alternative_from (more m ty ms) v at end =
       let this = choice_of m v at end (in_wrapper after_of m.tagging (λ a e. unwrapped ty m.tagging v a e) v at end) in
       let others = alternative_from ms v at end in
@@ -138,4 +138,4 @@ decode ty g v at end = in_wrapper after_of g (unwrapped ty g v) v at end
 unfoldable pub stored_value : Ty → List ℕ → Option Value
 stored_value ty v = do
   d ← decode ty untagged v 0 (length v)
-  pick (eqb d.after (length v)) (some d.value) none
+  pick (eqb d.after (length v)) (Some d.value) None

@@ -1,6 +1,6 @@
 -- Computed examples.
 use Rattle.std.specs.Prelude.{◌≡◌, refl, Bool, true, false, List, [], ◌∷◌, ◌++◌, map, ℕ, replicate}
-use Rattle.std.proofs.Math.Option.{some}
+use Rattle.std.specs.Prelude.{Some}
 use Prim.Native.String.{String}
 use Rattle.octets.specs.Pick.{is_some}
 use Rattle.octets.specs.Octets.{bytes, hex}
@@ -73,7 +73,7 @@ holders = refl
 
 -- a holder is a leaf, with its RDNs as contents
 holder_place : stored_value (only untagged mandatory (basic 19 [])) (hex "300B30093107300506012A0C00")
-    ≡ some (fields (record { place = 0; size = 13; contents = hex "30093107300506012A0C00" })
+    ≡ Some (fields (record { place = 0; size = 13; contents = hex "30093107300506012A0C00" })
     (present (plain "a" untagged mandatory) (leaf 19 (record { place = 2; size = 11; contents = hex "3107300506012A0C00" })) end_fields))
 unfolding value_computes
 holder_place = refl
@@ -130,7 +130,7 @@ choices = refl
 
 -- places: a CHOICE starts at its alternative's first octet, the alternative inside its wrapper
 places : stored_value nested (hex "A3030101FF")
-    ≡ some (chosen (record { place = 0; size = 5; contents = hex "0101FF" }) (plain "a" untagged mandatory)
+    ≡ Some (chosen (record { place = 0; size = 5; contents = hex "0101FF" }) (plain "a" untagged mandatory)
     (chosen (record { place = 0; size = 5; contents = hex "0101FF" }) (plain "c" (explicit 3) mandatory) (leaf 1 (record { place = 2; size = 3; contents = hex "FF" }))))
 unfolding value_computes
 places = refl
@@ -138,7 +138,7 @@ places = refl
 -- a member inside its explicit wrapper, then an absent one
 member-places : stored_value (sequence (more (plain "a" (explicit 0) mandatory) (basic 2 []) (more (plain "b" untagged optional) (basic 1 []) no_more)))
     (hex "3005A003020105")
-    ≡ some (fields (record { place = 0; size = 7; contents = hex "A003020105" }) (present (plain "a" (explicit 0) mandatory) (leaf 2 (record { place = 4; size = 3; contents = hex "05" }))
+    ≡ Some (fields (record { place = 0; size = 7; contents = hex "A003020105" }) (present (plain "a" (explicit 0) mandatory) (leaf 2 (record { place = 4; size = 3; contents = hex "05" }))
     (absent (plain "b" untagged optional) end_fields)))
 unfolding value_computes
 member-places = refl

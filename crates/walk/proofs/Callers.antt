@@ -1,7 +1,7 @@
 -- For callers: a resolved reference and a stored value are what the entries ask for.
 use mathlib.Core.Path.{◌≡◌}
 use mathlib.Core.Bool.{Bool}
-use mathlib.Core.Option.{some}
+use Rattle.std.specs.Prelude.{Some}
 use mathlib.Core.List.{List, []}
 use Prim.Native.Nat.{ℕ}
 use native.Mathlib.Omega.{arith}
@@ -17,7 +17,7 @@ use Rattle.walk.specs.Inner.Walk.{Asks}
 
 -- what a reference names in a stored value may be asked for
 unfoldable pub asks_of : (t : List ℕ) (given : Bool) (r x : List ℕ) (defaults : Bool) (q v : List ℕ) (g : Target) → Resolves t given r x defaults q g → Lands g
-    → (is : List Id) → given_ids given r ≡ some is → (val : Value) → stored_value (type_at t 0) v ≡ some val → Asks t q x v
+    → (is : List Id) → given_ids given r ≡ Some is → (val : Value) → stored_value (type_at t 0) v ≡ Some val → Asks t q x v
 unfolding Resolves
 asks_of t given r x defaults q v g resolves lands is ids val stored =
     record { defaults = defaults; ids = is; val = val; planned = resolves is ids lands; stored = stored }

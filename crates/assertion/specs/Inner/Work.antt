@@ -1,6 +1,6 @@
 -- The steps of `rule_at` and `assertion_at`, each under a name of its own, for the functions that take them.
 use Rattle.std.specs.Prelude.{ℕ, ◌+◌, ◌-◌, Bool, List, drop}
-use Rattle.std.proofs.Math.Option.{Option, none}
+use Rattle.std.specs.Prelude.{Option, None}
 use Rattle.octets.specs.Pick.{pick, bind}
 use Rattle.octets.specs.Octets.{part}
 use Rattle.assertion.specs.Item.{Item}
@@ -9,7 +9,7 @@ use Rattle.assertion.specs.Assertion.{Read, read_to, followed, is_rule, comma_fr
 
 -- ---- `rule`, behind its label
 abbrev pub rule_up_to : List ℕ → ℕ → ℕ → Option (Read (List ℕ))
-rule_up_to s at end = pick (is_rule (part s at (end - at))) (followed s end (part s at (end - at))) none
+rule_up_to s at end = pick (is_rule (part s at (end - at))) (followed s end (part s at (end - at))) None
 
 unfoldable pub rule_from : List ℕ → ℕ → Option (Read (List ℕ))
 rule_from s at = bind (comma_from (drop at s) at) (rule_up_to s at)

@@ -1,6 +1,6 @@
 -- What the code's answers say: the number of a bit, and the bits that a list names as a set.
 use Rattle.std.specs.Prelude.{ℕ, ◌<◌, List, [], map, length, drop, leb}
-use Rattle.std.proofs.Math.Option.{Option, none, some}
+use Rattle.std.specs.Prelude.{Option, None, Some}
 use Rattle.octets.specs.Pick.{pick, bind}
 use Rattle.digits.specs.Inner.Masks.{mask_bits}
 use Rattle.gser.specs.Listed.{after_spaces, parted}
@@ -15,8 +15,8 @@ abbrev pub names_after : List ℕ → ℕ → List NamedBit
 names_after t row = bits_after t (table_rows t) row
 
 abbrev pub report_number : Number → Option ℕ
-report_number Number.No = none
-report_number (Number.Of n) = some n
+report_number Number.No = None
+report_number (Number.Of n) = Some n
 
 -- the number of a bit with a name is low
 abbrev pub Low : Number → Type 0
@@ -24,8 +24,8 @@ Low Number.No = Unit {0}
 Low (Number.Of n) = n < 64
 
 abbrev pub report_set : BitSet → Option (List ℕ)
-report_set BitSet.No = none
-report_set (BitSet.Of m) = some (mask_bits m)
+report_set BitSet.No = None
+report_set (BitSet.Of m) = Some (mask_bits m)
 
 -- the texts of a list from place `at` of what stands inside its braces on
 unfoldable pub texts_from : List ℕ → ℕ → List (List ℕ)
@@ -33,4 +33,4 @@ texts_from s at = pick (leb at (length s)) (map after_spaces (parted (drop at s)
 
 -- the bits of texts that are names
 unfoldable pub bits_of_texts : List NamedBit → List (List ℕ) → Option (List ℕ)
-bits_of_texts names xs = bind (numbers_of names xs) (λ ns. some (bits_listed 64 0 ns))
+bits_of_texts names xs = bind (numbers_of names xs) (λ ns. Some (bits_listed 64 0 ns))

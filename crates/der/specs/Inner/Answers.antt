@@ -1,6 +1,6 @@
 -- What the code's answers say.
 use Rattle.std.specs.Prelude.{ℕ, ◌≤◌, ◌<◌, ◌+◌, ◌-◌, Bool, List, [], length, drop, ltb}
-use Rattle.std.proofs.Math.Option.{Option, none, some}
+use Rattle.std.specs.Prelude.{Option, None, Some}
 use Rattle.octets.specs.Pick.{pick, both, consed}
 use Rattle.octets.specs.Octets.{octet}
 use Rattle.octets.specs.Inner.Answers.{between}
@@ -20,8 +20,8 @@ report_integer i = record { minus = i.minus; size = i.size }
 
 -- the subidentifiers from a place on, by the first of them and the place after it
 abbrev pub report_sub : List ℕ → Sub → Option (List ℕ)
-report_sub c Sub.Broken = none
-report_sub c Sub.End = some []
+report_sub c Sub.Broken = None
+report_sub c Sub.End = Some []
 report_sub c (Sub.Value n next) = consed n (subidentifiers (drop next c))
 
 -- that place lies further on, within the contents

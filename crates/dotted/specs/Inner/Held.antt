@@ -1,6 +1,6 @@
 -- What the code's answers say of stored arcs. none: the contents are no subidentifiers.
 use Rattle.std.specs.Prelude.{ℕ, ◌-◌, Bool, false, List, [], ◌∷◌, map, ltb, eqb, drop}
-use Rattle.std.proofs.Math.Option.{Option, none, some}
+use Rattle.std.specs.Prelude.{Option, None, Some}
 use Rattle.octets.specs.Pick.{pick, consed}
 use Rattle.octets.specs.Octets.{same}
 use Rattle.octets.specs.Text.{decimal_from}
@@ -13,9 +13,9 @@ use Rattle.dotted.specs.declared.Held.{Held}
 use Rattle.dotted.specs.declared.HeldStep.{HeldStep}
 
 abbrev pub split_first : Option (List ℕ) → Option (List ℕ)
-split_first none = none
-split_first (some []) = some []
-split_first (some (n ∷ l)) = some (first_arcs n l)
+split_first None = None
+split_first (Some []) = Some []
+split_first (Some (n ∷ l)) = Some (first_arcs n l)
 
 -- the arcs from a place on
 unfoldable pub rest_held : List ℕ → Held → Option (List ℕ)
@@ -24,7 +24,7 @@ rest_held c (Held.Second b next) = consed b (subidentifiers (drop next c))
 rest_held c (Held.At at) = subidentifiers (drop at c)
 
 abbrev pub report_held : List ℕ → HeldStep → Option (List ℕ)
-report_held c (HeldStep.End whole) = pick whole (some []) none
+report_held c (HeldStep.End whole) = pick whole (Some []) None
 report_held c (HeldStep.Next n h) = consed n (rest_held c h)
 
 abbrev pub first_step : ℕ → ℕ → HeldStep
@@ -48,5 +48,5 @@ rest_arcs t d = map (decimal_from 0) (rest_pieces t d)
 
 -- stored arcs, if there are any, are those of a list
 abbrev pub matches : Option (List ℕ) → List ℕ → Bool
-matches none l = false
-matches (some s) l = same s l
+matches None l = false
+matches (Some s) l = same s l

@@ -1,6 +1,6 @@
 -- What the evaluation of a filter comes to, as the code has it.
 use Rattle.std.specs.Prelude.{ℕ}
-use Rattle.std.proofs.Math.Option.{Option, none, some}
+use Rattle.std.specs.Prelude.{Option, None, Some}
 use Rattle.filter.specs.Filter.{Item, Filter}
 use Rattle.evaluation.specs.declared.Verdict.{Verdict}
 use Rattle.evaluation.specs.declared.Judged.{Judged}
@@ -9,8 +9,8 @@ use Rattle.engine.specs.declared.Answer.{Answer}
 
 -- the refusal n, behind 3, of what was read of a filter text
 abbrev pub refused_behind : ℕ → Option (Filter Item) → Answer
-refused_behind n none = Answer.Refused 3
-refused_behind n (some f) = Answer.Refused n
+refused_behind n None = Answer.Refused 3
+refused_behind n (Some f) = Answer.Refused n
 
 -- a truth with the tests made, and what the evaluation of a filter comes to
 abbrev pub settled_as : Verdict → ℕ → Answer

@@ -1,6 +1,6 @@
 -- What the code's answers say: a truth with the tests made, within a budget, for an assertion, a filter and the filters of a list.
 use Rattle.std.specs.Prelude.{ℕ, ◌+◌, ◌≤◌, ◌≡◌, Bool, true, false, List, length, leb}
-use Rattle.std.proofs.Math.Option.{Option, none, some}
+use Rattle.std.specs.Prelude.{Option, None, Some}
 use Rattle.octets.specs.Pick.{pick, bind, is_some}
 use Rattle.rows.specs.Paper.{table_limits}
 use Rattle.types.specs.Types.{Ty}
@@ -56,8 +56,8 @@ opposed Verdict.Undefined = Verdict.Undefined
 -- ---- an assertion
 -- its outcome for the value that octets decode to; of other octets nothing is asked
 abbrev pub outcome_for : Ty → Option Value → Item → Outcome
-outcome_for ty none i = settled UNDEFINED 0
-outcome_for ty (some x) i = outcome known_rules ty x i
+outcome_for ty None i = settled UNDEFINED 0
+outcome_for ty (Some x) i = outcome known_rules ty x i
 
 unfoldable pub stored_outcome : Ty → List ℕ → Item → Outcome
 stored_outcome ty v i = outcome_for ty (stored_value ty v) i
@@ -72,17 +72,17 @@ leads_by component ty = bind (identifiers component) (λ is. allowed is ty)
 
 -- a rule is for it
 abbrev pub suits_any : Rule → Option Target → Bool
-suits_any r none = false
-suits_any r (some g) = suits r g
+suits_any r None = false
+suits_any r (Some g) = suits r g
 
 -- the test of a rule of bits there
 abbrev pub bits_any : Rule → Option Target → List ℕ → Option Test
-bits_any r none x = none
-bits_any r (some g) x = bits_test r g x
+bits_any r None x = None
+bits_any r (Some g) x = bits_test r g x
 
 -- the identifiers of a reference that leads to g are planned, for a test with the operand x
 unfoldable pub PlannedFor : List ℕ → List ℕ → List ℕ → Bool → Option (List ℕ) → target.Target → Type 0
-PlannedFor t q x defaults component g = (is : List Id) → identifiers component ≡ some is → Lands g → Planned t q x defaults 1 (type_at t 0) is
+PlannedFor t q x defaults component g = (is : List Id) → identifiers component ≡ Some is → Lands g → Planned t q x defaults 1 (type_at t 0) is
 
 -- what the end of a walk says
 abbrev pub ended : State → Judged
@@ -116,8 +116,8 @@ inverse over = over
 
 -- a filter that was read; of a text that was not nothing is asked
 unfoldable pub judged_filter : (Item → Outcome) → Bool → ℕ → ℕ → Option (Read (Filter Item)) → Ended
-judged_filter says live budget n none = over
-judged_filter says live budget n (some r) = judged_if live budget n (reading says r.is) r.after
+judged_filter says live budget n None = over
+judged_filter says live budget n (Some r) = judged_if live budget n (reading says r.is) r.after
 
 -- ---- the filters of a list, from one of them on
 -- the rest's outcome behind an Undefined filter
@@ -132,8 +132,8 @@ judged_rest j Progress.Stopped budget n o after = ends (verdict_of (opposite (of
 judged_rest j Progress.Passed budget n o after = ends Verdict.Undefined n after
 
 unfoldable pub judged_filters : (Item → Outcome) → Join → Progress → ℕ → ℕ → Option (Read (Filters Item)) → Ended
-judged_filters says j p budget n none = over
-judged_filters says j p budget n (some r) = judged_rest j p budget n (reading_in says j r.is) r.after
+judged_filters says j p budget n None = over
+judged_filters says j p budget n (Some r) = judged_rest j p budget n (reading_in says j r.is) r.after
 
 -- ---- what the code says where it reads and judges: the place after the filter and the items left, with the truth; a text that is no filter, or not within
 -- the depth d and so many items; or more tests than the budget, and then nothing of the text behind
@@ -220,9 +220,9 @@ turned s j p Judging.Bad = Turn.Ends Judging.Bad
 
 -- ---- the filter of a whole text, if it is one: a truth within the budget, or more tests; where the budget is met first nothing is said of the text
 abbrev pub EvaluatedAs : (Item → Outcome) → ℕ → Option (Filter Item) → Evaluated → Type 0
-EvaluatedAs says budget x (Evaluated.Of u k) = (f : Filter Item) × ((x ≡ some f) × (Judged.Of u k ≡ charged budget 0 (reading says f)))
-EvaluatedAs says budget x Evaluated.Over = (f : Filter Item) → x ≡ some f → Judged.Over ≡ charged budget 0 (reading says f)
-EvaluatedAs says budget x Evaluated.Malformed = x ≡ none
+EvaluatedAs says budget x (Evaluated.Of u k) = (f : Filter Item) × ((x ≡ Some f) × (Judged.Of u k ≡ charged budget 0 (reading says f)))
+EvaluatedAs says budget x Evaluated.Over = (f : Filter Item) → x ≡ Some f → Judged.Over ≡ charged budget 0 (reading says f)
+EvaluatedAs says budget x Evaluated.Malformed = x ≡ None
 
 unfoldable pub Evaluates : (Item → Outcome) → ℕ → Option (Filter Item) → Evaluated → Type 0
 Evaluates says budget x r = EvaluatedAs says budget x r

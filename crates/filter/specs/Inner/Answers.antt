@@ -1,6 +1,6 @@
 -- What the code's answers say.
 use Rattle.std.specs.Prelude.{ℕ, ◌+◌, ◌-◌, List, length, leb}
-use Rattle.std.proofs.Math.Option.{Option, none, some}
+use Rattle.std.specs.Prelude.{Option, None, Some}
 use Rattle.octets.specs.Pick.{pick, both}
 use Rattle.assertion.specs.Assertion.{Read}
 use Rattle.filter.specs.Filter as filter
@@ -34,22 +34,22 @@ abbrev pub fitting : ℕ → ℕ → ℕ → ℕ → ℕ → Span
 fitting d room deep used after = pick (both (leb deep d) (leb used room)) (Span.Of after (room - used)) Span.Bad
 
 unfoldable pub bounded : ℕ → ℕ → Option (Read (Filter Item)) → Span
-bounded d room none = Span.Bad
-bounded d room (some r) = fitting d room (depth r.is) (length (items r.is)) r.after
+bounded d room None = Span.Bad
+bounded d room (Some r) = fitting d room (depth r.is) (length (items r.is)) r.after
 
 unfoldable pub bounded_in : ℕ → ℕ → Option (Read (Filters Item)) → Span
-bounded_in d room none = Span.Bad
-bounded_in d room (some r) = fitting d room (depth_in r.is) (length (items_in r.is)) r.after
+bounded_in d room None = Span.Bad
+bounded_in d room (Some r) = fitting d room (depth_in r.is) (length (items_in r.is)) r.after
 
 -- ---- the whole text
 -- the items of a filter that was read, or a refusal
 abbrev pub report : Reading → Option ℕ
-report (Reading.Good f) = some f.items
-report Reading.Bad = none
+report (Reading.Good f) = Some f.items
+report Reading.Bad = None
 
 abbrev pub items_of : Option (Filter Item) → Option ℕ
-items_of none = none
-items_of (some f) = some (length (items f))
+items_of None = None
+items_of (Some f) = Some (length (items f))
 
 unfoldable pub filters_at : List ℕ → ℕ → Option (Read (Filters Item))
 filters_at s at = parsing.filters_from (length s + 2) s at

@@ -1,6 +1,6 @@
 -- Marks of the attributes that are used up: bit j of a number marks attribute j of a list.
 use Rattle.std.specs.Prelude.{ℕ, ◌≤◌, ◌+◌, ◌*◌, ◌/◌, ◌%◌, Bool, List, [], ◌∷◌, eqb}
-use Rattle.std.proofs.Math.Option.{Option, none, some}
+use Rattle.std.specs.Prelude.{Option, None, Some}
 use Rattle.octets.specs.Pick.{pick, both}
 use Rattle.names.specs.Compared.{Compared, same_pair}
 use Rattle.namematch.specs.declared.Marks.{Marks}
@@ -16,18 +16,18 @@ same_unused a b m = both (eqb (m % 2) 0) (same_pair a b)
 
 -- marks of all places but the first, behind its mark
 abbrev pub behind : ℕ → Option ℕ → Option ℕ
-behind d none = none
-behind d (some m) = some (d + 2 * m)
+behind d None = None
+behind d (Some m) = Some (d + 2 * m)
 
 -- the marks with that of the first unmarked attribute that is the same as a; none where none is
 unfoldable pub marked : Compared → List Compared → ℕ → Option ℕ
-marked a [] m = none
-marked a (b ∷ l) m = let r = marked a l (m / 2) in pick (same_unused a b m) (some (m + 1)) (behind (m % 2) r)
+marked a [] m = None
+marked a (b ∷ l) m = let r = marked a l (m / 2) in pick (same_unused a b m) (Some (m + 1)) (behind (m % 2) r)
 
 -- ---- what the code's answers say
 abbrev pub report : Marks → Option ℕ
-report Marks.No = none
-report (Marks.Of m) = some m
+report Marks.No = None
+report (Marks.Of m) = Some m
 
 -- one mark more
 abbrev pub Near : ℕ → Marks → Type 0

@@ -1,7 +1,7 @@
 -- An asserted name as the operand of a test: octets that are written once, in the order of the text, and read from their end, so that the first RDN comes
 -- first. An attribute is its dotted type, its value as prepared, and the lengths of both in two octets each; an RDN its attributes and their number in one octet.
 use Rattle.std.specs.Prelude.{ℕ, zero, suc, ◌-◌, ◌/◌, ◌%◌, true, List, [], ◌∷◌, ◌++◌, eqb, length}
-use Rattle.std.proofs.Math.Option.{Option, none, some}
+use Rattle.std.specs.Prelude.{Option, None, Some}
 use Rattle.octets.specs.Pick.{pick}
 use Rattle.octets.specs.Octets.{octet, two, part}
 use Rattle.der.specs.Dotted.{dotted_arcs}
@@ -32,8 +32,8 @@ name_octets (r ∷ rs) = rdn_octets r ++ name_octets rs
 
 -- what was read of a text, nothing where it doesn't conform
 abbrev pub or_none : {A : Type 0} → Option (List A) → List A
-or_none none = []
-or_none (some l) = l
+or_none None = []
+or_none (Some l) = l
 
 -- ---- read from an end on backwards
 -- the attribute that ends there: where its value and its type start

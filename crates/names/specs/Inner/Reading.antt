@@ -1,6 +1,6 @@
 -- What the code's answers say of a name that stands between quotes.
 use Rattle.std.specs.Prelude.{ℕ, ◌≤◌, ◌<◌, ◌+◌, ◌*◌, ◌≡◌, Bool, true, false, List, [], ◌∷◌, map, leb, eqb, length, drop}
-use Rattle.std.proofs.Math.Option.{Option, none, some}
+use Rattle.std.specs.Prelude.{Option, None, Some}
 use Rattle.octets.specs.Pick.{pick, both, either, no}
 use Rattle.octets.specs.Octets.{octet, every}
 use Rattle.octets.specs.Text.{is_digit, is_hex, hex_value}
@@ -55,7 +55,7 @@ Stands p at (Letter.Escaped b after) = Standing p at (rfc.escaped b) after
 
 -- octets that were read, and the letters after them
 abbrev pub read : List ℕ → List rfc.Letter → Option (Read (List ℕ))
-read s ls = some (record { got = s; rest = ls })
+read s ls = Some (record { got = s; rest = ls })
 
 -- ---- values
 -- a letter may stand in a value, as its first or later
@@ -79,10 +79,10 @@ value_octets ls = map octet_of (up_to_end ls)
 
 -- the value that letters begin with
 unfoldable pub value_from : List rfc.Letter → Option (Read (List ℕ))
-value_from ls = pick (is_string (up_to_end ls)) (read (value_octets ls) (from_end ls)) none
+value_from ls = pick (is_string (up_to_end ls)) (read (value_octets ls) (from_end ls)) None
 
 abbrev pub report_value : List ℕ → ℕ → ValueEnd → Option (Read (List ℕ))
-report_value p at ValueEnd.No = none
+report_value p at ValueEnd.No = None
 report_value p at (ValueEnd.Of end) = read (unescaped (between p at end)) (letters_at p end)
 
 -- a place from one up to another
@@ -101,12 +101,12 @@ is_type_octet b = either (eqb b 46) (is_digit b)
 
 -- a type of such octets alone
 abbrev pub plain_type : Option (Read (List ℕ)) → Option (Read (List ℕ))
-plain_type none = none
-plain_type (some t) = pick (every is_type_octet t.got) (some t) none
+plain_type None = None
+plain_type (Some t) = pick (every is_type_octet t.got) (Some t) None
 
 -- the type from a place on, by the place of the `=` after it
 abbrev pub report_type : List ℕ → ℕ → Place → Option (Read (List ℕ))
-report_type p at Place.Nowhere = none
+report_type p at Place.Nowhere = None
 report_type p at (Place.At equals) = read (between p at equals) (letters_at p (equals + 1))
 
 -- a place from one on and before another
@@ -119,8 +119,8 @@ TypePlaces at most Place.Nowhere = Unit {0}
 TypePlaces at most (Place.At i) = Before at most i
 
 abbrev pub report_attribute : List ℕ → ℕ → AttributeAt → Option (Read rfc.Attribute)
-report_attribute p at AttributeAt.No = none
-report_attribute p at (AttributeAt.Of a) = some (record {
+report_attribute p at AttributeAt.No = None
+report_attribute p at (AttributeAt.Of a) = Some (record {
   got = record { type = between p at a.equals; value = unescaped (between p (a.equals + 1) a.end) };
   rest = letters_at p a.end;
 })
@@ -138,9 +138,9 @@ AttributePlaces at most (AttributeAt.Of a) = Rising at most a
 -- ---- RDNs
 -- the letters after what was read
 abbrev pub rest_of : {A : Type 0} → Option (Read A) → Option (List rfc.Letter)
-rest_of none = none
-rest_of (some r) = some r.rest
+rest_of None = None
+rest_of (Some r) = Some r.rest
 
 abbrev pub report_rest : List ℕ → RdnEnd → Option (List rfc.Letter)
-report_rest p RdnEnd.No = none
-report_rest p (RdnEnd.Of end) = some (letters_at p end)
+report_rest p RdnEnd.No = None
+report_rest p (RdnEnd.Of end) = Some (letters_at p end)

@@ -1,6 +1,6 @@
 -- What the code's answers say.
 use Rattle.std.specs.Prelude.{ℕ, ◌+◌, ◌-◌, ◌*◌, List, [], ◌∷◌, ltb}
-use Rattle.std.proofs.Math.Option.{Option, none, some}
+use Rattle.std.specs.Prelude.{Option, None, Some}
 use Rattle.octets.specs.Pick.{pick}
 use Rattle.octets.specs.declared.Size.{Size}
 use Rattle.octets.specs.declared.Place.{Place}
@@ -17,8 +17,8 @@ grow_of (Size.Of n) d = clip (n * 10 + d)
 
 -- a place, or none
 abbrev pub report_place : Place → Option ℕ
-report_place Place.Nowhere = none
-report_place (Place.At i) = some i
+report_place Place.Nowhere = None
+report_place (Place.At i) = Some i
 
 -- the largest octet, or n where none is larger
 unfoldable pub highest_from : ℕ → List ℕ → ℕ

@@ -1,6 +1,6 @@
 -- A reference resolved into a plan's numbers, identifier after identifier.
 use Rattle.std.specs.Prelude.{◌≡◌, Bool, true, List, [], ◌∷◌, ℕ, suc, ◌≤◌, ◌<◌, ◌+◌, ◌-◌, ◌*◌, length, get_or, set, leb, eqb}
-use Rattle.std.proofs.Math.Option.{none, some}
+use Rattle.std.specs.Prelude.{None, Some}
 use Rattle.octets.specs.Pick.{pick, both}
 use Rattle.der.specs.Kind as kind
 use Rattle.rows.specs.Row.{kind_at, named_at, members_at, is_list}
@@ -56,7 +56,7 @@ pub data Fits (t : List ℕ) (row : ℕ) : ℕ → ℕ → ℕ → Id → ℕ �
 -- the identifiers from place k of the reference r on are one of these numbers, and js
 pub record Begins (t r : List ℕ) (k row s a b to : ℕ) (js : List Id) : Type 0 where
   pub i : Id
-  pub whole : ids_at r k ≡ some (i ∷ js)
+  pub whole : ids_at r k ≡ Some (i ∷ js)
   pub fits : Fits t row s a b i to
 
 -- numbers of a member name one of a row
@@ -70,19 +70,19 @@ pub record Onward (t r : List ℕ) (k row s a b to next : ℕ) : Type 0 where
   pub rises : k < next
   pub ends : next ≤ length r + 1
   pub chain : (c : ℕ) → chain_fits (suc c) t (table_rows t) row ≡ true → chain_fits c t (table_rows t) to ≡ true
-  pub leads : along (ids_at r k) (some (of_type (type_at t row))) ≡ along (ids_at r next) (some (of_type (type_at t to)))
-  pub begins : (js : List Id) → ids_at r next ≡ some js → Begins t r k row s a b to js
+  pub leads : along (ids_at r k) (Some (of_type (type_at t row))) ≡ along (ids_at r next) (Some (of_type (type_at t to)))
+  pub begins : (js : List Id) → ids_at r next ≡ Some js → Begins t r k row s a b to js
 
 -- it is the count, and the last
 pub record Counted (t r : List ℕ) (k row : ℕ) : Type 0 where
   pub list : is_list (kind_at t (place_at t row)) ≡ true
-  pub only : ids_at r k ≡ some (index count ∷ [])
-  pub leads : along (ids_at r k) (some (of_type (type_at t row))) ≡ some of_count
+  pub only : ids_at r k ≡ Some (index count ∷ [])
+  pub leads : along (ids_at r k) (Some (of_type (type_at t row))) ≡ Some of_count
 
 abbrev pub PlannedAs : List ℕ → List ℕ → ℕ → ℕ → Planning → Type 0
 PlannedAs t r k row (Planning.To s a b to next) = Onward t r k row s a b to next
 PlannedAs t r k row Planning.Count = Counted t r k row
-PlannedAs t r k row Planning.No = along (ids_at r k) (some (of_type (type_at t row))) ≡ none
+PlannedAs t r k row Planning.No = along (ids_at r k) (Some (of_type (type_at t row))) ≡ None
 
 unfoldable pub Plans : List ℕ → List ℕ → ℕ → ℕ → Planning → Type 0
 Plans t r k row p = PlannedAs t r k row p
@@ -106,26 +106,26 @@ Agrees p q n = (i : ℕ) → i < n → get_or p i 0 ≡ get_or q i 0
 -- where the identifiers from place k on are planned from step j on, on the type of a row, the whole reference is planned, on the type of row 0
 abbrev pub Extends : List ℕ → List ℕ → List ℕ → Bool → List ℕ → ℕ → ℕ → ℕ → Type 0
 Extends t r x defaults q row k j =
-    (p : List ℕ) → Agrees p q (4 * j) → (is : List Id) → ids_at r k ≡ some is → Planned t p x defaults j (type_at t row) is
-    → (All-ids : List Id) → ids_at r 0 ≡ some All-ids → Planned t p x defaults 1 (type_at t 0) All-ids
+    (p : List ℕ) → Agrees p q (4 * j) → (is : List Id) → ids_at r k ≡ Some is → Planned t p x defaults j (type_at t row) is
+    → (All-ids : List Id) → ids_at r 0 ≡ Some All-ids → Planned t p x defaults 1 (type_at t 0) All-ids
 
 pub record Resolving (t r x : List ℕ) (defaults : Bool) (q : List ℕ) (row k j : ℕ) : Type 0 where
   pub here : row < length (table_rows t)
   pub from : 0 < j
   pub chain : chain_fits (17 - j) t (table_rows t) row ≡ true
   pub place : k ≤ length r + 1
-  pub leads : along (ids_at r k) (some (of_type (type_at t row))) ≡ along (ids_at r 0) (some (of_type (type_at t 0)))
+  pub leads : along (ids_at r k) (Some (of_type (type_at t row))) ≡ along (ids_at r 0) (Some (of_type (type_at t 0)))
   pub extends : Extends t r x defaults q row k j
 
 -- ---- the whole
 -- the identifiers of the reference are planned
 abbrev pub AllPlanned : List ℕ → List ℕ → List ℕ → Bool → List ℕ → Type 0
-AllPlanned t r x defaults q = (is : List Id) → ids_at r 0 ≡ some is → Planned t q x defaults 1 (type_at t 0) is
+AllPlanned t r x defaults q = (is : List Id) → ids_at r 0 ≡ Some is → Planned t q x defaults 1 (type_at t 0) is
 
 abbrev pub NextIs : List ℕ → List ℕ → List ℕ → Bool → List ℕ → ℕ → ℕ → Resolved → Type 0
 NextIs t r x defaults q k j (Resolved.On to next) = (Resolving t r x defaults q to next (j + 1)) × (k < next)
-NextIs t r x defaults q k j Resolved.Count = (along (ids_at r 0) (some (of_type (type_at t 0))) ≡ some of_count) × AllPlanned t r x defaults q
-NextIs t r x defaults q k j Resolved.No = along (ids_at r 0) (some (of_type (type_at t 0))) ≡ none
+NextIs t r x defaults q k j Resolved.Count = (along (ids_at r 0) (Some (of_type (type_at t 0))) ≡ Some of_count) × AllPlanned t r x defaults q
+NextIs t r x defaults q k j Resolved.No = along (ids_at r 0) (Some (of_type (type_at t 0))) ≡ None
 
 unfoldable pub Nexts : List ℕ → List ℕ → List ℕ → Bool → List ℕ → ℕ → ℕ → Resolved → Type 0
 Nexts t r x defaults q k j n = NextIs t r x defaults q k j n
@@ -140,4 +140,4 @@ Follows t r x defaults q g = Lands g → AllPlanned t r x defaults q
 
 -- the identifiers of a reference, where one is given, that leads anywhere
 unfoldable pub Resolves : List ℕ → Bool → List ℕ → List ℕ → Bool → List ℕ → Target → Type 0
-Resolves t given r x defaults q g = (is : List Id) → given_ids given r ≡ some is → Lands g → Planned t q x defaults 1 (type_at t 0) is
+Resolves t given r x defaults q g = (is : List Id) → given_ids given r ≡ Some is → Lands g → Planned t q x defaults 1 (type_at t 0) is

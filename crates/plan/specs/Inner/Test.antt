@@ -1,7 +1,7 @@
 -- A test: a comparison of contents c with the operand x, which is made once from the value text, or with a number that is in the plan. The number of an
 -- integer is the integer plus 2^63; an asserted integer that can't be stored is a bound below or above all.
 use Rattle.std.specs.Prelude.{ℕ, ◌-◌, Bool, true, false, List, length, ltb, leb, eqb}
-use Rattle.std.proofs.Math.Option.{Option, none, some}
+use Rattle.std.specs.Prelude.{Option, None, Some}
 use Rattle.octets.specs.Pick.{pick, both, no, bind}
 use Rattle.octets.specs.Octets.{part, same, below, bytes, paired}
 use Rattle.der.specs.Time as times
@@ -128,14 +128,14 @@ of_rule (rule.equal s) u = u
 of_rule (rule.less s) u = no_value
 
 unfoldable pub bits_test_by : Rule → Option (List NamedBit) → List ℕ → Option Test
-bits_test_by r none x = pick (is_bits x) (some (test_for r x)) none
-bits_test_by r (some ns) x =
-    pick (is_bits x) (some (of_rule r (named_bits (no (is_bit_text x)) (significant (length (digits x)) (digits x)))))
-    (bind (names.listed_bits ns x) (λ l. some (of_rule r (listed l))))
+bits_test_by r None x = pick (is_bits x) (Some (test_for r x)) None
+bits_test_by r (Some ns) x =
+    pick (is_bits x) (Some (of_rule r (named_bits (no (is_bit_text x)) (significant (length (digits x)) (digits x)))))
+    (bind (names.listed_bits ns x) (λ l. Some (of_rule r (listed l))))
 
 -- none where the rule isn't for what the reference leads to, too
 unfoldable pub bits_test : Rule → Target → List ℕ → Option Test
-bits_test r g x = pick (suits r g) (bits_test_by r (names_at g) x) none
+bits_test r g x = pick (suits r g) (bits_test_by r (names_at g) x) None
 
 -- ---- a test as two numbers: the comparison, and the number that it is with
 abbrev pub bound_numbered : ℕ → ℕ → Bound
@@ -170,5 +170,5 @@ abbrev pub report_test : TestNumbers → Test
 report_test r = test_of r.comparison r.number
 
 abbrev pub report_bits : BitsTest → Option Test
-report_bits BitsTest.No = none
-report_bits (BitsTest.Of k n) = some (test_of k n)
+report_bits BitsTest.No = None
+report_bits (BitsTest.Of k n) = Some (test_of k n)

@@ -1,6 +1,6 @@
 -- What the code's answers say: the identifiers of a text from a place on, one step along them, and what a reference leads to.
 use Rattle.std.specs.Prelude.{ℕ, suc, ◌+◌, ◌-◌, ◌≡◌, Bool, true, List, [], ◌∷◌, length, drop, ltb, leb, eqb}
-use Rattle.std.proofs.Math.Option.{Option, none, some}
+use Rattle.std.specs.Prelude.{Option, None, Some}
 use Rattle.octets.specs.Pick.{pick, both, bind, consed}
 use Rattle.octets.specs.Octets.{octet, part, same}
 use Rattle.octets.specs.Text.{is_name, decimal}
@@ -30,13 +30,13 @@ capped (index i) = index (capped_index i)
 
 -- the first identifier as the code holds it, the others as they are
 abbrev pub head_capped : Option (List Id) → Option (List Id)
-head_capped none = none
-head_capped (some []) = some []
-head_capped (some (i ∷ is)) = some (capped i ∷ is)
+head_capped None = None
+head_capped (Some []) = Some []
+head_capped (Some (i ∷ is)) = Some (capped i ∷ is)
 
 -- ---- the identifiers of the text r from place k on; beyond its end there are no more
 unfoldable pub ids_at : List ℕ → ℕ → Option (List Id)
-ids_at r k = pick (leb k (length r)) (read_reference (drop k r)) (some [])
+ids_at r k = pick (leb k (length r)) (read_reference (drop k r)) (Some [])
 
 -- how many octets stand before the first dot, or the end
 unfoldable pub dotless : List ℕ → ℕ
@@ -49,26 +49,26 @@ end_at r k = k + dotless (drop k r)
 
 -- ---- one component identifier, in the order of its forms
 abbrev pub word_id : List ℕ → Option Id
-word_id p = pick (is_name p) (some (name p)) none
+word_id p = pick (is_name p) (Some (name p)) None
 
 abbrev pub other_id : List ℕ → Option Id
-other_id p = pick (both (eqb (octet p 0) 45) (is_position (drop 1 p))) (some (index (from_end (decimal (drop 1 p))))) (word_id p)
+other_id p = pick (both (eqb (octet p 0) 45) (is_position (drop 1 p))) (Some (index (from_end (decimal (drop 1 p))))) (word_id p)
 
 abbrev pub number_id : List ℕ → Option Id
-number_id p = pick (is_position p) (some (index (position (decimal p)))) (other_id p)
+number_id p = pick (is_position p) (Some (index (position (decimal p)))) (other_id p)
 
 abbrev pub capped_id : Option Id → Option Id
-capped_id none = none
-capped_id (some i) = some (capped i)
+capped_id None = None
+capped_id (Some i) = Some (capped i)
 
 -- what the code says of the text p
 abbrev pub report_piece : List ℕ → Piece → Option Id
-report_piece p Piece.Name = some (name p)
-report_piece p (Piece.Position n) = some (index (position n))
-report_piece p (Piece.FromEnd n) = some (index (from_end n))
-report_piece p Piece.Count = some (index count)
-report_piece p Piece.All = some (index all)
-report_piece p Piece.Bad = none
+report_piece p Piece.Name = Some (name p)
+report_piece p (Piece.Position n) = Some (index (position n))
+report_piece p (Piece.FromEnd n) = Some (index (from_end n))
+report_piece p Piece.Count = Some (index count)
+report_piece p Piece.All = Some (index all)
+report_piece p Piece.Bad = None
 
 -- ---- one step along the text r
 abbrev pub report_id_step : List ℕ → Step → Option (List Id)
@@ -77,8 +77,8 @@ report_id_step r (Step.Position n k) = consed (index (position n)) (ids_at r k)
 report_id_step r (Step.FromEnd n k) = consed (index (from_end n)) (ids_at r k)
 report_id_step r (Step.Count k) = consed (index count) (ids_at r k)
 report_id_step r (Step.All k) = consed (index all) (ids_at r k)
-report_id_step r Step.End = some []
-report_id_step r Step.Bad = none
+report_id_step r Step.End = Some []
+report_id_step r Step.Bad = None
 
 -- the next place lies after k, at most one past the end of r
 unfoldable pub rises : List ℕ → ℕ → ℕ → Bool
@@ -113,9 +113,9 @@ first_named t s row x = first (named_of t s row x) (members_at t (row_at s row))
 
 -- ---- what a reference leads to
 abbrev pub report_target : ℕ → List ℕ → List ℕ → Target → Option allowed.Target
-report_target chain t s (Target.Row i) = some (allowed.of_type (type_from chain t s i))
-report_target chain t s Target.Count = some allowed.of_count
-report_target chain t s Target.No = none
+report_target chain t s (Target.Row i) = Some (allowed.of_type (type_from chain t s i))
+report_target chain t s Target.Count = Some allowed.of_count
+report_target chain t s Target.No = None
 
 -- a row that it names is one of the rows s
 abbrev pub row_within : List ℕ → Target → Bool

@@ -1,6 +1,6 @@
 -- What the code's rules and answers say.
 use Rattle.std.specs.Prelude.{ℕ, ◌+◌, Bool, true, false, List, eqb}
-use Rattle.std.proofs.Math.Option.{Option, none, some}
+use Rattle.std.specs.Prelude.{Option, None, Some}
 use Rattle.octets.specs.Pick.{both, either, bind, is_some}
 use Rattle.octets.specs.Octets.{same, bytes}
 use Rattle.octets.specs.Quoted.{unquoted}
@@ -40,8 +40,8 @@ meant (rule.Rule.Equal s) = equal (syntax_of s)
 meant (rule.Rule.Less s) = less (syntax_of s)
 
 abbrev pub report_rule : named.Named → Option Rule
-report_rule named.Named.Unknown = none
-report_rule (named.Named.Known r) = some (meant r)
+report_rule named.Named.Unknown = None
+report_rule (named.Named.Known r) = Some (meant r)
 
 -- a text is a rule's name or OID
 unfoldable pub called : List ℕ → List ℕ → List ℕ → Bool
@@ -83,16 +83,16 @@ conforms (equal s) t = conforms_to s t
 conforms (less s) t = conforms_to s t
 
 abbrev pub time_or : Option Time → Asserted
-time_or none = any_value
-time_or (some u) = time u
+time_or None = any_value
+time_or (Some u) = time u
 
 abbrev pub name_or : Option (List (List Compared)) → Asserted
-name_or none = any_value
-name_or (some n) = name n
+name_or None = any_value
+name_or (Some n) = name n
 
 abbrev pub rdn_or : Option (List Compared) → Asserted
-rdn_or none = any_value
-rdn_or (some l) = rdn l
+rdn_or None = any_value
+rdn_or (Some l) = rdn l
 
 unfoldable pub said_in : Syntax → List ℕ → Asserted
 said_in booleans t = truth (same t (bytes "TRUE"))

@@ -1,6 +1,6 @@
 -- What the functions of the check answer, by the definitions: the place after a value that is as its row says, or none.
 use Rattle.std.specs.Prelude.{ℕ, zero, suc, ◌<◌, ◌+◌, ◌-◌, ◌≡◌, Bool, true, false, List, [], length, eqb}
-use Rattle.std.proofs.Math.Option.{Option, none, some}
+use Rattle.std.specs.Prelude.{Option, None, Some}
 use Rattle.octets.specs.Pick.{pick, both, either, no, bind, is_some}
 use Rattle.octets.specs.Octets.{part, same}
 use Rattle.der.specs.Kind as kind
@@ -22,8 +22,8 @@ use Rattle.value.specs.declared.Checked.{Checked}
 
 -- the place after a value, where there is one
 abbrev pub checked : Option Decoded → Checked
-checked none = Checked.Bad
-checked (some d) = Checked.At d.after
+checked None = Checked.Bad
+checked (Some d) = Checked.At d.after
 
 -- up to a place, where a test holds
 abbrev pub up_to : ℕ → Bool → Checked
@@ -94,8 +94,8 @@ unfoldable pub fields_checked : Members → List ℕ → ℕ → ℕ → Checked
 fields_checked ms v stop i = up_to stop (is_some (fields_from ms v stop i))
 
 abbrev pub in_order : ℕ → List ℕ → Option Values → Bool
-in_order k v none = false
-in_order k v (some xs) = either (eqb k kind.sequence_of) (rising v xs)
+in_order k v None = false
+in_order k v (Some xs) = either (eqb k kind.sequence_of) (rising v xs)
 
 unfoldable pub elements_checked : ℕ → Ty → List ℕ → ℕ → ℕ → Checked
 elements_checked k ty v stop i = up_to stop (in_order k v (many (λ i stop. unwrapped ty untagged v i stop) (stop - i) stop i))
@@ -106,8 +106,8 @@ rising_after v p end_values = true
 rising_after v p (next x xs) = let r = rising_after v (encoding v x) xs in both (not_above p (encoding v x)) r
 
 abbrev pub order_after : ℕ → List ℕ → List ℕ → Option Values → Bool
-order_after k v p none = false
-order_after k v p (some xs) = either (eqb k kind.sequence_of) (rising_after v p xs)
+order_after k v p None = false
+order_after k v p (Some xs) = either (eqb k kind.sequence_of) (rising_after v p xs)
 
 -- the octets from before to i, and from i to after, as neighbours in a list of kind k
 unfoldable pub neighbours : ℕ → List ℕ → ℕ → ℕ → ℕ → Bool

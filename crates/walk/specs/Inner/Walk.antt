@@ -1,6 +1,6 @@
 -- The walk along a plan: for whatever value stands at a place, of the type that the plan is for, the answer is the run over what the plan names there.
 use Rattle.std.specs.Prelude.{◌≡◌, Bool, List, [], ◌∷◌, ℕ, ◌+◌, ◌≤◌, ◌<◌, length}
-use Rattle.std.proofs.Math.Option.{some}
+use Rattle.std.specs.Prelude.{Some}
 use Rattle.types.specs.Types.{Ty}
 use Rattle.table.specs.Inner.Rows.{type_at}
 use Rattle.value.specs.Value.{Value, Values}
@@ -92,7 +92,7 @@ pub record Asks (t q x v : List ℕ) : Type 0 where
   pub ids : List Id
   pub val : Value
   pub planned : Planned t q x defaults 1 (type_at t 0) ids
-  pub stored : stored_value (type_at t 0) v ≡ some val
+  pub stored : stored_value (type_at t 0) v ≡ Some val
 
 unfoldable pub Answers : List ℕ → List ℕ → List ℕ → List ℕ → ℕ → List ℕ → Seen → Type 0
 Answers t q x v n m w = (g : Asks t q x v) → w ≡ run (task_of q) x (seen (State.Going n) m) (named g.defaults g.ids g.val)
