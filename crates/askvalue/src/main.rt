@@ -35,9 +35,9 @@ fn main(rt: HostRuntime) -> io::Result<()> {
     let v = read_file(&rt, "value", &mut value)?;
     let f = read_file(&rt, "filter", &mut filter)?;
     match engine::ask(&table[..t], &value[..v], &filter[..f], Answer::MAX_BUDGET) {
-        Answer::True(n) => print_line(&rt, "TRUE ", n as u64),
-        Answer::False(n) => print_line(&rt, "FALSE ", n as u64),
-        Answer::Undefined(n) => print_line(&rt, "UNDEFINED ", n as u64),
-        Answer::Refused(n) => print_line(&rt, "REFUSED ", n as u64),
+        Ok(Answer::True(n)) => print_line(&rt, "TRUE ", n as u64),
+        Ok(Answer::False(n)) => print_line(&rt, "FALSE ", n as u64),
+        Ok(Answer::Undefined(n)) => print_line(&rt, "UNDEFINED ", n as u64),
+        Err(r) => print_line(&rt, "REFUSED ", r.number() as u64),
     }
 }

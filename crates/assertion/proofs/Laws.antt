@@ -1,21 +1,20 @@
 -- Laws of the definitions, for this crate's proofs and for the layers above.
 use mathlib.Core.Path.{◌≡◌, refl, sym, ap, ◌∙◌}
-use mathlib.Core.Bool.{Bool, true, false, false≢true}
+use mathlib.Core.Bool.{Bool, true, false, ◌&&◌, false≢true}
 use mathlib.Core.List.{List, [], ◌∷◌, ◌++◌}
-use Rattle.std.specs.Prelude.{Option, None, Some}
-use Prim.Native.Nat.{ℕ, suc, ◌≤◌, ◌<◌, ◌+◌, ◌-◌}
+use Rattle.std.specs.Prelude.{Option, None, Some, MatchOption, ◌≢◌}
+use Rattle.std.specs.List.{list_all}
+use Prim.Native.Nat.{ℕ, zero, suc, ◌≤◌, ◌<◌, ◌+◌, ◌-◌}
 use native.Mathlib.Omega.{arith}
-use borrow.Author.Tests.{ne_eqb}
+use borrow.Author.Tests.{eq-eqb, ne_eqb}
 use lib.Dec.{eqb}
 use lib.ListN.{length, take, drop, length-take, length-append}
 use lib.Seq.{take-take}
 use Rattle.octets.specs.Pick.{pick, no, bind}
-use Rattle.octets.specs.Octets.{octet, part}
+use Rattle.octets.specs.Octets.{octet, part, every}
 use Rattle.octets.specs.Inner.Answers.{between}
 use Rattle.octets.specs.Text.{starts, trimmed}
 use Rattle.octets.specs.Quoted.{closing, closing_at}
-use Rattle.octets.specs.Inner.Answers.{report_place}
-use Rattle.octets.specs.declared.Place.{Place}
 use Rattle.octets.proofs.Laws.{both_true, rest-length}
 use Rattle.assertion.specs.Spaces.{open_brace, close_brace, comma}
 use Rattle.assertion.specs.ValueText.{brace_from, brace_at}
@@ -43,13 +42,23 @@ pub bind-some : {A B : Type 0} (o : Option A) (f : A → Option B) (b : B) → b
 bind-some None f b e = absurd (none_not e)
 bind-some (Some a) f b e = (a, (refl, e))
 
--- what a place says
-module _ (r : Place) {x : Option ℕ} (e : report_place r ≡ x) where
-  pub at_place : (p : ℕ) → r ≡ Place.At p → x ≡ Some p
-  at_place p q = sym e ∙ ap report_place q
+-- a test of every octet, as the library has it
+pub every-all : (f : ℕ → Bool) (s : List ℕ) → every f s ≡ list_all f s
+unfolding every
+every-all f [] = refl
+every-all f (b ∷ s) = go (f b) (every-all f s)
+  where
+    go : (t : Bool) → every f s ≡ list_all f s → pick t (every f s) false ≡ (t && list_all f s)
+    go true e = e
+    go false e = refl
 
-  pub at_none : r ≡ Place.Nowhere → x ≡ None
-  at_none q = sym e ∙ ap report_place q
+-- what a place says
+module _ (r : Option ℕ) {x : Option ℕ} (e : r ≡ x) where
+  pub at_place : (p : ℕ) → r ≡ Some p → x ≡ Some p
+  at_place p q = sym e ∙ q
+
+  pub at_none : r ≡ None → x ≡ None
+  at_none q = sym e ∙ q
 
 -- ---- words
 -- a word at the start of a text is no longer than it
@@ -64,27 +73,51 @@ starts-short (a ∷ w) (b ∷ l) e =
 pub starts-fits : (w s : List ℕ) (at : ℕ) → starts w (drop at s) ≡ true → length w ≤ length s - at
 starts-fits w s at e = rw (← rest-length s at) (starts-short w (drop at s) e)
 
-module _ (w s : List ℕ) (at : ℕ) (r : Place) (e : report_place r ≡ word_at w s at) where
-  pub word_there : (p : ℕ) → r ≡ Place.At p → (starts w (drop at s) ≡ true) × (at + length w ≡ p)
+module _ (w s : List ℕ) (at : ℕ) (r : Option ℕ) (e : r ≡ word_at w s at) where
+  pub word_there : (p : ℕ) → r ≡ Some p → (starts w (drop at s) ≡ true) × (at + length w ≡ p)
   unfolding word_at
   word_there p q = if_some (starts w (drop at s)) (at + length w) p (at_place r e p q)
 
-  pub word_not : r ≡ Place.Nowhere → starts w (drop at s) ≡ false
+  pub word_not : r ≡ None → starts w (drop at s) ≡ false
   unfolding word_at
   word_not q = if_none (starts w (drop at s)) (at + length w) (at_none r e q)
 
 -- ---- spaces at the end
-pub trimmed-space : (l : List ℕ) → trimmed (l ++ (32 ∷ [])) ≡ trimmed l
-unfolding trimmed
-trimmed-space [] = refl
-trimmed-space (b ∷ l) = rw (trimmed-space l)
-
 pub trimmed-other : (l : List ℕ) (b : ℕ) → (b ≡ 32 → ⊥) → trimmed (l ++ (b ∷ [])) ≡ l ++ (b ∷ [])
 unfolding trimmed
 trimmed-other [] b n = rw (ne_eqb b 32 n)
 trimmed-other (a ∷ l) b n =
     let more : length (l ++ (b ∷ [])) ≡ 0 → ⊥ = λ e. omega (arith, length-append l (b ∷ [])) in
     rw (trimmed-other l b n, ne_eqb _ 0 more)
+
+-- where all are spaces
+trimmed-none : (t : List ℕ) → ((k : ℕ) → k < length t → octet t k ≡ 32) → trimmed t ≡ []
+unfolding trimmed
+trimmed-none [] h = refl
+trimmed-none (b ∷ t) h =
+    let rest : trimmed t ≡ [] = trimmed-none t (λ k l. h (suc k) (omega arith)) in
+    rw (rest, eq-eqb b 32 (h 0 (omega arith)))
+
+-- where the octet at i is the last that is none
+trimmed-last : (t : List ℕ) (i : ℕ) → i < length t → (octet t i ≡ 32 → ⊥) → ((k : ℕ) → i < k → k < length t → octet t k ≡ 32) → length (trimmed t) ≡ i + 1
+unfolding trimmed
+trimmed-last [] i l n h = absurd (omega arith)
+trimmed-last (b ∷ t) zero l n h =
+    let rest : trimmed t ≡ [] = trimmed-none t (λ k m. h (suc k) (omega arith) (omega arith)) in
+    rw (rest, ne_eqb b 32 n)
+trimmed-last (b ∷ t) (suc i) l n h =
+    let rest : length (trimmed t) ≡ i + 1 = trimmed-last t i (omega arith) n (λ k m q. h (suc k) (omega arith) (omega arith)) in
+    let more : length (trimmed t) ≡ 0 → ⊥ = omega arith in
+    rw (ne_eqb _ 0 more) (omega arith)
+
+-- the last octet that is no space stands there, or there is none
+abbrev pub LastOther : List ℕ → Option ℕ → Type 0
+LastOther t r = MatchOption r ((k : ℕ) → k < length t → octet t k ≡ 32)
+    (λ i. (i < length t) × (octet t i ≢ 32) × ((k : ℕ) → i < k → k < length t → octet t k ≡ 32))
+
+pub trimmed-is : (t : List ℕ) (r : Option ℕ) (n : ℕ) → LastOther t r → MatchOption r (n ≡ 0) (λ i. n ≡ i + 1) → n ≡ length (trimmed t)
+trimmed-is t None n h e = e ∙ sym (ap length (trimmed-none t h))
+trimmed-is t (Some i) n h e = e ∙ sym (trimmed-last t i h.0 h.1 h.2)
 
 trimmed-start : (l : List ℕ) → take (length (trimmed l)) l ≡ trimmed l
 unfolding trimmed

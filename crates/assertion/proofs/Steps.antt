@@ -1,34 +1,30 @@
 -- One lemma for each return and each turn of a loop; its premises are the facts as the code has them.
+use Rattle.std.specs.Prelude.{Option}
 use mathlib.Core.Path.{◌≡◌, refl, sym, ap, ◌∙◌}
-use mathlib.Core.Bool.{Bool, true, false, not, false≢true}
-use mathlib.Core.List.{List, [], ◌∷◌, ◌++◌}
+use mathlib.Core.Bool.{Bool, true, false, not}
+use mathlib.Core.List.{List, [], ◌∷◌}
 use Rattle.std.specs.Prelude.{None, Some}
-use Prim.Native.Nat.{ℕ, suc, ◌≤◌, ◌<◌, ◌+◌, ◌-◌}
+use Prim.Native.Nat.{ℕ, ◌≤◌, ◌<◌, ◌+◌, ◌-◌}
 use native.Mathlib.Omega.{arith}
 use borrow.Author.Tests.{eq-eqb, ne_eqb, not-true, not-false}
-use lib.ListN.{length, take, drop}
-use lib.Seq.{take-suc, take-length, length-take-le}
-use Rattle.octets.specs.Pick.{no}
+use lib.Dec.{eqb}
+use lib.ListN.{length, drop}
+use Rattle.octets.specs.Pick.{no, both, either}
 use Rattle.octets.specs.Octets.{octet, part, every, bytes}
 use Rattle.octets.specs.Inner.Answers.{between}
-use Rattle.octets.specs.Text.{is_lower, is_upper, is_letter, is_alnum, starts, skip, trimmed}
+use Rattle.octets.specs.Text.{is_digit, is_lower, is_upper, is_letter, is_alnum, starts, skip, trimmed}
 use Rattle.octets.specs.Quoted.{closing_at, characters}
-use Rattle.octets.specs.Inner.Answers.{report_place}
-use Rattle.octets.specs.declared.Place.{Place}
-use Rattle.octets.proofs.Laws.{octet-past, rest-cons, rest-none}
+use Rattle.octets.proofs.Laws.{rest-cons, rest-none}
 use Rattle.assertion.specs.Spaces.{label_at, mark_at}
 use Rattle.assertion.specs.ValueText.{brace_from, brace_at, value_text_at}
 use Rattle.assertion.specs.Assertion.{read_to, followed, quoted_part, component_at, truth_part, defaults_at, comma_from, is_name_letter, is_rule_name, is_rule, rule_at, value_at, assertion_at}
 use Rattle.assertion.specs.Inner.Work.{rule_from, values_at, parts_at}
 use Rattle.assertion.specs.Inner.Places.{word_at, within_quotes, component_of, report_component_part, report_defaults_part, report_rule_part, report_value_part, report_assertion}
-use Rattle.assertion.specs.declared.ComponentPart.{ComponentPart}
-use Rattle.assertion.specs.declared.DefaultsPart.{DefaultsPart}
-use Rattle.assertion.specs.declared.RulePart.{RulePart}
-use Rattle.assertion.specs.declared.ValuePart.{ValuePart}
-use Rattle.assertion.specs.declared.Component.{Component}
-use Rattle.assertion.specs.declared.Assertion.{Assertion}
-use Rattle.assertion.proofs.Laws.{at_place, at_none, starts-fits, word_there, word_not, trimmed-space, trimmed-other, trimmed-part, brace-within, comma-within, closing-within}
+use Rattle.assertion.specs.declared.Quotes.{Quotes}
+use Rattle.assertion.specs.declared.Part.{Part}
+use Rattle.assertion.proofs.Laws.{at_place, at_none, starts-fits, word_there, word_not, trimmed-part, brace-within, comma-within, closing-within}
 use Rattle.assertion.proofs.Progress.{value-onward, assertion_steps}
+use Rattle.assertion.specs.declared.Parts.{Parts}
 
 -- ---- parts of a text
 pub quotes_none : (s t : List ℕ) (a b : ℕ) → t ≡ part s a 0 → b ≤ a → t ≡ within_quotes s a b
@@ -48,12 +44,12 @@ module _ (w s : List ℕ) (at : ℕ) where
     pub word_fits : not u ≡ false → length w ≤ length s - at
     word_fits h = starts-fits w s at (sym e ∙ not-false u h)
 
-  module _ (r : Place) (e : report_place r ≡ word_at w s at) where
-    pub label_none : r ≡ Place.Nowhere → None ≡ label_at w s at
+  module _ (r : Option ℕ) (e : r ≡ word_at w s at) where
+    pub label_none : r ≡ None → None ≡ label_at w s at
     unfolding label_at
     label_none q = rw (word_not w s at r e q)
 
-    module _ (p o : ℕ) (q : r ≡ Place.At p) (read : o ≡ octet s p) where
+    module _ (p o : ℕ) (q : r ≡ Some p) (read : o ≡ octet s p) where
       pub label_close : (o ≡ 32 → ⊥) → None ≡ label_at w s at
       unfolding label_at
       label_close n = let z = word_there w s at r e p q in rw (z.0, z.1, ← read, ne_eqb o 32 n)
@@ -62,19 +58,14 @@ module _ (w s : List ℕ) (at : ℕ) where
       unfolding label_at
       label_is k n f = let z = word_there w s at r e p q in rw (z.0, z.1, ← read, eq-eqb o 32 n, ← f)
 
-pub mark-past : (c : ℕ) (s : List ℕ) (at : ℕ) → 0 < c → length s ≤ at → None ≡ mark_at c s at
-unfolding mark_at
-mark-past c s at h l =
-    let n : octet s at ≡ c → ⊥ = λ e. let z : 0 ≡ octet s at = octet-past s at l in omega arith in
-    rw (ne_eqb (octet s at) c n)
+module _ (c : ℕ) (s : List ℕ) (at o : ℕ) (read : o ≡ octet s at) where
+  pub mark-other : (o ≡ c → ⊥) → None ≡ mark_at c s at
+  unfolding mark_at
+  mark-other n = rw (← read, ne_eqb _ _ n)
 
-pub mark-other : (c : ℕ) (s : List ℕ) (at : ℕ) → (octet s at ≡ c → ⊥) → None ≡ mark_at c s at
-unfolding mark_at
-mark-other c s at n = rw (ne_eqb _ _ n)
-
-pub mark-is : (c : ℕ) (s : List ℕ) (at k : ℕ) → octet s at ≡ c → k ≡ skip s (at + 1) → Some k ≡ mark_at c s at
-unfolding mark_at
-mark-is c s at k e f = rw (eq-eqb _ _ e, f)
+  pub mark-is : (k : ℕ) → o ≡ c → k ≡ skip s (at + 1) → Some k ≡ mark_at c s at
+  unfolding mark_at
+  mark-is k e f = rw (← read, eq-eqb _ _ e, f)
 
 -- ---- the closing brace: so many are open inside, in quotes or not
 abbrev pub Braces : List ℕ → ℕ → ℕ → ℕ → Bool → Type 0
@@ -128,30 +119,6 @@ module _ (s : List ℕ) (at i inner : ℕ) (quoted : Bool) (v : Braces s at i in
             unfolding brace_from
             brace_closes e = (omega arith, rw plain (rw (ne_eqb _ _ n, ne_eqb _ _ o, eq-eqb _ _ c, ne_eqb inner 0 e) at brace-plain))
 
--- ---- spaces at the end: the first n octets are all but spaces
-abbrev pub Trims : List ℕ → ℕ → Type 0
-Trims t n = (n ≤ length t) × (trimmed (take n t) ≡ trimmed t)
-
-pub trim_start : (t : List ℕ) → Trims t (length t)
-trim_start t = (omega arith, ap trimmed (take-length t))
-
-module _ (t : List ℕ) (n : ℕ) (v : Trims t n) where
-  pub trim_none : n ≤ 0 → 0 ≡ length (trimmed t)
-  unfolding trimmed
-  trim_none h = let z : n ≡ 0 = omega arith in ap length (rw z at v.1)
-
-  module _ (h : 0 < n) where
-    last : take n t ≡ take (n - 1) t ++ (octet t (n - 1) ∷ [])
-    last = let e : n ≡ suc (n - 1) = omega arith in let l : n - 1 < length t = omega arith in ap (λ (k : ℕ). take k t) e ∙ take-suc t (n - 1) 0 l
-
-    pub trim_stops : (octet t (n - 1) ≡ 32 → ⊥) → n ≡ length (trimmed t)
-    trim_stops e =
-        let whole : trimmed t ≡ take n t = sym v.1 ∙ ap trimmed last ∙ trimmed-other (take (n - 1) t) _ e ∙ sym last in
-        sym (ap length whole ∙ length-take-le n t v.0)
-
-    pub trim_on : octet t (n - 1) ≡ 32 → Trims t (n - 1)
-    trim_on e = (omega arith, sym (trimmed-space (take (n - 1) t)) ∙ ap (λ (b : ℕ). trimmed (take (n - 1) t ++ (b ∷ []))) (sym e) ∙ sym (ap trimmed last) ∙ v.1)
-
 -- ---- the comma
 module _ (s : List ℕ) (at i : ℕ) (inv : comma_from (drop i s) i ≡ comma_from (drop at s) at) where
   pub comma-none : length s ≤ i → None ≡ comma_from (drop at s) at
@@ -171,84 +138,76 @@ module _ (s : List ℕ) (at i : ℕ) (inv : comma_from (drop i s) i ≡ comma_fr
     comma-on e = rw (ne_eqb _ _ e) at comma-here
 
 -- ---- names of rules
-letter-first : (t : List ℕ) → is_letter (octet t 0) ≡ false → false ≡ is_rule_name t
-unfolding is_rule_name
-letter-first [] e = refl
-letter-first (a ∷ l) e = rw e
-
-letters-all : (t : List ℕ) → is_letter (octet t 0) ≡ true → every is_name_letter t ≡ is_rule_name t
+pub rule_name_is : (t : List ℕ) → is_rule_name t ≡ both (is_letter (octet t 0)) (every is_name_letter t)
 unfolding is_rule_name every is_alnum is_letter is_lower is_upper
-letters-all [] e = absurd (false≢true e)
-letters-all (a ∷ l) e = rw e
-
-module _ (t : List ℕ) (b : ℕ) (u : Bool) (read : b ≡ octet t 0) (asked : u ≡ is_letter b) where
-  pub name_not : not u ≡ true → false ≡ is_rule_name t
-  name_not h = letter-first t (sym (ap is_letter read) ∙ sym asked ∙ not-true u h)
-
-  pub name-is : (r : Bool) → not u ≡ false → r ≡ every is_name_letter t → r ≡ is_rule_name t
-  name-is r h e = e ∙ letters-all t (sym (ap is_letter read) ∙ sym asked ∙ not-false u h)
+rule_name_is [] = refl
+rule_name_is (a ∷ l) = go (is_letter a)
+  where
+    go : (t : Bool) → both t (every is_name_letter l) ≡ both t (both (either (either t (is_digit a)) (eqb a 45)) (every is_name_letter l))
+    go true = refl
+    go false = refl
 
 -- ---- `component`
-module _ (s : List ℕ) (at : ℕ) (r : Place) (e : report_place r ≡ closing_at s at) where
-  pub quoted_open : r ≡ Place.Nowhere → None ≡ quoted_part s at
+module _ (s : List ℕ) (at : ℕ) (r : Option ℕ) (e : r ≡ closing_at s at) where
+  pub quoted_open : r ≡ None → None ≡ quoted_part s at
   quoted_open q = rw (at_none r e q)
 
-  module _ (close : ℕ) (q : r ≡ Place.At close) where
+  module _ (close : ℕ) (q : r ≡ Some close) where
     pub quote_within : (at < close) × (close < length s)
     quote_within = closing-within s at close (at_place r e close q)
 
-    module _ (m : Place) (f : report_place m ≡ mark_at 44 s (close + 1)) where
-      pub quoted-alone : m ≡ Place.Nowhere → None ≡ quoted_part s at
+    module _ (m : Option ℕ) (f : m ≡ mark_at 44 s (close + 1)) where
+      pub quoted-alone : m ≡ None → None ≡ quoted_part s at
       quoted-alone g = rw (at_place r e close q, at_none m f g)
 
-      pub quoted-is : (p : ℕ) → m ≡ Place.At p → read_to (Some (characters s at close)) p ≡ quoted_part s at
+      pub quoted-is : (p : ℕ) → m ≡ Some p → read_to (Some (characters s at close)) p ≡ quoted_part s at
       quoted-is p g = rw (at_place r e close q, at_place m f p g)
 
-module _ (s : List ℕ) (at : ℕ) (r : Place) where
-  module _ (e : report_place r ≡ label_at (bytes "component") s at) where
-    pub component_missing : r ≡ Place.Nowhere → read_to None at ≡ component_at s at
+module _ (s : List ℕ) (at : ℕ) (r : Option ℕ) where
+  module _ (e : r ≡ label_at (bytes "component") s at) where
+    pub component_missing : r ≡ None → read_to None at ≡ component_at s at
     unfolding component_at
     component_missing q = rw (at_none r e q)
 
-    pub component-is : (p : ℕ) (c : ComponentPart) → r ≡ Place.At p → report_component_part s c ≡ quoted_part s p → report_component_part s c ≡ component_at s at
+    pub component-is : (p : ℕ) (c : Option (Option Quotes × ℕ)) → r ≡ Some p → report_component_part s c ≡ quoted_part s p → report_component_part s c ≡ component_at s at
     unfolding component_at
     component-is p c q f = rw (at_place r e p q) f
 
   -- ---- `useDefaultValues`
-  module _ (d : Bool) (e : report_place r ≡ mark_at 44 s at) where
-    pub truth-alone : r ≡ Place.Nowhere → None ≡ followed s at d
+  module _ (d : Bool) (e : r ≡ mark_at 44 s at) where
+    pub truth-alone : r ≡ None → None ≡ followed s at d
     truth-alone q = rw (at_none r e q)
 
-    pub truth-followed : (p : ℕ) → r ≡ Place.At p → read_to d p ≡ followed s at d
+    pub truth-followed : (p : ℕ) → r ≡ Some p → read_to d p ≡ followed s at d
     truth-followed p q = rw (at_place r e p q)
 
-  module _ (e : report_place r ≡ word_at (bytes "TRUE") s at) where
-    pub truth_true : (p : ℕ) (x : DefaultsPart) → r ≡ Place.At p → report_defaults_part x ≡ followed s p true → report_defaults_part x ≡ truth_part s at
+  module _ (e : r ≡ word_at (bytes "TRUE") s at) where
+    pub truth_true : (p : ℕ) (x : Option (Bool × ℕ)) → r ≡ Some p → report_defaults_part x ≡ followed s p true → report_defaults_part x ≡ truth_part s at
     truth_true p x q f = let z = word_there (bytes "TRUE") s at r e p q in rw (z.0, z.1) f
 
-    module _ (q : r ≡ Place.Nowhere) (u : Place) (g : report_place u ≡ word_at (bytes "FALSE") s at) where
-      pub truth_false : (p : ℕ) (x : DefaultsPart) → u ≡ Place.At p → report_defaults_part x ≡ followed s p false → report_defaults_part x ≡ truth_part s at
+    module _ (q : r ≡ None) (u : Option ℕ) (g : u ≡ word_at (bytes "FALSE") s at) where
+      pub truth_false : (p : ℕ) (x : Option (Bool × ℕ)) → u ≡ Some p → report_defaults_part x ≡ followed s p false → report_defaults_part x ≡ truth_part s at
       truth_false p x h f = let z = word_there (bytes "FALSE") s at u g p h in rw (word_not (bytes "TRUE") s at r e q, z.0, z.1) f
 
-      pub truth-none : u ≡ Place.Nowhere → None ≡ truth_part s at
+      pub truth-none : u ≡ None → None ≡ truth_part s at
       truth-none h = rw (word_not (bytes "TRUE") s at r e q, word_not (bytes "FALSE") s at u g h)
 
-  module _ (e : report_place r ≡ label_at (bytes "useDefaultValues") s at) where
-    pub defaults_missing : r ≡ Place.Nowhere → read_to true at ≡ defaults_at s at
+  module _ (e : r ≡ label_at (bytes "useDefaultValues") s at) where
+    pub defaults_missing : r ≡ None → read_to true at ≡ defaults_at s at
     unfolding defaults_at
     defaults_missing q = rw (at_none r e q)
 
-    pub defaults-is : (p : ℕ) (x : DefaultsPart) → r ≡ Place.At p → report_defaults_part x ≡ truth_part s p → report_defaults_part x ≡ defaults_at s at
+    pub defaults-is : (p : ℕ) (x : Option (Bool × ℕ)) → r ≡ Some p → report_defaults_part x ≡ truth_part s p → report_defaults_part x ≡ defaults_at s at
     unfolding defaults_at
     defaults-is p x q f = rw (at_place r e p q) f
 
   -- ---- `value`
-  module _ (e : report_place r ≡ brace_at s at) where
-    pub value_open : r ≡ Place.Nowhere → None ≡ value_text_at s at
+  module _ (e : r ≡ brace_at s at) where
+    pub value_open : r ≡ None → None ≡ value_text_at s at
     unfolding value_text_at
     value_open q = rw (at_none r e q)
 
-    module _ (brace : ℕ) (q : r ≡ Place.At brace) where
+    module _ (brace : ℕ) (q : r ≡ Some brace) where
       pub value-within : (at ≤ brace) × (brace < length s)
       value-within = brace-within s at brace (at_place r e brace q)
 
@@ -263,27 +222,27 @@ module _ (s : List ℕ) (at : ℕ) (r : Place) where
         unfolding value_text_at
         value-empty z = rw (at_place r e brace q, ← long-part, eq-eqb n 0 z)
 
-        pub value-is : (n ≡ 0 → ⊥) → report_value_part s (ValuePart.Of at (at + n) brace) ≡ value_text_at s at
+        pub value-is : (n ≡ 0 → ⊥) → report_value_part s (Some (record { start = at; end = at + n; after = brace })) ≡ value_text_at s at
         unfolding value_text_at
         value-is z = rw (at_place r e brace q, ← long-part, ne_eqb n 0 z, (trimmed-part s at brace n long-part).1)
 
-  module _ (e : report_place r ≡ label_at (bytes "value") s at) where
-    pub value-bare : r ≡ Place.Nowhere → None ≡ value_at s at
+  module _ (e : r ≡ label_at (bytes "value") s at) where
+    pub value-bare : r ≡ None → None ≡ value_at s at
     unfolding value_at
     value-bare q = rw (at_none r e q)
 
-    pub value_labelled : (p : ℕ) (x : ValuePart) → r ≡ Place.At p → report_value_part s x ≡ value_text_at s p → report_value_part s x ≡ value_at s at
+    pub value_labelled : (p : ℕ) (x : Option Part) → r ≡ Some p → report_value_part s x ≡ value_text_at s p → report_value_part s x ≡ value_at s at
     unfolding value_at
     value_labelled p x q f = rw (at_place r e p q) f
 
 -- ---- `rule`
-module _ (s : List ℕ) (at : ℕ) (r : Place) where
-  module _ (e : report_place r ≡ comma_from (drop at s) at) where
-    pub rule_endless : r ≡ Place.Nowhere → None ≡ rule_from s at
+module _ (s : List ℕ) (at : ℕ) (r : Option ℕ) where
+  module _ (e : r ≡ comma_from (drop at s) at) where
+    pub rule_endless : r ≡ None → None ≡ rule_from s at
     unfolding rule_from
     rule_endless q = rw (at_none r e q)
 
-    module _ (end : ℕ) (q : r ≡ Place.At end) where
+    module _ (end : ℕ) (q : r ≡ Some end) where
       pub rule-within : (at ≤ end) × (end < length s)
       rule-within = comma-within s at end (at_place r e end q)
 
@@ -295,70 +254,70 @@ module _ (s : List ℕ) (at : ℕ) (r : Place) where
         unfolding rule_from
         rule-other h = rw (at_place r e end q, is-rule ∙ not-true u h)
 
-        module _ (h : not u ≡ false) (m : Place) (f : report_place m ≡ mark_at 44 s end) where
-          pub rule-alone : m ≡ Place.Nowhere → None ≡ rule_from s at
+        module _ (h : not u ≡ false) (m : Option ℕ) (f : m ≡ mark_at 44 s end) where
+          pub rule-alone : m ≡ None → None ≡ rule_from s at
           unfolding rule_from
           rule-alone g = rw (at_place r e end q, is-rule ∙ not-false u h, at_none m f g)
 
-          pub rule-is : (p : ℕ) → m ≡ Place.At p → report_rule_part s (RulePart.Of at end p) ≡ rule_from s at
+          pub rule-is : (p : ℕ) → m ≡ Some p → report_rule_part s (Some (record { start = at; end = end; after = p })) ≡ rule_from s at
           unfolding rule_from
           rule-is p g = rw (at_place r e end q, is-rule ∙ not-false u h, at_place m f p g)
 
-  module _ (e : report_place r ≡ label_at (bytes "rule") s at) where
-    pub rule-bare : r ≡ Place.Nowhere → None ≡ rule_at s at
+  module _ (e : r ≡ label_at (bytes "rule") s at) where
+    pub rule-bare : r ≡ None → None ≡ rule_at s at
     unfolding rule_at
     rule-bare q = rw (at_none r e q)
 
-    pub rule_labelled : (p : ℕ) (x : RulePart) → r ≡ Place.At p → report_rule_part s x ≡ rule_from s p → report_rule_part s x ≡ rule_at s at
+    pub rule_labelled : (p : ℕ) (x : Option Part) → r ≡ Some p → report_rule_part s x ≡ rule_from s p → report_rule_part s x ≡ rule_at s at
     unfolding rule_at rule_from
     rule_labelled p x q f = rw (at_place r e p q) f
 
 -- ---- the assertion
-pub brace-before : (s : List ℕ) (p : ℕ) (y : ValuePart) (v w brace : ℕ) → report_value_part s y ≡ value_at s p → y ≡ ValuePart.Of v w brace → brace < length s
-brace-before s p y v w brace f g = (value-onward s p (record { text = between s v w; brace = brace }) (sym f ∙ ap (report_value_part s) g)).1
+pub brace-before : (s : List ℕ) (p : ℕ) (y : Option Part) (v : Part) → report_value_part s y ≡ value_at s p → y ≡ Some v → v.after < length s
+brace-before s p y v f g = (value-onward s p (record { text = between s v.start v.end; brace = v.after }) (sym f ∙ ap (report_value_part s) g)).1
 
-module _ (s : List ℕ) (c : Component) (d : Bool) (at : ℕ) (x : RulePart) (e : report_rule_part s x ≡ rule_at s at) where
-  pub values_no_rule : x ≡ RulePart.Bad → None ≡ values_at s (component_of s c) d at
+module _ (s : List ℕ) (c : Option Quotes) (d : Bool) (at : ℕ) (x : Option Part) (e : report_rule_part s x ≡ rule_at s at) where
+  pub values_no_rule : x ≡ None → None ≡ values_at s (component_of s c) d at
   unfolding values_at
   values_no_rule q = let z : rule_at s at ≡ None = sym e ∙ ap (report_rule_part s) q in rw z
 
-  module _ (a b p : ℕ) (q : x ≡ RulePart.Of a b p) (y : ValuePart) (f : report_value_part s y ≡ value_at s p) where
-    rule-read : rule_at s at ≡ report_rule_part s (RulePart.Of a b p)
+  module _ (p : Part) (q : x ≡ Some p) (y : Option Part) (f : report_value_part s y ≡ value_at s p.after) where
+    rule-read : rule_at s at ≡ report_rule_part s (Some p)
     rule-read = sym e ∙ ap (report_rule_part s) q
 
-    pub values-no_value : y ≡ ValuePart.Bad → None ≡ values_at s (component_of s c) d at
+    pub values-no_value : y ≡ None → None ≡ values_at s (component_of s c) d at
     unfolding values_at
-    values-no_value g = let z : value_at s p ≡ None = sym f ∙ ap (report_value_part s) g in rw (rule-read, z)
+    values-no_value g = let z : value_at s p.after ≡ None = sym f ∙ ap (report_value_part s) g in rw (rule-read, z)
 
-    module _ (v w brace : ℕ) (g : y ≡ ValuePart.Of v w brace) where
-      value_read : value_at s p ≡ report_value_part s (ValuePart.Of v w brace)
+    module _ (v : Part) (g : y ≡ Some v) where
+      value_read : value_at s p.after ≡ report_value_part s (Some v)
       value_read = sym f ∙ ap (report_value_part s) g
 
-      pub values_are : report_assertion s (Assertion.Good (record { component = c; defaults = d; rule = a; rule_end = b; value = v; value_end = w; after = brace + 1 })) ≡ values_at s (component_of s c) d at
+      pub values_are : report_assertion s (Some (record { component = c; defaults = d; rule = p.start; rule_end = p.end; value = v.start; value_end = v.end; after = v.after + 1 })) ≡ values_at s (component_of s c) d at
       unfolding values_at
       values_are = rw (rule-read, value_read)
 
 module _ (s : List ℕ) (at : ℕ) where
-  module _ (x : ComponentPart) (e : report_component_part s x ≡ component_at s at) where
-    pub parts_no_component : x ≡ ComponentPart.Bad → None ≡ parts_at s at
+  module _ (x : Option (Option Quotes × ℕ)) (e : report_component_part s x ≡ component_at s at) where
+    pub parts_no_component : x ≡ None → None ≡ parts_at s at
     unfolding parts_at
     parts_no_component q = let z : component_at s at ≡ None = sym e ∙ ap (report_component_part s) q in rw z
 
-    module _ (c : Component) (p : ℕ) (q : x ≡ ComponentPart.Of c p) (y : DefaultsPart) (f : report_defaults_part y ≡ defaults_at s p) where
-      component-read : component_at s at ≡ report_component_part s (ComponentPart.Of c p)
+    module _ (c : Option Quotes) (p : ℕ) (q : x ≡ Some (c, p)) (y : Option (Bool × ℕ)) (f : report_defaults_part y ≡ defaults_at s p) where
+      component-read : component_at s at ≡ report_component_part s (Some (c, p))
       component-read = sym e ∙ ap (report_component_part s) q
 
-      pub parts_no_defaults : y ≡ DefaultsPart.Bad → None ≡ parts_at s at
+      pub parts_no_defaults : y ≡ None → None ≡ parts_at s at
       unfolding parts_at
       parts_no_defaults g = let z : defaults_at s p ≡ None = sym f ∙ ap report_defaults_part g in rw (component-read, z)
 
-      pub parts_are : (d : Bool) (k : ℕ) (r : Assertion) → y ≡ DefaultsPart.Of d k → report_assertion s r ≡ values_at s (component_of s c) d k → report_assertion s r ≡ parts_at s at
+      pub parts_are : (d : Bool) (k : ℕ) (r : Option Parts) → y ≡ Some (d, k) → report_assertion s r ≡ values_at s (component_of s c) d k → report_assertion s r ≡ parts_at s at
       unfolding parts_at
-      parts_are d k r g h = let z : defaults_at s p ≡ report_defaults_part (DefaultsPart.Of d k) = sym f ∙ ap report_defaults_part g in rw (component-read, z) h
+      parts_are d k r g h = let z : defaults_at s p ≡ report_defaults_part (Some (d, k)) = sym f ∙ ap report_defaults_part g in rw (component-read, z) h
 
-  module _ (r : Place) (e : report_place r ≡ mark_at 123 s at) where
-    pub assertion_open : r ≡ Place.Nowhere → None ≡ assertion_at s at
+  module _ (r : Option ℕ) (e : r ≡ mark_at 123 s at) where
+    pub assertion_open : r ≡ None → None ≡ assertion_at s at
     assertion_open q = rw (assertion_steps s at, at_none r e q)
 
-    pub assertion-is : (p : ℕ) (x : Assertion) → r ≡ Place.At p → report_assertion s x ≡ parts_at s p → report_assertion s x ≡ assertion_at s at
+    pub assertion-is : (p : ℕ) (x : Option Parts) → r ≡ Some p → report_assertion s x ≡ parts_at s p → report_assertion s x ≡ assertion_at s at
     assertion-is p x q f = rw (assertion_steps s at, at_place r e p q) f

@@ -19,7 +19,6 @@ use Rattle.types.specs.Inner.Work.{bit_of}
 use Rattle.types.proofs.BitSets.{bit_none, bit_or_lem, bit_one}
 use Rattle.bitnames.specs.Names.{number_of, numbers_of, is_in, bits_listed, listed_bits}
 use Rattle.bitnames.specs.Inner.Sets.{report_number, Low, texts_from, bits_of_texts}
-use Rattle.bitnames.specs.declared.Number.{Number}
 
 -- ---- sets
 in_append : (i : ℕ) (a b : List ℕ) → is_in i (a ++ b) ≡ either (is_in i a) (is_in i b)
@@ -56,7 +55,7 @@ bits_told (suc k) n m ns f = ap₂ (λ (x : ℕ) (l : List ℕ). x ∷ l) (digit
         low d h n = omega arith
 
 -- ---- texts
-pub number-low : (r : Number) (n : ℕ) → Low r → r ≡ Number.Of n → n < 64
+pub number-low : (r : Option ℕ) (n : ℕ) → Low r → r ≡ Some n → n < 64
 number-low r n h e = subst Low e h
 
 -- a text, and the texts behind its comma
@@ -104,7 +103,7 @@ module _ (names : List NamedBit) (s : List ℕ) where
         none_left : numbers_of names (texts_from s at) ≡ Some []
         none_left = rw (lt-leb at (length s) h)
 
-    module _ (h : at ≤ length s) (e start : ℕ) (r : Number) (parts : parted (drop at s) ≡ part s at (e - at) ∷ parted_behind s e)
+    module _ (h : at ≤ length s) (e start : ℕ) (r : Option ℕ) (parts : parted (drop at s) ≡ part s at (e - at) ∷ parted_behind s e)
         (text : part s start (e - start) ≡ after_spaces (part s at (e - at))) (told : report_number r ≡ number_of names (part s start (e - start))) where
       first : numbers_of names (texts_from s at) ≡ bind (report_number r) (λ n. bind (numbers_of names (texts_from s (e + 1))) (λ ns. Some (n ∷ ns)))
       unfolding numbers_of
@@ -112,14 +111,14 @@ module _ (names : List NamedBit) (s : List ℕ) where
           ap (numbers_of names) (texts_first s at e h parts)
           ∙ ap (λ (o : Option ℕ). bind o (λ n. bind (numbers_of names (texts_from s (e + 1))) (λ ns. Some (n ∷ ns)))) (sym (told ∙ ap (number_of names) text))
 
-      pub gather_unknown : r ≡ Number.No → None ≡ bits_of_texts names (texts_from s 0)
+      pub gather_unknown : r ≡ None → None ≡ bits_of_texts names (texts_from s 0)
       unfolding bits_of_texts
       gather_unknown q =
           ap (λ (o : Option (List ℕ)). bind o (λ ns. Some (bits_listed 64 0 ns)))
           (sym (ap (joined inv.found) (first
-          ∙ ap (λ (y : Number). bind (report_number y) (λ n. bind (numbers_of names (texts_from s (e + 1))) (λ ns. Some (n ∷ ns)))) q)) ∙ inv.rest)
+          ∙ ap (λ (y : Option ℕ). bind (report_number y) (λ n. bind (numbers_of names (texts_from s (e + 1))) (λ ns. Some (n ∷ ns)))) q)) ∙ inv.rest)
 
-      pub gather_next : (n bit : ℕ) → r ≡ Number.Of n → bit ≡ 2 ^ n → e ≤ length s → Gathering names s (e + 1) (bit_or set bit)
+      pub gather_next : (n bit : ℕ) → r ≡ Some n → bit ≡ 2 ^ n → e ≤ length s → Gathering names s (e + 1) (bit_or set bit)
       unfolding is_in
       gather_next n bit q b l =
           record { found = inv.found ++ (n ∷ []); bits = one; rest = more (numbers_of names (texts_from s (e + 1))) refl; inside = omega arith }
@@ -145,7 +144,7 @@ module _ (names : List NamedBit) (s : List ℕ) where
               glue o
               ∙ ap (λ (x : Option (List ℕ)). joined inv.found (bind x (λ ns. Some (n ∷ ns)))) (sym z)
               ∙ sym (ap (joined inv.found) (first
-              ∙ ap (λ (y : Number). bind (report_number y) (λ m. bind (numbers_of names (texts_from s (e + 1))) (λ ns. Some (m ∷ ns)))) q))
+              ∙ ap (λ (y : Option ℕ). bind (report_number y) (λ m. bind (numbers_of names (texts_from s (e + 1))) (λ ns. Some (m ∷ ns)))) q))
               ∙ inv.rest
 
 -- ---- the whole text

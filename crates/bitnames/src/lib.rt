@@ -8,72 +8,55 @@ ghost use Rattle.table.specs.Inner.Words.{Worded};
 ghost use Rattle.bitnames.specs.Names as names;
 ghost use Rattle.bitnames.specs.Inner.Sets as sets;
 
-// The number of a bit that has a name; or none has it.
-#[derive(Clone, Copy)]
-pub enum Number {
-    Of(usize),
-    No,
-}
-
-// The bits that a list names, bit n of the number for bit n; or it is no list of names.
-#[derive(Clone, Copy)]
-pub enum BitSet {
-    Of(u64),
-    No,
-}
-
 // The number of the bit, of those that stand after a row, that has the name from a to b.
-fn number_of(t: &[u8], w: &[u64; 256], row: usize, s: &[u8], a: usize, b: usize) -> Number
+fn number_of(t: &[u8], w: &[u64; 256], row: usize, s: &[u8], a: usize, b: usize) -> Option<usize>
     requires worded { Worded t.now w.now }
     requires here { row < length (table_rows t.now) }
     ensures number { sets.report_number result ≡ names.number_of (sets.names_after t.now row) (between s.now a b) }
     ensures low { sets.Low result }
 {
     let n = rows::bit_names_at(t, table::place(t, w, row));
-    let mut j = 0;
-    while j < n {
+    for j in 0..n {
         let p = table::place(t, w, row + 1 + j);
         if reference::is_named(t, p, s, a, b) {
             let number = octets::wide(rows::bit_number_at(t, p));
-            return Number::Of(number);
+            return Some(number);
         }
-        j += 1;
     }
-    Number::No
+    None
 }
 
 // The bits that the texts between the commas of s name; each is looked up once.
-fn listed_in(t: &[u8], w: &[u64; 256], row: usize, s: &[u8]) -> BitSet
+fn listed_in(t: &[u8], w: &[u64; 256], row: usize, s: &[u8]) -> Option<u64>
     requires worded { Worded t.now w.now }
     requires here { row < length (table_rows t.now) }
     ensures { sets.report_set result ≡ sets.bits_of_texts (sets.names_after t.now row) (sets.texts_from s.now 0) }
 {
     let mut at = 0;
     let mut set = 0;
+    // A cursor: each text says where the next one starts.
     while at <= s.len() {
         let end = gser::part_end(s, at);
         let start = gser::skip_spaces(s, at, end);
-        let Number::Of(n) = number_of(t, w, row, s, start, end) else {
-            return BitSet::No;
-        };
-        set = set | (1u64 << n);
+        let n = number_of(t, w, row, s, start, end)?;
+        set |= 1u64 << n;
         at = end + 1;
     }
-    BitSet::Of(set)
+    Some(set)
 }
 
 // The bits that a value text lists by the names that stand after a row.
-pub fn listed_bits(t: &[u8], w: &[u64; 256], row: usize, text: &[u8]) -> BitSet
+pub fn listed_bits(t: &[u8], w: &[u64; 256], row: usize, text: &[u8]) -> Option<u64>
     requires worded { Worded t.now w.now }
     requires here { row < length (table_rows t.now) }
     ensures { sets.report_set result ≡ names.listed_bits (sets.names_after t.now row) text.now }
 {
     if !gser::in_braces(text) {
-        return BitSet::No;
+        return None;
     }
     let s = gser::inside(text);
-    if s.len() == 0 {
-        return BitSet::Of(0);
+    if s.is_empty() {
+        return Some(0);
     }
     listed_in(t, w, row, s)
 }

@@ -27,9 +27,9 @@ part_again l v place size =
     done : PartReport
     done = record { refusal = 0; octets = part v place size }
 
-pub part-numbers : (l : Limits) (v o : List ℕ) (place size n : ℕ) (r : CAnswer) → n ≡ (part_report l v place size).refusal → o ≡ (part_report l v place size).octets
-    → r ≡ numbers n (length o) → part_seen v place r ≡ of_part (part_report l v place size)
-part-numbers l v o place size n r p q e = ap (part_seen v place) (e ∙ (λ i. numbers (p i) (length (q i)))) ∙ ap seen (part_again l v place size)
+pub part-numbers : (l : Limits) (v : List ℕ) (place size : ℕ) (p : PartReport) (r : CAnswer) → p ≡ part_report l v place size → r ≡ (of_part p).answer
+    → part_seen v place r ≡ of_part (part_report l v place size)
+part-numbers l v place size p r told e = ap (part_seen v place) (e ∙ ap (λ (q : PartReport). (of_part q).answer) told) ∙ ap seen (part_again l v place size)
   where
     seen : List ℕ → CPart
     seen octets = record { answer = numbers (part_report l v place size).refusal (length (part_report l v place size).octets); octets = octets }

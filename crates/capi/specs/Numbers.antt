@@ -1,14 +1,15 @@
 -- An answer as two numbers: what it is, and a count, which is 0 with a refusal. The first is 0 for done, a refusal's number, a truth's: 16 FALSE,
 -- 17 TRUE, 18 Undefined, or why nothing was quoted or escaped: 32 an empty text, 33 not UTF-8, 34 too little room.
+use Rattle.std.specs.Prelude.{Result, Ok, Err}
 use Rattle.std.specs.Prelude.{ℕ, Bool, not, List, length, eqb}
 use Rattle.std.specs.Prelude.{Option, None, Some}
 use Rattle.octets.specs.Octets.{part}
 use Rattle.types.specs.Check.{TableReport}
 use Rattle.value.specs.Check.{ValueReport}
 use Rattle.value.specs.Part.{PartReport}
-use Rattle.quote.specs.declared.Quoted.{Quoted}
+use Rattle.quote.specs.declared.QuoteError.{QuoteError}
 use Rattle.quote.specs.Quote.{Quoting}
-use Rattle.escape.specs.declared.Escaped.{Escaped}
+use Rattle.escape.specs.declared.EscapeError.{EscapeError}
 use Rattle.escape.specs.Escape.{Escaping}
 use Rattle.evaluation.specs.Truth.{Truth, TRUE, FALSE, UNDEFINED}
 use Rattle.engine.specs.Answer.{Report}
@@ -59,20 +60,20 @@ abbrev pub of_listing : Listing → CWritten
 of_listing l = written_seen (of_listed l.report) l.memory
 
 -- the quoted form of a text: the count is the octets written
-abbrev pub of_quoted : Quoted → CAnswer
-of_quoted (Quoted.Written n) = numbers 0 n
-of_quoted Quoted.Empty = numbers 32 0
-of_quoted Quoted.NotUtf8 = numbers 33 0
-of_quoted Quoted.TooLittleRoom = numbers 34 0
+abbrev pub of_quoted : Result ℕ QuoteError → CAnswer
+of_quoted (Ok n) = numbers 0 n
+of_quoted (Err QuoteError.Empty) = numbers 32 0
+of_quoted (Err QuoteError.NotUtf8) = numbers 33 0
+of_quoted (Err QuoteError.TooLittleRoom) = numbers 34 0
 
 abbrev pub of_quoting : Quoting → CWritten
 of_quoting q = written_seen (of_quoted q.answer) q.memory
 
 -- a value escaped for a name: the count is the octets written
-abbrev pub of_escaped : Escaped → CAnswer
-of_escaped (Escaped.Written n) = numbers 0 n
-of_escaped Escaped.NotUtf8 = numbers 33 0
-of_escaped Escaped.TooLittleRoom = numbers 34 0
+abbrev pub of_escaped : Result ℕ EscapeError → CAnswer
+of_escaped (Ok n) = numbers 0 n
+of_escaped (Err EscapeError.NotUtf8) = numbers 33 0
+of_escaped (Err EscapeError.TooLittleRoom) = numbers 34 0
 
 abbrev pub of_escaping : Escaping → CWritten
 of_escaping e = written_seen (of_escaped e.answer) e.memory

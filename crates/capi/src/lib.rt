@@ -5,6 +5,7 @@ ghost use Rattle.std.specs.Prelude.{◌≡◌};
 ghost use Rattle.types.specs.Check as tables;
 ghost use Rattle.table.specs.Check as check;
 ghost use Rattle.value.specs.Check as values;
+ghost use Rattle.value.specs.Part as parts;
 ghost use Rattle.value.specs.Part.{part_report};
 ghost use Rattle.rules.specs.Rule.{known_rules};
 ghost use Rattle.quote.specs.Quote.{quoted_report};
@@ -16,10 +17,10 @@ ghost use Rattle.capi.specs.Numbers.{is_set, numbers, of_table, of_value, of_par
 ghost use Rattle.capi.specs.Numbers.{of_escaped, of_escaping, of_report};
 
 use engine::{Answer, Listed};
-use escape::Escaped;
-use quote::Quoted;
-use table::TableCheck;
-use value::ValueCheck;
+use escape::EscapeError;
+use quote::QuoteError;
+use rows::Table;
+use table::Refusal;
 
 // An answer as two numbers: what it is (0 done, a refusal by its number, 16 FALSE, 17 TRUE, 18 Undefined, 32 to 34 nothing quoted or escaped), and a count,
 // which is 0 with a refusal and where nothing is quoted or escaped.
@@ -36,65 +37,81 @@ impl CAnswer {
     {
         Self { number, count }
     }
+
+    // A refusal by its number.
+    fn refused(r: Refusal) -> Self
+        ensures { result ≡ numbers (check.refusal_number r) 0 }
+    {
+        Self::of(r.number() as u64, 0)
+    }
 }
 
 // ---- each kind of answer as two numbers
-fn of_table(a: TableCheck) -> CAnswer
+fn of_table(a: Result<Table, Refusal>) -> CAnswer
     ensures { result ≡ of_table (check.report a) }
 {
     match a {
-        TableCheck::Admitted(t) => CAnswer::of(0, t.rows as u64),
-        TableCheck::Refused(n) => CAnswer::of(n as u64, 0),
+        Ok(t) => CAnswer::of(0, t.rows as u64),
+        Err(r) => CAnswer::refused(r),
     }
 }
 
-fn of_value(a: ValueCheck) -> CAnswer
+fn of_octets(a: Result<&[u8], Refusal>) -> CAnswer
+    ensures { result ≡ (of_part (parts.report a.entry)).answer }
+{
+    match a {
+        Ok(octets) => CAnswer::of(0, octets.len() as u64),
+        Err(r) => CAnswer::refused(r),
+    }
+}
+
+fn of_value(a: Result<(), Refusal>) -> CAnswer
     ensures { result ≡ of_value (values.report a) }
 {
     match a {
-        ValueCheck::Good => CAnswer::of(0, 0),
-        ValueCheck::Refused(n) => CAnswer::of(n as u64, 0),
+        Ok(()) => CAnswer::of(0, 0),
+        Err(r) => CAnswer::refused(r),
     }
 }
 
-fn of_listed(a: Listed) -> CAnswer
+fn of_listed(a: Result<Listed, Refusal>) -> CAnswer
     ensures { result ≡ of_listed (listing.report a) }
 {
     match a {
-        Listed::Values(n) => CAnswer::of(0, n as u64),
-        Listed::Refused(n) => CAnswer::of(n as u64, 0),
+        Ok(l) => CAnswer::of(0, l.values as u64),
+        Err(r) => CAnswer::refused(r),
     }
 }
 
-fn of_quoted(a: Quoted) -> CAnswer
+fn of_quoted(a: Result<usize, QuoteError>) -> CAnswer
     ensures { result ≡ of_quoted a }
 {
     match a {
-        Quoted::Written(n) => CAnswer::of(0, n as u64),
-        Quoted::Empty => CAnswer::of(32, 0),
-        Quoted::NotUtf8 => CAnswer::of(33, 0),
-        Quoted::TooLittleRoom => CAnswer::of(34, 0),
+        Ok(quoted) => CAnswer::of(0, quoted as u64),
+        Err(QuoteError::Empty) => CAnswer::of(32, 0),
+        Err(QuoteError::NotUtf8) => CAnswer::of(33, 0),
+        Err(QuoteError::TooLittleRoom) => CAnswer::of(34, 0),
     }
 }
 
-fn of_escaped(a: Escaped) -> CAnswer
+fn of_escaped(a: Result<usize, EscapeError>) -> CAnswer
     ensures { result ≡ of_escaped a }
 {
     match a {
-        Escaped::Written(n) => CAnswer::of(0, n as u64),
-        Escaped::NotUtf8 => CAnswer::of(33, 0),
-        Escaped::TooLittleRoom => CAnswer::of(34, 0),
+        Ok(n) => CAnswer::of(0, n as u64),
+        Err(EscapeError::NotUtf8) => CAnswer::of(33, 0),
+        Err(EscapeError::TooLittleRoom) => CAnswer::of(34, 0),
     }
 }
 
-fn of_answer(a: Answer) -> CAnswer
+fn of_answer(a: Result<Answer, Refusal>) -> CAnswer
     ensures { result ≡ of_report (answer.report a) }
 {
     match a {
-        Answer::False(n) => CAnswer::of(16, n as u64),
-        Answer::True(n) => CAnswer::of(17, n as u64),
-        Answer::Undefined(n) => CAnswer::of(18, n as u64),
-        Answer::Refused(n) => CAnswer::of(n as u64, 0),
+        Ok(Answer::False(n)) => CAnswer::of(16, n as u64),
+        Ok(Answer::True(n)) => CAnswer::of(17, n as u64),
+        Ok(Answer::Undefined(n)) => CAnswer::of(18, n as u64),
+        Err(r) => CAnswer::refused(r),
     }
 }
 
@@ -117,9 +134,7 @@ pub extern "C" fn tezqulom_check_value(table: &[u8], value: &[u8]) -> CAnswer
 pub extern "C" fn tezqulom_part(value: &[u8], place: u64, length: u64) -> CAnswer
     ensures { part_seen value.now place result ≡ of_part (part_report limits.value value.now place length) }
 {
-    let number = value::part_number(value, place as usize, length as usize);
-    let octets = value::part_bytes(value, place as usize, length as usize);
-    CAnswer::of(number as u64, octets.len() as u64)
+    of_octets(value::part(value, place as usize, length as usize))
 }
 
 #[unsafe(no_mangle)]

@@ -1,9 +1,8 @@
 // Answers the cases of standard input, a line for each. docs/CASES.md describes both formats.
 #![tactic(auto)]
 
-ghost use Rattle.std.specs.Prelude.{◌≡◌, ◌<◌, ◌≤◌, ◌^◌, ◌/◌, ◌%◌, [], ◌∷◌, false, IfOk, IsTrue, OnOk, length, take};
+ghost use Rattle.std.specs.Prelude.{◌≡◌, ◌<◌, ◌≤◌, ◌^◌, ◌/◌, ◌%◌, [], ◌∷◌, false, IfOk, IsTrue, IfSome, OnOk, length, take};
 ghost use Rattle.std.specs.Int.{to_be_bytes, w64};
-ghost use Rattle.cases.specs.Reading.{IfRead};
 ghost use Rattle.std.specs.Io.KnownBytes.{Appends, Consumes};
 
 use engine::{Answer, Listed};
@@ -11,22 +10,8 @@ use filter::Filter;
 use rows::Table;
 use std::io;
 use std::io::{Read, Write};
-use table::TableCheck;
-use value::{Value, ValueCheck};
-
-// A number that was read, or none.
-#[derive(Clone, Copy)]
-enum Number {
-    Of(usize),
-    None,
-}
-
-fn wide(b: u8) -> usize
-    ensures fits { result ≤ 255 }
-    ensures same { result ≡ b }
-{
-    b as usize
-}
+use table::Refusal;
+use value::Value;
 
 fn print_word<W: Write>(out: &mut W, word: &[u8]) -> io::Result<()>
     ensures { OnOk result (Appends (W.contents out.old) (W.contents out.new) word.now) }
@@ -78,27 +63,27 @@ fn read_whole<R: Read, W: Write>(input: &mut R, out: &mut W, buf: &mut [u8]) -> 
 }
 
 // One octet.
-fn read_octet<R: Read, W: Write>(input: &mut R, out: &mut W) -> io::Result<Number>
-    ensures fits { IfOk result (λ m. IfRead m (λ k. k < 2 ^ 8)) }
-    ensures bytes { IfOk result (λ m. IfRead m (λ k. Consumes (R.remaining input.old) (R.remaining input.new) (k ∷ []))) }
+fn read_octet<R: Read, W: Write>(input: &mut R, out: &mut W) -> io::Result<Option<usize>>
+    ensures fits { IfOk result (λ m. IfSome m (λ k. k < 2 ^ 8)) }
+    ensures bytes { IfOk result (λ m. IfSome m (λ k. Consumes (R.remaining input.old) (R.remaining input.new) (k ∷ []))) }
 {
     let mut head = [0u8; 1];
     if !read_whole(input, out, &mut head)? {
-        return Ok(Number::None);
+        return Ok(None);
     }
-    Ok(Number::Of(wide(head[0])))
+    Ok(Some(head[0] as usize))
 }
 
 // A length: two octets, most significant first.
-fn read_length<R: Read, W: Write>(input: &mut R, out: &mut W) -> io::Result<Number>
-    ensures fits { IfOk result (λ m. IfRead m (λ k. k < 2 ^ 16)) }
-    ensures bytes { IfOk result (λ m. IfRead m (λ k. Consumes (R.remaining input.old) (R.remaining input.new) (k / 256 ∷ k % 256 ∷ []))) }
+fn read_length<R: Read, W: Write>(input: &mut R, out: &mut W) -> io::Result<Option<usize>>
+    ensures fits { IfOk result (λ m. IfSome m (λ k. k < 2 ^ 16)) }
+    ensures bytes { IfOk result (λ m. IfSome m (λ k. Consumes (R.remaining input.old) (R.remaining input.new) (k / 256 ∷ k % 256 ∷ []))) }
 {
     let mut head = [0u8; 2];
     if !read_whole(input, out, &mut head)? {
-        return Ok(Number::None);
+        return Ok(None);
     }
-    Ok(Number::Of(wide(head[0]) * 256 + wide(head[1])))
+    Ok(Some(head[0] as usize * 256 + head[1] as usize))
 }
 
 // Eight octets as a number, most significant first.
@@ -109,14 +94,14 @@ fn number_of(head: [u8; 8]) -> u64
 }
 
 // A number: eight octets, most significant first.
-fn read_number<R: Read, W: Write>(input: &mut R, out: &mut W) -> io::Result<Number>
-    ensures { IfOk result (λ m. IfRead m (λ k. Consumes (R.remaining input.old) (R.remaining input.new) (to_be_bytes w64 k))) }
+fn read_number<R: Read, W: Write>(input: &mut R, out: &mut W) -> io::Result<Option<usize>>
+    ensures { IfOk result (λ m. IfSome m (λ k. Consumes (R.remaining input.old) (R.remaining input.new) (to_be_bytes w64 k))) }
 {
     let mut head = [0u8; 8];
     if !read_whole(input, out, &mut head)? {
-        return Ok(Number::None);
+        return Ok(None);
     }
-    Ok(Number::Of(number_of(head) as usize))
+    Ok(Some(number_of(head) as usize))
 }
 
 // So many octets to the start of buf.
@@ -125,28 +110,32 @@ fn read_part<R: Read, W: Write>(
     out: &mut W,
     buf: &mut [u8],
     n: usize,
-) -> io::Result<Number>
-    ensures number { IfOk result (λ m. IfRead m (λ k. k ≡ n)) }
-    ensures fits { IfOk result (λ m. IfRead m (λ k. k ≤ length buf.new)) }
-    ensures bytes { IfOk result (λ m. IfRead m (λ k. Consumes (R.remaining input.old) (R.remaining input.new) (take k buf.new))) }
+) -> io::Result<Option<usize>>
+    ensures number { IfOk result (λ m. IfSome m (λ k. k ≡ n)) }
+    ensures fits { IfOk result (λ m. IfSome m (λ k. k ≤ length buf.new)) }
+    ensures bytes { IfOk result (λ m. IfSome m (λ k. Consumes (R.remaining input.old) (R.remaining input.new) (take k buf.new))) }
 {
     if buf.len() < n {
         too_long(out, n)?;
-        return Ok(Number::None);
+        return Ok(None);
     }
     if !read_whole(input, out, &mut buf[..n])? {
-        return Ok(Number::None);
+        return Ok(None);
     }
-    Ok(Number::Of(n))
+    Ok(Some(n))
 }
 
 // An input of octets: a length, and so many octets.
-fn read_input<R: Read, W: Write>(input: &mut R, out: &mut W, buf: &mut [u8]) -> io::Result<Number>
-    ensures fits { IfOk result (λ m. IfRead m (λ k. k ≤ length buf.new)) }
-    ensures bytes { IfOk result (λ m. IfRead m (λ k. Consumes (R.remaining input.old) (R.remaining input.new) (k / 256 ∷ k % 256 ∷ take k buf.new))) }
+fn read_input<R: Read, W: Write>(
+    input: &mut R,
+    out: &mut W,
+    buf: &mut [u8],
+) -> io::Result<Option<usize>>
+    ensures fits { IfOk result (λ m. IfSome m (λ k. k ≤ length buf.new)) }
+    ensures bytes { IfOk result (λ m. IfSome m (λ k. Consumes (R.remaining input.old) (R.remaining input.new) (k / 256 ∷ k % 256 ∷ take k buf.new))) }
 {
-    let Number::Of(n) = read_length(input, out)? else {
-        return Ok(Number::None);
+    let Some(n) = read_length(input, out)? else {
+        return Ok(None);
     };
     read_part(input, out, buf, n)
 }
@@ -154,12 +143,12 @@ fn read_input<R: Read, W: Write>(input: &mut R, out: &mut W, buf: &mut [u8]) -> 
 // ---- cases and questions; with false a last line was printed
 fn table_case<R: Read, W: Write>(input: &mut R, out: &mut W) -> io::Result<bool> {
     let mut table = [0u8; Table::MAX_BYTES + 1];
-    let Number::Of(t) = read_input(input, out, &mut table)? else {
+    let Some(t) = read_input(input, out, &mut table)? else {
         return Ok(false);
     };
     match table::check_table(octets::part(&table, 0, t)) {
-        TableCheck::Admitted(admitted) => print_line(out, b"admitted ", admitted.rows as u64)?,
-        TableCheck::Refused(refusal) => print_line(out, b"refused ", refusal as u64)?,
+        Ok(admitted) => print_line(out, b"admitted ", admitted.rows as u64)?,
+        Err(r) => print_line(out, b"refused ", r.number() as u64)?,
     }
     Ok(true)
 }
@@ -167,88 +156,61 @@ fn table_case<R: Read, W: Write>(input: &mut R, out: &mut W) -> io::Result<bool>
 fn value_case<R: Read, W: Write>(input: &mut R, out: &mut W) -> io::Result<bool> {
     let mut table = [0u8; Table::MAX_BYTES + 1];
     let mut value = [0u8; Value::MAX_BYTES + 1];
-    let Number::Of(t) = read_input(input, out, &mut table)? else {
+    let Some(t) = read_input(input, out, &mut table)? else {
         return Ok(false);
     };
-    let Number::Of(v) = read_input(input, out, &mut value)? else {
+    let Some(v) = read_input(input, out, &mut value)? else {
         return Ok(false);
     };
     match value::check_value(octets::part(&table, 0, t), octets::part(&value, 0, v)) {
-        ValueCheck::Good => print_word(out, b"good\n")?,
-        ValueCheck::Refused(refusal) => print_line(out, b"refused ", refusal as u64)?,
+        Ok(()) => print_word(out, b"good\n")?,
+        Err(r) => print_line(out, b"refused ", r.number() as u64)?,
     }
     Ok(true)
 }
 
+// A hexadecimal digit.
 fn digit(n: u8) -> u8 {
-    if n < 10 {
-        return 48 + n;
-    }
-    if n < 16 {
-        return 55 + n;
-    }
-    63
+    octets::octet(b"0123456789ABCDEF", n as usize)
 }
 
-fn high_digit(b: u8) -> u8 {
-    digit(b >> 4)
-}
-
-fn low_digit(b: u8) -> u8 {
-    digit(b & 15)
-}
-
-// The octets of a value that are printed: as many as it may have.
-fn printed(n: usize) -> usize
-    ensures few { result ≤ n }
-    ensures most { result ≤ Value.MAX_BYTES }
-{
-    if n < Value::MAX_BYTES {
-        return n;
-    }
-    Value::MAX_BYTES
-}
-
-// Octets as hexadecimal digits.
+// Octets as hexadecimal digits: as many octets as a value may have.
 fn print_octets<W: Write>(out: &mut W, part: &[u8]) -> io::Result<()> {
     let mut text = [0u8; Value::MAX_BYTES * 2];
-    let n = printed(part.len());
+    let n = part.len().min(Value::MAX_BYTES);
     for i in 0..n {
-        text[i * 2] = high_digit(part[i]);
-        text[i * 2 + 1] = low_digit(part[i]);
+        text[i * 2] = digit(part[i] >> 4);
+        text[i * 2 + 1] = digit(part[i] & 15);
     }
     print_word(out, octets::part(&text, 0, n * 2))
 }
 
 fn part_case<R: Read, W: Write>(input: &mut R, out: &mut W) -> io::Result<bool> {
     let mut value = [0u8; Value::MAX_BYTES + 1];
-    let Number::Of(v) = read_input(input, out, &mut value)? else {
+    let Some(v) = read_input(input, out, &mut value)? else {
         return Ok(false);
     };
-    let Number::Of(place) = read_number(input, out)? else {
+    let Some(place) = read_number(input, out)? else {
         return Ok(false);
     };
-    let Number::Of(length) = read_number(input, out)? else {
+    let Some(length) = read_number(input, out)? else {
         return Ok(false);
     };
-    let refusal = value::part_number(octets::part(&value, 0, v), place, length);
-    if refusal != 0 {
-        print_line(out, b"refused ", refusal as u64)?;
-    } else {
-        print_word(out, b"part ")?;
-        print_octets(
-            out,
-            value::part_bytes(octets::part(&value, 0, v), place, length),
-        )?;
-        print_word(out, b"\n")?;
+    match value::part(octets::part(&value, 0, v), place, length) {
+        Ok(part) => {
+            print_word(out, b"part ")?;
+            print_octets(out, part)?;
+            print_word(out, b"\n")?;
+        }
+        Err(r) => print_line(out, b"refused ", r.number() as u64)?,
     }
     Ok(true)
 }
 
-fn print_listed<W: Write>(out: &mut W, listed: Listed) -> io::Result<()> {
+fn print_listed<W: Write>(out: &mut W, listed: Result<Listed, Refusal>) -> io::Result<()> {
     match listed {
-        Listed::Values(n) => print_count(out, b"listed ", n as u64),
-        Listed::Refused(refusal) => print_count(out, b"refused ", refusal as u64),
+        Ok(l) => print_count(out, b"listed ", l.values as u64),
+        Err(r) => print_count(out, b"refused ", r.number() as u64),
     }
 }
 
@@ -310,16 +272,16 @@ fn list_case<R: Read, W: Write>(
 ) -> io::Result<bool> {
     let mut reference = [0u8; Listed::MAX_REFERENCE + 1];
     let mut room = [9999u64; Value::MAX_BYTES / 2 * 3];
-    let Number::Of(given) = read_octet(input, out)? else {
+    let Some(given) = read_octet(input, out)? else {
         return Ok(false);
     };
-    let Number::Of(r) = read_input(input, out, &mut reference)? else {
+    let Some(r) = read_input(input, out, &mut reference)? else {
         return Ok(false);
     };
-    let Number::Of(defaults) = read_octet(input, out)? else {
+    let Some(defaults) = read_octet(input, out)? else {
         return Ok(false);
     };
-    let Number::Of(n) = read_length(input, out)? else {
+    let Some(n) = read_length(input, out)? else {
         return Ok(false);
     };
     list_into(
@@ -341,17 +303,17 @@ fn filter_case<R: Read, W: Write>(
     value: &[u8],
 ) -> io::Result<bool> {
     let mut filter = [0u8; Filter::MAX_BYTES + 1];
-    let Number::Of(f) = read_input(input, out, &mut filter)? else {
+    let Some(f) = read_input(input, out, &mut filter)? else {
         return Ok(false);
     };
-    let Number::Of(budget) = read_number(input, out)? else {
+    let Some(budget) = read_number(input, out)? else {
         return Ok(false);
     };
     match engine::ask(table, value, octets::part(&filter, 0, f), budget as u64) {
-        Answer::True(n) => print_line(out, b"TRUE ", n as u64)?,
-        Answer::False(n) => print_line(out, b"FALSE ", n as u64)?,
-        Answer::Undefined(n) => print_line(out, b"UNDEFINED ", n as u64)?,
-        Answer::Refused(refusal) => print_line(out, b"refused ", refusal as u64)?,
+        Ok(Answer::True(n)) => print_line(out, b"TRUE ", n as u64)?,
+        Ok(Answer::False(n)) => print_line(out, b"FALSE ", n as u64)?,
+        Ok(Answer::Undefined(n)) => print_line(out, b"UNDEFINED ", n as u64)?,
+        Err(r) => print_line(out, b"refused ", r.number() as u64)?,
     }
     Ok(true)
 }
@@ -382,7 +344,7 @@ fn questions<R: Read, W: Write>(
     table: &[u8],
     value: &[u8],
 ) -> io::Result<bool> {
-    let Number::Of(n) = read_length(input, out)? else {
+    let Some(n) = read_length(input, out)? else {
         return Ok(false);
     };
     for _ in 0..n {
@@ -396,10 +358,10 @@ fn questions<R: Read, W: Write>(
 fn questions_case<R: Read, W: Write>(input: &mut R, out: &mut W) -> io::Result<bool> {
     let mut table = [0u8; Table::MAX_BYTES + 1];
     let mut value = [0u8; Value::MAX_BYTES + 1];
-    let Number::Of(t) = read_input(input, out, &mut table)? else {
+    let Some(t) = read_input(input, out, &mut table)? else {
         return Ok(false);
     };
-    let Number::Of(v) = read_input(input, out, &mut value)? else {
+    let Some(v) = read_input(input, out, &mut value)? else {
         return Ok(false);
     };
     questions(

@@ -1,5 +1,5 @@
 -- Whole rows that follow another: one lemma for each return and each turn of a loop of the first pass's functions on one such row.
-use mathlib.Core.Path.{◌≡◌, refl, sym, ap, ◌∙◌, subst}
+use mathlib.Core.Path.{◌≡◌, refl, sym, ap, ◌∙◌}
 use mathlib.Core.Bool.{Bool, true, false, not}
 use mathlib.Core.List.{List}
 use Prim.Native.Nat.{ℕ, ◌≤◌, ◌<◌, ◌+◌, ◌-◌, ◌*◌}
@@ -9,7 +9,7 @@ use lib.Dec.{ltb, eqb}
 use lib.ListN.{length, get_or}
 use Rattle.octets.specs.Pick.{pick, both, no, all}
 use Rattle.octets.specs.Octets.{octet, same}
-use Rattle.octets.proofs.Laws.{all_none, all_more, all_not, all_done}
+use Rattle.octets.proofs.Laws.{all_none, all_more, all_not}
 use Rattle.rows.specs.Paper.{table_limits}
 use Rattle.rows.specs.Row.{kind_at, name_at, row_size, is_follower}
 use Rattle.rows.specs.Body.{row_formed}
@@ -19,115 +19,75 @@ use Rattle.rows.proofs.FollowerSteps.{formed-least, formed-size}
 use Rattle.clauses.specs.Clauses.{same_name, same_number}
 use Rattle.clauses.specs.Inner.Work.{place_in, FollowersIn, differs_at, new_name_at, number_differs_at, new_number_at, new_at, follower_size}
 
--- ---- a test of each row from `first` on, before row n; k is where the place of the next row stands
-pub record Tested (f : ℕ → Bool) (first n k : ℕ) : Type 0 where
-  pub row : ℕ
-  pub at : k ≡ 2 * row
-  pub low : first ≤ row
-  pub high : row ≤ n
-  pub tested : all f (row - first) ≡ true
+-- ---- row i, one of those from `first` on and before row n
+module _ (t w : List ℕ) (first n i : ℕ) (before : FollowersIn t w first n) (low : first ≤ i) (more : i < n) where
+  pub before-name : WholeName t (get_or w (2 * i) 0)
+  before-name = follower-name t (get_or w (2 * i) 0) (before.whole i low more)
 
--- the place of a row before
-module _ (t w : List ℕ) (f : ℕ → Bool) (first n k : ℕ) (before : FollowersIn t w first n) (inv : Tested f first n k) (more : k < 2 * n) where
-  before-whole : WholeFollower t (get_or w k 0)
-  before-whole =
-      let e = inv.at in
-      let whole = before.whole inv.row inv.low (omega arith) in
-      subst (λ (x : ℕ). WholeFollower t (get_or w x 0)) (sym inv.at) whole
+  pub before-octet : get_or w (2 * i) 0 + 25 < length t
+  before-octet = let whole = before.whole i low more in let l = whole.least in omega arith
 
-  pub before-name : WholeName t (get_or w k 0)
-  before-name = follower-name t (get_or w k 0) before-whole
-
-  pub before-octet : get_or w k 0 + 25 < length t
-  before-octet = let l = before-whole.least in omega arith
-
-  pub before-fits : (most : ℕ) → length t < most → get_or w k 0 + 25 < most
+  pub before-fits : (most : ℕ) → length t < most → get_or w (2 * i) 0 + 25 < most
   before-fits most h = let l = before-octet in omega arith
 
--- r is whether the next row is the same
-module _ (f : ℕ → Bool) (first n : ℕ) where
-  test-start : first ≤ n → Tested f first n (2 * first)
-  test-start l =
-      let z : first - first ≡ 0 = omega arith in
-      record { row = first; at = refl; low = omega arith; high = l; tested = ap (all f) z ∙ all_none f }
+-- ---- a test of each of them; r is whether row i is the same
+module _ (f : ℕ → Bool) (first : ℕ) where
+  test-start : all f (first - first) ≡ true
+  test-start = let z : first - first ≡ 0 = omega arith in ap (all f) z ∙ all_none f
 
-  module _ (k : ℕ) (inv : Tested f first n k) where
-    module _ (more : k < 2 * n) (r : Bool) (told : f (inv.row - first) ≡ no r) where
-      test-found : r ≡ true → false ≡ all f (n - first)
-      test-found e =
-          let l = inv.low in
-          let a = inv.at in
-          sym (all_not f (n - first) (inv.row - first) (omega arith) (told ∙ ap (λ (x : Bool). no x) e))
+  module _ (i : ℕ) (low : first ≤ i) (r : Bool) (told : f (i - first) ≡ no r) where
+    test-found : (n : ℕ) → i < n → r ≡ true → false ≡ all f (n - first)
+    test-found n more e = sym (all_not f (n - first) (i - first) (omega arith) (told ∙ ap (λ (x : Bool). no x) e))
 
-      test-other : r ≡ false → Tested f first n (k + 2)
-      test-other e =
-          let l = inv.low in
-          let a = inv.at in
-          let z : inv.row - first + 1 ≡ inv.row + 1 - first = omega arith in
-          record {
-            row = inv.row + 1;
-            at = omega arith;
-            low = omega arith;
-            high = omega arith;
-            tested = ap (all f) (sym z) ∙ all_more f (inv.row - first) true (sym (told ∙ ap (λ (x : Bool). no x) e)) inv.tested refl;
-          }
+    test-other : all f (i - first) ≡ true → r ≡ false → all f (i + 1 - first) ≡ true
+    test-other tested e =
+        let z : i - first + 1 ≡ i + 1 - first = omega arith in
+        ap (all f) (sym z) ∙ all_more f (i - first) true (sym (told ∙ ap (λ (x : Bool). no x) e)) tested refl
 
-    test-done : 2 * n ≤ k → true ≡ all f (n - first)
-    test-done h =
-        let l = inv.low in
-        let u = inv.high in
-        let a = inv.at in
-        all_done f (inv.row - first) (n - first) inv.tested (omega arith) (omega arith)
+-- all of them have been tested
+pub tested-all : (t w : List ℕ) (first n i : ℕ) (f : ℕ → Bool) → FollowersIn t w first n → f i ≡ true → (first ≤ n → i ≤ n) → n ≤ i → true ≡ f n
+tested-all t w first n i f before tested within ended =
+    let u = within before.fewer in let e : i ≡ n = omega arith in sym tested ∙ ap f e
 
 -- the place of a row by either count
-placed : (t w : List ℕ) (first k row : ℕ) → first ≤ row → k ≡ 2 * row → place_in w (first + (row - first)) ≡ get_or w k 0
-placed t w first k row l e = let z : 2 * (first + (row - first)) ≡ k = omega arith in ap (λ (x : ℕ). get_or w x 0) z
+placed : (w : List ℕ) (first i : ℕ) → first ≤ i → place_in w (first + (i - first)) ≡ get_or w (2 * i) 0
+placed w first i l = let z : 2 * (first + (i - first)) ≡ 2 * i = omega arith in ap (λ (x : ℕ). get_or w x 0) z
 
--- ---- names
-module _ (t w : List ℕ) (first n p : ℕ) where
-  pub name-start : first ≤ n → Tested (differs_at t w first p) first n (2 * first)
-  name-start l = test-start (differs_at t w first p) first n l
+-- ---- names and numbers
+module _ (t w : List ℕ) (first p : ℕ) where
+  pub name-start : new_name_at t w first first p ≡ true
+  unfolding new_name_at
+  name-start = test-start (differs_at t w first p) first
 
-  module _ (k : ℕ) (inv : Tested (differs_at t w first p) first n k) where
-    module _ (more : k < 2 * n) (r : Bool) (told : r ≡ same (name_at t (get_or w k 0)) (name_at t p)) where
-      differs_told : differs_at t w first p (inv.row - first) ≡ no r
+  pub number-start : new_number_at t w first first p ≡ true
+  unfolding new_number_at
+  number-start = test-start (number_differs_at t w first p) first
+
+  module _ (i : ℕ) (low : first ≤ i) where
+    module _ (r : Bool) (told : r ≡ same (name_at t (get_or w (2 * i) 0)) (name_at t p)) where
+      differs_told : differs_at t w first p (i - first) ≡ no r
       unfolding differs_at same_name
-      differs_told =
-          ap (λ (x : ℕ). no (same_name t x p)) (placed t w first k inv.row inv.low inv.at) ∙ ap (λ (x : Bool). no x) (sym told)
+      differs_told = ap (λ (x : ℕ). no (same_name t x p)) (placed w first i low) ∙ ap (λ (x : Bool). no x) (sym told)
 
-      pub name_repeated : r ≡ true → false ≡ new_name_at t w first n p
+      pub name_repeated : (n : ℕ) → i < n → r ≡ true → false ≡ new_name_at t w first n p
       unfolding new_name_at
-      name_repeated e = test-found (differs_at t w first p) first n k inv more r differs_told e
+      name_repeated n more e = test-found (differs_at t w first p) first i low r differs_told n more e
 
-      pub name-other : r ≡ false → Tested (differs_at t w first p) first n (k + 2)
-      name-other e = test-other (differs_at t w first p) first n k inv more r differs_told e
+      pub name-other : new_name_at t w first i p ≡ true → r ≡ false → new_name_at t w first (i + 1) p ≡ true
+      unfolding new_name_at
+      name-other tested e = test-other (differs_at t w first p) first i low r differs_told tested e
 
-    pub name_new : 2 * n ≤ k → true ≡ new_name_at t w first n p
-    unfolding new_name_at
-    name_new h = test-done (differs_at t w first p) first n k inv h
+    number_told : (r : Bool) → eqb (octet t (get_or w (2 * i) 0 + 25)) (octet t (p + 25)) ≡ r → number_differs_at t w first p (i - first) ≡ no r
+    unfolding number_differs_at same_number
+    number_told r e = ap (λ (x : ℕ). no (same_number t x p)) (placed w first i low) ∙ ap (λ (x : Bool). no x) e
 
--- ---- numbers
-module _ (t w : List ℕ) (first n p : ℕ) where
-  pub number-start : first ≤ n → Tested (number_differs_at t w first p) first n (2 * first)
-  number-start l = test-start (number_differs_at t w first p) first n l
-
-  module _ (k : ℕ) (inv : Tested (number_differs_at t w first p) first n k) where
-    module _ (more : k < 2 * n) where
-      number_told : (r : Bool) → eqb (octet t (get_or w k 0 + 25)) (octet t (p + 25)) ≡ r → number_differs_at t w first p (inv.row - first) ≡ no r
-      unfolding number_differs_at same_number
-      number_told r e =
-          ap (λ (x : ℕ). no (same_number t x p)) (placed t w first k inv.row inv.low inv.at) ∙ ap (λ (x : Bool). no x) e
-
-      pub number_repeated : octet t (get_or w k 0 + 25) ≡ octet t (p + 25) → false ≡ new_number_at t w first n p
-      unfolding new_number_at
-      number_repeated e = test-found (number_differs_at t w first p) first n k inv more true (number_told true (eq-eqb _ _ e)) refl
-
-      pub number-other : (octet t (get_or w k 0 + 25) ≡ octet t (p + 25) → ⊥) → Tested (number_differs_at t w first p) first n (k + 2)
-      number-other e = test-other (number_differs_at t w first p) first n k inv more false (number_told false (ne_eqb _ _ e)) refl
-
-    pub number-new : 2 * n ≤ k → true ≡ new_number_at t w first n p
+    pub number_repeated : (n : ℕ) → i < n → octet t (get_or w (2 * i) 0 + 25) ≡ octet t (p + 25) → false ≡ new_number_at t w first n p
     unfolding new_number_at
-    number-new h = test-done (number_differs_at t w first p) first n k inv h
+    number_repeated n more e = test-found (number_differs_at t w first p) first i low true (number_told true (eq-eqb _ _ e)) n more refl
+
+    pub number-other : new_number_at t w first i p ≡ true → (octet t (get_or w (2 * i) 0 + 25) ≡ octet t (p + 25) → ⊥) → new_number_at t w first (i + 1) p ≡ true
+    unfolding new_number_at
+    number-other tested e = test-other (number_differs_at t w first p) first i low false (number_told false (ne_eqb _ _ e)) tested refl
 
 -- ---- the octets of a row that follows another
 module _ (t w : List ℕ) (first n p size : ℕ) (told : size ≡ formed_size table_limits.members t p) where

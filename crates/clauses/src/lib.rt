@@ -15,44 +15,37 @@ use rows::Table;
 // ---- the first pass: bodies, where rows stand, names and numbers
 // Whether the row at p has another name than each from row `first` on and before row n.
 fn new_name(t: &[u8], w: &[u64; 256], first: usize, n: usize, p: usize) -> bool
-    requires space { length w.now ≡ 256 }
     requires few { n ≤ table_limits.rows }
     requires before { work.FollowersIn t.now w.now first n }
     requires here { WholeFollower t.now p }
     ensures { result ≡ work.new_name_at t.now w.now first n p }
 {
-    let mut k = 2 * first;
-    while k < 2 * n {
-        if rows::same_name(t, w[k] as usize, p) {
+    for i in first..n {
+        if rows::same_name(t, w[2 * i] as usize, p) {
             return false;
         }
-        k += 2;
     }
     true
 }
 
 // Whether the bit at p has another number than each from row `first` on and before row n.
 fn new_number(t: &[u8], w: &[u64; 256], first: usize, n: usize, p: usize) -> bool
-    requires space { length w.now ≡ 256 }
     requires few { n ≤ table_limits.rows }
     requires before { work.FollowersIn t.now w.now first n }
     requires here { WholeFollower t.now p }
     ensures { result ≡ work.new_number_at t.now w.now first n p }
 {
     let number = t[p + 25];
-    let mut k = 2 * first;
-    while k < 2 * n {
-        if t[w[k] as usize + 25] == number {
+    for i in first..n {
+        if t[w[2 * i] as usize + 25] == number {
             return false;
         }
-        k += 2;
     }
     true
 }
 
 // The octets of the row at p, of a kind that follows another, behind those from row `first` on and before row n; 0 where it isn't as it has to be.
 fn follower_size(t: &[u8], w: &[u64; 256], first: usize, n: usize, p: usize) -> usize
-    requires space { length w.now ≡ 256 }
     requires few { n ≤ table_limits.rows }
     requires before { work.FollowersIn t.now w.now first n }
     requires inside { p < length t.now }
@@ -67,11 +60,8 @@ fn follower_size(t: &[u8], w: &[u64; 256], first: usize, n: usize, p: usize) -> 
     if !new_name(t, w, first, n, p) {
         return 0;
     }
-    if t[p] == Kind::NAMED_BIT {
-        if !new_number(t, w, first, n, p) {
-            return 0;
-        }
-        return size;
+    if t[p] == Kind::NAMED_BIT && !new_number(t, w, first, n, p) {
+        return 0;
     }
     size
 }
@@ -79,18 +69,17 @@ fn follower_size(t: &[u8], w: &[u64; 256], first: usize, n: usize, p: usize) -> 
 // How many rows a table has, with their places in every second number of w; 0 where a clause on bodies, on where rows stand, on names or on numbers doesn't
 // hold.
 pub fn scan(t: &[u8], w: &mut [u64; 256]) -> usize
-    requires space { length w.old ≡ 256 }
     ensures count { result
         ≡ pick (work.first_pass table_limits t.now (row.rows table_limits.rows t.now))
         (length (row.rows table_limits.rows t.now)) 0 }
     ensures places { work.Placed t.now w.new result }
-    ensures kept { length w.new ≡ 256 }
 {
     let mut at = 0;
     let mut n = 0;
     let mut follower = 0;
     let mut due = 0;
     let mut first = 0;
+    // A cursor: each row says where the next one starts.
     while at < t.len() {
         if n == Table::MAX_ROWS {
             return 0;
@@ -131,8 +120,5 @@ pub fn scan(t: &[u8], w: &mut [u64; 256]) -> usize
 pub fn default_allowed(k: u8, c: &[u8]) -> bool
     ensures { result ≡ clause.default_allowed k c.now }
 {
-    if !octets::within(Kind::BOOLEAN, Kind::ENUMERATED, k) {
-        return false;
-    }
-    der::legal_contents(k, c)
+    octets::within(Kind::BOOLEAN, Kind::ENUMERATED, k) && der::legal_contents(k, c)
 }

@@ -11,9 +11,10 @@ use lib.Dec.{ltb, eqb}
 use lib.Bits.{bit_and, and_mask}
 use lib.ListN.{length, get_or, drop, length-take, length-append, get_or-append, get_or-eq_default}
 use lib.Seq.{get_or-take, get_or-append-add}
+use Rattle.std.proofs.lemmas.Bool.Decides.{nat_tests}
 use Rattle.octets.specs.Pick.{pick}
 use Rattle.octets.specs.Octets.{octet, base_from}
-use Rattle.octets.proofs.Laws.{octet-past, rest-cons, rest-none}
+use Rattle.octets.proofs.Laws.{octet-past, octet-inside, rest-cons, rest-none}
 use Rattle.der.specs.Tag.{form, universal, own_octet, implicit_octet, wrapper_octet}
 use Rattle.der.specs.Meaning.{integer_of, boolean_of, octet_bits, all_bits, bits_of}
 use Rattle.der.specs.Order.{not_above}
@@ -83,75 +84,77 @@ module _ (c : List ℕ) (i n : ℕ) (p : Plain c i n) where
     pub plain-times : length c ≤ 8 → n * 256 < 18446744073709551616
     plain-times l = omega (arith, room n i p.small (omega arith))
 
-    module _ (w : ℕ) (low : w ≤ 255) where
+    module _ (low : octet c i < 256) (w : ℕ) (e : w ≡ octet c i) where
       pub plain-plus : length c ≤ 8 → n * 256 + w < 18446744073709551616
       plain-plus l = omega (arith, room n i p.small (omega arith))
 
-      pub plain_more : w ≡ octet c i → Plain c (i + 1) (n * 256 + w)
-      plain_more e = record {
+      pub plain_more : Plain c (i + 1) (n * 256 + w)
+      plain_more = record {
         within = omega arith;
         small = omega (arith, pow_more i, p.small);
         so_far = rw e (base_more c i n p.so_far h);
       }
 
--- i octets stand for `other`, and n is what is missing to the largest number of i octets
-pub record Flipped (c : List ℕ) (i n : ℕ) : Type 0 where
-  pub other : ℕ
-  pub within : i ≤ length c
-  pub sum : n + other + 1 ≡ 256 ^ i
-  pub so_far : base_from other (drop i c) ≡ base_from 0 c
+-- octets stand for less than the next power
+plain_up : (c : List ℕ) → ((k : ℕ) → octet c k < 256) → (i : ℕ) → i ≤ length c → (n : ℕ) × Plain c i n
+plain_up c f zero h = (0, plain-start c)
+plain_up c f (suc i) h =
+    let r = plain_up c f i (omega arith) in
+    let l : i < length c = omega arith in
+    (r.0 * 256 + octet c i, rw (← add-one i) (plain_more c i r.0 r.1 l (f i) (octet c i) refl))
 
-pub flipped_start : (c : List ℕ) → Flipped c 0 0
-flipped_start c = record { other = 0; within = omega arith; sum = refl; so_far = refl }
+base_small : (c : List ℕ) → ((k : ℕ) → octet c k < 256) → base_from 0 c < 256 ^ length c
+base_small c f =
+    let r = plain_up c f (length c) (omega arith) in
+    let e = plain_end c (length c) r.0 r.1 (omega arith) in
+    omega (arith, r.1.small)
 
-module _ (c : List ℕ) (i n : ℕ) (p : Flipped c i n) where
-  pub flipped_end : length c ≤ i → n + base_from 0 c + 1 ≡ 256 ^ length c
-  flipped_end h =
-      let e : i ≡ length c = omega (arith, p.within) in
-      let q : p.other ≡ base_from 0 c = base_done c i p.other p.so_far h in
-      sym (ap (λ (x : ℕ). n + x + 1) q) ∙ p.sum ∙ ap (λ (x : ℕ). 256 ^ x) e
-
-  module _ (h : i < length c) where
-    flipped_small : length c ≤ 8 → n < 72057594037927936
-    flipped_small l = room n i (omega (arith, p.sum)) (omega arith)
-
-    pub flipped_times : length c ≤ 8 → n * 256 < 18446744073709551616
-    flipped_times l = omega (arith, flipped_small l)
-
-    module _ (w : ℕ) (e : w + octet c i ≡ 255) where
-      pub flipped_plus : length c ≤ 8 → n * 256 + w < 18446744073709551616
-      flipped_plus l = omega (arith, flipped_small l)
-
-      pub flipped_more : Flipped c (i + 1) (n * 256 + w)
-      flipped_more = record {
-        other = p.other * 256 + octet c i;
-        within = omega arith;
-        sum = omega (arith, pow_more i, p.sum);
-        so_far = base_more c i p.other p.so_far h;
-      }
+-- the largest number of k octets
+largest_is : (k : ℕ) → 1 ≤ k → k ≤ 8 → 18446744073709551615 / 2 ^ (64 - 8 * k) + 1 ≡ 256 ^ k
+largest_is zero h g = absurd (omega arith)
+largest_is (suc zero) h g = refl
+largest_is (suc (suc zero)) h g = refl
+largest_is (suc (suc (suc zero))) h g = refl
+largest_is (suc (suc (suc (suc zero)))) h g = refl
+largest_is (suc (suc (suc (suc (suc zero))))) h g = refl
+largest_is (suc (suc (suc (suc (suc (suc zero)))))) h g = refl
+largest_is (suc (suc (suc (suc (suc (suc (suc zero))))))) h g = refl
+largest_is (suc (suc (suc (suc (suc (suc (suc (suc zero)))))))) h g = refl
+largest_is (suc (suc (suc (suc (suc (suc (suc (suc (suc k))))))))) h g = absurd (omega arith)
 
 pub integer-plus : (c : List ℕ) (o n : ℕ) → o ≡ octet c 0 → o < 128 → n ≡ base_from 0 c → report_integer (record { minus = false; size = n }) ≡ integer_of c
 unfolding integer_of
 integer-plus c o n e h q = let g : octet c 0 < 128 = omega arith in rw (lt-leb 128 (octet c 0) g, q)
 
-module _ (c : List ℕ) (o n : ℕ) (e : o ≡ octet c 0) (h : 128 ≤ o) (q : n + base_from 0 c + 1 ≡ 256 ^ length c) where
-  pub integer-minus : report_integer (record { minus = true; size = n + 1 }) ≡ integer_of c
-  unfolding integer_of
-  integer-minus =
-      let g : 128 ≤ octet c 0 = omega arith in
-      let z : n + 1 ≡ 256 ^ length c - base_from 0 c = omega arith in
-      rw (le-leb 128 (octet c 0) g, z)
+module _ (c : List ℕ) (o : ℕ) (e : o ≡ octet c 0) (h : 128 ≤ o) where
+  pub negative_long : 1 ≤ length c
+  negative_long = octet-inside c 0 (omega arith)
 
   positive : (c : List ℕ) → 128 ≤ octet c 0 → 1 ≤ base_from 0 c
   unfolding base_from
   positive [] g = absurd (omega arith)
   positive (b ∷ bs) g = omega (arith, base_ge (0 * 256 + b) bs)
 
-  pub integer-fits : length c ≤ 8 → n + 1 < 18446744073709551616
-  integer-fits l =
-      let g : 128 ≤ octet c 0 = omega arith in
-      let p : 256 ^ length c ≤ 256 ^ 8 = pow-le-pow_right two_pos l in
-      omega (arith, positive c g)
+  module _ (l : length c ≤ 8) (n : ℕ) (q : n ≡ base_from 0 c) where
+    total : 18446744073709551615 / 2 ^ (64 - 8 * length c) + 1 ≡ 256 ^ length c
+    total = largest_is (length c) negative_long l
+
+    pub integer-fits : 18446744073709551615 / 2 ^ (64 - 8 * length c) - n + 1 < 18446744073709551616
+    integer-fits =
+        let g : 128 ≤ octet c 0 = omega arith in
+        let p : 256 ^ length c ≤ 256 ^ 8 = pow-le-pow_right two_pos l in
+        omega (arith, total, positive c g)
+
+    module _ (low : (k : ℕ) → octet c k < 256) where
+      pub integer_under : n ≤ 18446744073709551615 / 2 ^ (64 - 8 * length c)
+      integer_under = omega (arith, total, base_small c low)
+
+      pub integer-minus : report_integer (record { minus = true; size = 18446744073709551615 / 2 ^ (64 - 8 * length c) - n + 1 }) ≡ integer_of c
+      unfolding integer_of
+      integer-minus =
+          let g : 128 ≤ octet c 0 = omega arith in
+          let z : 18446744073709551615 / 2 ^ (64 - 8 * length c) - n + 1 ≡ 256 ^ length c - base_from 0 c = omega (arith, total, integer_under) in
+          rw (le-leb 128 (octet c 0) g, z)
 
 -- ---- BIT STRING
 pub bit_is : (o k : ℕ) → k < 8 → bit_and (o / 2 ^ (7 - k)) 1 ≡ get_or (octet_bits o) k 0
@@ -184,13 +187,9 @@ unfolding bits_of
 count_none [] h = refl
 count_none (u ∷ l) h = absurd (omega arith)
 
-pub count-few : (c : List ℕ) (w : ℕ) → (length c ≡ 0 → ⊥) → w ≡ octet c 0 → 8 * (length c - 1) ≤ w → 0 ≡ length (bits_of c)
-count-few [] w n e h = absurd (n refl)
-count-few (u ∷ l) w n e h = omega (arith, counted u l)
-
-pub count-is : (c : List ℕ) (w : ℕ) → (length c ≡ 0 → ⊥) → w ≡ octet c 0 → 8 * (length c - 1) - w ≡ length (bits_of c)
-count-is [] w n e = absurd (n refl)
-count-is (u ∷ l) w n e = omega (arith, counted u l)
+pub count-is : (c : List ℕ) → 1 ≤ length c → length (bits_of c) ≡ 8 * (length c - 1) - octet c 0
+count-is [] h = absurd (omega arith)
+count-is (u ∷ l) h = omega (arith, counted u l)
 
 all-at : (l : List ℕ) (i : ℕ) → i < 8 * length l → get_or (all_bits l) i 0 ≡ get_or (octet_bits (octet l (i / 8))) (i % 8) 0
 unfolding all_bits
@@ -246,15 +245,11 @@ module _ (a b : List ℕ) (i y : ℕ) (inv : not_above (drop i a) (drop i b) ≡
           let z : y ≡ 0 = read ∙ sym (octet-past b i g) in
           rw (rest-cons a i h, rest-none b i g, rest-none b (i + 1) k, z) (sym (zero_less (octet a i) (not_above (drop (i + 1) a) [])))
 
-  pub order_less : octet a i < y → true ≡ not_above a b
-  order_less g = rw (lt-ltb _ _ g) at turn
+  pub order_differs : (octet a i ≡ y → ⊥) → ltb (octet a i) y ≡ not_above a b
+  order_differs n = sym (grind (arith, nat_tests)) ∙ turn
 
-  module _ (g : y ≤ octet a i) where
-    pub order_more : y < octet a i → false ≡ not_above a b
-    order_more k = rw (le-ltb _ _ g, lt-ltb _ _ k) at turn
-
-    pub order_on : octet a i ≤ y → not_above (drop (i + 1) a) (drop (i + 1) b) ≡ not_above a b
-    order_on k = rw (le-ltb _ _ g, le-ltb _ _ k) at turn
+  pub order_on : octet a i ≡ y → not_above (drop (i + 1) a) (drop (i + 1) b) ≡ not_above a b
+  order_on e = sym (grind (arith, nat_tests)) ∙ turn
 
 pub order_end : (a b : List ℕ) (i : ℕ) → not_above (drop i a) (drop i b) ≡ not_above a b → length a ≤ i → true ≡ not_above a b
 unfolding not_above

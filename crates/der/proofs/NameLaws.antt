@@ -18,7 +18,6 @@ use Rattle.der.specs.Contents.{legal_printable, legal_ia5, legal_text}
 use Rattle.der.specs.Order.{not_above}
 use Rattle.der.specs.Names.{Element, element_at, elements_from, legal_string, legal_type, legal_pair, every_element, in_order, legal_pairs, legal_rdn}
 use Rattle.der.specs.Names.{legal_rdns, legal_rdn_sequence, pair_behind, pair_of}
-use Rattle.der.specs.declared.Inside.{Inside}
 
 -- ---- tag octets: 06 of an attribute type, 30 of a pair, 31 of an RDN; 0C, 13 and 16 of the strings
 pub type_usable : number 6 < 31
@@ -66,11 +65,11 @@ module _ (o : ℕ) (c : List ℕ) (at : ℕ) where
     unfolding elements_from
     elements_full = rw (lt-leb (length c) at h)
 
-    pub elements_misfit : (m : ℕ) → inside_at o c at (length c) ≡ Inside.Misfit → elements_from (suc m) o c at ≡ None
+    pub elements_misfit : (m : ℕ) → inside_at o c at (length c) ≡ None → elements_from (suc m) o c at ≡ None
     unfolding elements_from
     elements_misfit m e = rw (lt-leb (length c) at h, e)
 
-    pub elements_next : (m start n : ℕ) → inside_at o c at (length c) ≡ Inside.Of start n
+    pub elements_next : (m start n : ℕ) → inside_at o c at (length c) ≡ Some (start, n)
         → elements_from (suc m) o c at ≡ consed (element_at c at start n) (elements_from m o c (start + n))
     unfolding elements_from
     elements_next m start n e = rw (lt-leb (length c) at h, e)

@@ -1,4 +1,5 @@
 -- Stored names: one lemma for each return and each turn of a loop.
+use Rattle.std.specs.Prelude.{Some, None}
 use mathlib.Core.Path.{◌≡◌, refl, sym, ap, ◌∙◌}
 use mathlib.Core.Bool.{Bool, true, false, not}
 use Rattle.std.specs.Prelude.{Option}
@@ -11,40 +12,22 @@ use lib.ListN.{length}
 use Rattle.octets.specs.Pick.{both}
 use Rattle.octets.specs.Octets.{part}
 use Rattle.octets.specs.Inner.Answers.{between}
-use Rattle.octets.specs.Utf8.{utf8}
 use Rattle.der.specs.Header.{header_at, inside_at}
-use Rattle.der.specs.Contents.{legal_printable, legal_ia5, legal_oid}
+use Rattle.der.specs.Contents.{legal_oid}
 use Rattle.der.specs.Order.{not_above}
 use Rattle.der.specs.Names.{Element, element_at, elements_from, legal_string, legal_value, legal_pair, every_element, legal_rdn, legal_rdns, legal_rdn_sequence}
 use Rattle.der.specs.Names.{Pair, contents_of, pair_behind, pair_of}
 use Rattle.der.specs.Inner.Answers.{legal_after, Placed}
-use Rattle.der.specs.declared.Header.{Header}
-use Rattle.der.specs.declared.Inside.{Inside}
 use Rattle.der.proofs.Laws.{header-within, inside-long, inside-within}
-use Rattle.der.proofs.NameLaws.{pair_by_octet, parts_by_octet, rdn_by_octet, sequence_by_octet, string_by_octet, elements_end, elements_full}
+use Rattle.der.proofs.NameLaws.{pair_by_octet, parts_by_octet, rdn_by_octet, sequence_by_octet, elements_end, elements_full}
 use Rattle.der.proofs.NameLaws.{elements_misfit, elements_next, pairs_after, pairs_first, pairs_next, pairs_end, rdns_next}
 
--- ---- a string
-module _ (o : ℕ) (c : List ℕ) where
-  module _ (r : Bool) where
-    pub string-utf8 : o ≡ 12 → r ≡ utf8 c → r ≡ legal_string o c
-    string-utf8 e q = rw (string_by_octet c o, eq-eqb o 12 e) q
-
-    pub string_printable : (o ≡ 12 → ⊥) → o ≡ 19 → r ≡ legal_printable c → r ≡ legal_string o c
-    string_printable a e q = rw (string_by_octet c o, ne_eqb o 12 a, eq-eqb o 19 e) q
-
-    pub string_ia5 : (o ≡ 12 → ⊥) → (o ≡ 19 → ⊥) → o ≡ 22 → r ≡ legal_ia5 c → r ≡ legal_string o c
-    string_ia5 a b e q = rw (string_by_octet c o, ne_eqb o 12 a, ne_eqb o 19 b, eq-eqb o 22 e) q
-
-  pub string-none : (o ≡ 12 → ⊥) → (o ≡ 19 → ⊥) → (o ≡ 22 → ⊥) → false ≡ legal_string o c
-  string-none a b d = rw (string_by_octet c o, ne_eqb o 12 a, ne_eqb o 19 b, ne_eqb o 22 d)
-
 -- ---- a value
-module _ (c : List ℕ) (at : ℕ) (h : Header) (read : h ≡ header_at c at (length c)) where
-  pub value-misfit : h ≡ Header.Misfit → false ≡ legal_value c (header_at c at (length c))
+module _ (c : List ℕ) (at : ℕ) (h : Option (ℕ × ℕ × ℕ)) (read : h ≡ header_at c at (length c)) where
+  pub value-misfit : h ≡ None → false ≡ legal_value c (header_at c at (length c))
   value-misfit e = ap (legal_value c) (sym e ∙ read)
 
-  module _ (o start n : ℕ) (e : h ≡ Header.Found o start n) where
+  module _ (o start n : ℕ) (e : h ≡ Some (o, start, n)) where
     ends : start + n ≤ length c
     ends = header-within c at (length c) o start n (sym read ∙ e)
 
@@ -54,26 +37,26 @@ module _ (c : List ℕ) (at : ℕ) (h : Header) (read : h ≡ header_at c at (le
     found : legal_value c (header_at c at (length c)) ≡ both (eqb (start + n) (length c)) (legal_string o (part c start n))
     found = ap (legal_value c) (sym read ∙ e)
 
-    pub value_before-end : (length c - start ≡ n → ⊥) → false ≡ legal_value c (header_at c at (length c))
-    value_before-end d = rw (found, ne_eqb (start + n) (length c) (λ z. d (omega arith)))
+    pub value_before-end : (length c - start ≡ n → ⊥) → eqb (length c - start) n ≡ legal_value c (header_at c at (length c))
+    value_before-end d = rw (found, ne_eqb (start + n) (length c) (λ z. d (omega arith)), ne_eqb (length c - start) n d)
 
     pub value-is : (p : List ℕ) (r : Bool) → length c - start ≡ n → p ≡ part c start n → r ≡ legal_string o p → r ≡ legal_value c (header_at c at (length c))
     value-is p r d q told = rw (found, eq-eqb (start + n) (length c) (omega (arith, ends))) (told ∙ ap (legal_string o) q)
 
 -- ---- a pair
-pub contents-fit : (o : ℕ) (c : List ℕ) (at start n : ℕ) (i : Inside) → i ≡ inside_at o c at (length c) → i ≡ Inside.Of start n → length c < 18446744073709551616
+pub contents-fit : (o : ℕ) (c : List ℕ) (at start n : ℕ) (i : Option (ℕ × ℕ)) → i ≡ inside_at o c at (length c) → i ≡ Some (start, n) → length c < 18446744073709551616
     → start + n < 18446744073709551616
 contents-fit o c at start n i e q l = let w = inside-within o c at (length c) start n (sym e ∙ q) in omega arith
 
-pub value-fits : (c : List ℕ) (at o start n : ℕ) (h : Header) → h ≡ header_at c at (length c) → h ≡ Header.Found o start n → length c < 18446744073709551616
+pub value-fits : (c : List ℕ) (at o start n : ℕ) (h : Option (ℕ × ℕ × ℕ)) → h ≡ header_at c at (length c) → h ≡ Some (o, start, n) → length c < 18446744073709551616
     → start + n < 18446744073709551616
 value-fits c at o start n h e q l = let w = header-within c at (length c) o start n (sym e ∙ q) in omega arith
 
-module _ (c : List ℕ) (i : Inside) (read : i ≡ inside_at 6 c 0 (length c)) where
-  pub pair-misfit : i ≡ Inside.Misfit → false ≡ legal_pair c
+module _ (c : List ℕ) (i : Option (ℕ × ℕ)) (read : i ≡ inside_at 6 c 0 (length c)) where
+  pub pair-misfit : i ≡ None → false ≡ legal_pair c
   pair-misfit e = rw (pair_by_octet c, sym read ∙ e)
 
-  module _ (start n : ℕ) (e : i ≡ Inside.Of start n) where
+  module _ (start n : ℕ) (e : i ≡ Some (start, n)) where
     pub type-within : start + n ≤ length c
     type-within = inside-within 6 c 0 (length c) start n (sym read ∙ e)
 
@@ -81,24 +64,13 @@ module _ (c : List ℕ) (i : Inside) (read : i ≡ inside_at 6 c 0 (length c)) w
       opened : legal_pair c ≡ both u (legal_value c (header_at c (start + n) (length c)))
       opened = rw (pair_by_octet c, sym read ∙ e, told, q)
 
-      pub pair_no_type : not u ≡ true → false ≡ legal_pair c
-      pair_no_type h = rw (opened, not-true u h)
+      pub pair_no_type : u ≡ false → u ≡ legal_pair c
+      pair_no_type h = rw (opened, h)
 
-      pub pair_is : (r : Bool) → not u ≡ false → r ≡ legal_value c (header_at c (start + n) (length c)) → r ≡ legal_pair c
-      pair_is r h f = rw (opened, not-false u h) f
+      pub pair_is : (r : Bool) → u ≡ true → r ≡ legal_value c (header_at c (start + n) (length c)) → r ≡ legal_pair c
+      pair_is r h f = rw (opened, h) f
 
 -- ---- a pair after another
-module _ (c : List ℕ) (before at start end : ℕ) (p q : List ℕ) (e : p ≡ between c before at) (f : q ≡ between c at end) (u : Bool) (told : u ≡ not_above p q)
-  where
-    above : u ≡ not_above (between c before at) (between c at end)
-    above = rw (sym e, sym f) told
-
-    pub after-above : not u ≡ true → false ≡ legal_after c before at start end
-    after-above h = rw (sym above ∙ not-true u h)
-
-    pub after_is : (s : List ℕ) (r : Bool) → not u ≡ false → s ≡ between c start end → r ≡ legal_pair s → r ≡ legal_after c before at start end
-    after_is s r h g k = rw (sym above ∙ not-false u h) (k ∙ ap legal_pair g)
-
 after-element : (c : List ℕ) (before at start n : ℕ)
     → legal_after c before at start (start + n) ≡ both (not_above (between c before at) (between c at (start + n))) (legal_pair (part c start n))
 after-element c before at start n =
@@ -134,17 +106,17 @@ module _ (c : List ℕ) (n before at : ℕ) (s : Pairs c n before at) where
     pub pairs_full : n ≡ 4 → false ≡ legal_rdn c
     pairs_full e = let z : 0 ≡ 4 - n = omega arith in by_elements (sym (elements_full 48 c at h) ∙ ap (λ (m : ℕ). elements_from m 48 c at) z)
 
-    module _ (d : n ≡ 4 → ⊥) (i : Inside) (read : i ≡ inside_at 48 c at (length c)) where
+    module _ (d : n ≡ 4 → ⊥) (i : Option (ℕ × ℕ)) (read : i ≡ inside_at 48 c at (length c)) where
       less : n < 4
       less = let l = s.few in omega arith
 
       step : elements_from (suc (4 - (n + 1))) 48 c at ≡ elements_from (4 - n) 48 c at
       step = let l = less in let e : suc (4 - (n + 1)) ≡ 4 - n = omega arith in ap (λ (m : ℕ). elements_from m 48 c at) e
 
-      pub pairs-misfit : i ≡ Inside.Misfit → false ≡ legal_rdn c
+      pub pairs-misfit : i ≡ None → false ≡ legal_rdn c
       pairs-misfit e = by_elements (sym (elements_misfit 48 c at h (4 - (n + 1)) (sym read ∙ e)) ∙ step)
 
-      module _ (start len : ℕ) (e : i ≡ Inside.Of start len) where
+      module _ (start len : ℕ) (e : i ≡ Some (start, len)) where
         pub pairs_falls : length c - (start + len) < length c - at
         pairs_falls = omega (arith, inside-long 48 c at (length c) start len (sym read ∙ e))
 
@@ -183,17 +155,17 @@ module _ (c : List ℕ) (n at : ℕ) (s : Rdns c n at) where
         let z : 0 ≡ 16 - n = omega arith in
         ap legal_rdns (sym (elements_full 49 c at h) ∙ ap (λ (m : ℕ). elements_from m 49 c at) z) ∙ s.so_far
 
-    module _ (d : n ≡ 16 → ⊥) (i : Inside) (read : i ≡ inside_at 49 c at (length c)) where
+    module _ (d : n ≡ 16 → ⊥) (i : Option (ℕ × ℕ)) (read : i ≡ inside_at 49 c at (length c)) where
       fewer : n < 16
       fewer = let l = s.few in omega arith
 
       one_less : suc (16 - (n + 1)) ≡ 16 - n
       one_less = let l = fewer in omega arith
 
-      pub rdns-misfit : i ≡ Inside.Misfit → false ≡ legal_rdn_sequence c
+      pub rdns-misfit : i ≡ None → false ≡ legal_rdn_sequence c
       rdns-misfit e = ap legal_rdns (sym (elements_misfit 49 c at h (16 - (n + 1)) (sym read ∙ e)) ∙ ap (λ (m : ℕ). elements_from m 49 c at) one_less) ∙ s.so_far
 
-      module _ (start len : ℕ) (e : i ≡ Inside.Of start len) where
+      module _ (start len : ℕ) (e : i ≡ Some (start, len)) where
         pub rdns_falls : length c - (start + len) < length c - at
         rdns_falls = omega (arith, inside-long 49 c at (length c) start len (sym read ∙ e))
 
@@ -212,31 +184,31 @@ module _ (c : List ℕ) (n at : ℕ) (s : Rdns c n at) where
           rdns-more f = let l = fewer in record { few = omega arith; so_far = rw (not-false u f) at passed }
 
 -- ---- the parts of a pair
-module _ (c : List ℕ) (i : Inside) (read : i ≡ inside_at 6 c 0 (length c)) where
+module _ (c : List ℕ) (i : Option (ℕ × ℕ)) (read : i ≡ inside_at 6 c 0 (length c)) where
   behind-type : pair_of c ≡ pair_behind c i
   behind-type = rw (parts_by_octet c, read)
 
-  module _ (e : i ≡ Inside.Misfit) where
+  module _ (e : i ≡ None) where
     pub none-type : between c 0 0 ≡ (pair_of c).type
     none-type = sym (ap (λ (p : Pair). p.type) (behind-type ∙ ap (pair_behind c) e))
 
     pub none-value : between c 0 0 ≡ (pair_of c).value
     none-value = sym (ap (λ (p : Pair). p.value) (behind-type ∙ ap (pair_behind c) e))
 
-  module _ (start n : ℕ) (e : i ≡ Inside.Of start n) where
+  module _ (start n : ℕ) (e : i ≡ Some (start, n)) where
     pub parts-type : between c start (start + n) ≡ (pair_of c).type
     parts-type =
         let q : start + n - start ≡ n = omega arith in
         ap (part c start) q ∙ sym (ap (λ (p : Pair). p.type) (behind-type ∙ ap (pair_behind c) e))
 
-    module _ (h : Header) (found : h ≡ header_at c (start + n) (length c)) where
+    module _ (h : Option (ℕ × ℕ × ℕ)) (found : h ≡ header_at c (start + n) (length c)) where
       behind-value : contents_of c h ≡ (pair_of c).value
       behind-value = ap (contents_of c) found ∙ sym (ap (λ (p : Pair). p.value) (behind-type ∙ ap (pair_behind c) e))
 
-      pub parts-no_value : h ≡ Header.Misfit → between c 0 0 ≡ (pair_of c).value
+      pub parts-no_value : h ≡ None → between c 0 0 ≡ (pair_of c).value
       parts-no_value f = sym (ap (contents_of c) f) ∙ behind-value
 
-      module _ (o from m : ℕ) (f : h ≡ Header.Found o from m) where
+      module _ (o from m : ℕ) (f : h ≡ Some (o, from, m)) where
         pub parts_within : from + m ≤ length c
         parts_within = header-within c (start + n) (length c) o from m (sym found ∙ f)
 

@@ -8,7 +8,7 @@ use native.Mathlib.Omega.{arith}
 use native.Mathlib.Nat.{mod-eq_of_lt}
 use borrow.Author.Tests.{eq-eqb, ne_eqb, lt-ltb, le-ltb, lt-leb, le-leb}
 use lib.Dec.{ltb, leb}
-use lib.Bits.{bit_and, bit_or, and_mask, or_shifted, mask_lt}
+use lib.Bits.{bit_and, bit_or, and_mask, or_shifted}
 use lib.ListN.{length, drop}
 use Rattle.octets.specs.Pick.{pick, consed}
 use Rattle.octets.specs.Octets.{octet}
@@ -24,9 +24,6 @@ join v o h =
     let small : v * 2 ^ 7 < 2 ^ 32 = omega arith in
     let low : o % 128 < 128 = omega arith in
     ap₂ bit_or (mod-eq_of_lt small) (and_mask o 7) ∙ or_shifted v 7 (o % 128) low
-
-pub mask_fits : (o : ℕ) → bit_and o 127 < 4294967296
-mask_fits o = omega (arith, mask_lt o 7)
 
 pub sub-end : (c : List ℕ) (at : ℕ) → length c ≤ at → Some [] ≡ subidentifiers (drop at c)
 unfolding subidentifiers subs_from
@@ -55,17 +52,18 @@ module _ (c : List ℕ) (at i v : ℕ) (inv : subs_from true v (drop i c) ≡ su
     unfolding subs_from
     sub-over g = let e : 4294967295 < v * 128 + octet c i % 128 = omega arith in rw (lt-ltb _ _ e) at here
 
-    module _ (g : v ≤ 33554431) where
+    -- w is the octet's lower seven bits as the code has them
+    module _ (g : v ≤ 33554431) (w : ℕ) (low : w ≡ bit_and (octet c i) 127) where
       small : ltb 4294967295 (v * 128 + octet c i % 128) ≡ false
       small = let e : v * 128 + octet c i % 128 ≤ 4294967295 = omega arith in le-ltb _ _ e
 
-      pub sub-value : octet c i < 128 → consed (bit_or (v * 2 ^ 7 % 2 ^ 32) (bit_and (octet c i) 127)) (subidentifiers (drop (i + 1) c)) ≡ subidentifiers (drop at c)
+      pub sub-value : octet c i < 128 → consed (bit_or (v * 2 ^ 7 % 2 ^ 32) w) (subidentifiers (drop (i + 1) c)) ≡ subidentifiers (drop at c)
       unfolding subs_from subidentifiers
-      sub-value l = rw (join v (octet c i) g) (rw (small, lt-leb _ _ l) at here)
+      sub-value l = rw (low, join v (octet c i) g) (rw (small, lt-leb _ _ l) at here)
 
-      pub sub_more : 128 ≤ octet c i → subs_from true (bit_or (v * 2 ^ 7 % 2 ^ 32) (bit_and (octet c i) 127)) (drop (i + 1) c) ≡ subidentifiers (drop at c)
+      pub sub_more : 128 ≤ octet c i → subs_from true (bit_or (v * 2 ^ 7 % 2 ^ 32) w) (drop (i + 1) c) ≡ subidentifiers (drop at c)
       unfolding subs_from
-      sub_more l = rw (join v (octet c i) g) (rw (small, le-leb _ _ l) at here)
+      sub_more l = rw (low, join v (octet c i) g) (rw (small, le-leb _ _ l) at here)
 
 -- ---- their number: k have been read
 abbrev pub legal_from : ℕ → Option (List ℕ) → Bool

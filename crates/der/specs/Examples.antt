@@ -1,13 +1,11 @@
 -- Computed examples: boundary cases.
+use Rattle.std.specs.Prelude.{Option, Some, None}
 use Rattle.std.specs.Prelude.{◌≡◌, refl, Bool, true, false, List, [], ◌∷◌, ◌++◌, map, ℕ, zero, suc, length, replicate}
 use Prim.Native.String.{String}
 use Rattle.octets.specs.Octets.{bytes, hex}
 use Rattle.der.specs.Kind as kind
 use Rattle.der.specs.Tag.{class, constructed, number, tag_of, own_octet, implicit_octet}
 use Rattle.der.specs.Header.{header_at, inside_at}
-use Rattle.der.specs.declared.Header.{Header}
-use Rattle.der.specs.declared.Header.TheVariants.{Found, Misfit}
-use Rattle.der.specs.declared.Inside.{Inside}
 use Rattle.der.specs.Names.{pair_of, name_of}
 use Rattle.der.specs.Legal.{legal}
 use Rattle.der.specs.Time.{time_of, same_time, earlier}
@@ -33,22 +31,22 @@ unfolding der_computes
 implicit-octets = refl
 
 -- the header of octets that n more follow
-header_of : String → ℕ → Header
+header_of : String → ℕ → Option (ℕ × ℕ × ℕ)
 header_of s n = header_at (hex s ++ replicate n 0) 0 (length (hex s ++ replicate n 0))
 
 -- lengths 127, 128, 255, 256 in their shortest form; 127 and 255 in a longer one; indefinite; three octets; one octet too few; tag 31
 headers : header_of "047F" 127 ∷ header_of "048180" 128 ∷ header_of "0481FF" 255 ∷ header_of "04820100" 256
     ∷ header_of "04817F" 127 ∷ header_of "048200FF" 255 ∷ header_of "0480" 0 ∷ header_of "0483000100" 256 ∷ header_of "047F" 126
     ∷ header_of "1F00" 0 ∷ header_of "BF00" 0 ∷ header_of "1E00" 0 ∷ header_of "04" 0 ∷ header_of "0481" 0 ∷ header_of "" 0 ∷ []
-    ≡ Found 4 2 127 ∷ Found 4 3 128 ∷ Found 4 3 255 ∷ Found 4 4 256
-    ∷ Misfit ∷ Misfit ∷ Misfit ∷ Misfit ∷ Misfit
-    ∷ Misfit ∷ Misfit ∷ Found 30 2 0 ∷ Misfit ∷ Misfit ∷ Misfit ∷ []
+    ≡ Some (4, 2, 127) ∷ Some (4, 3, 128) ∷ Some (4, 3, 255) ∷ Some (4, 4, 256)
+    ∷ None ∷ None ∷ None ∷ None ∷ None
+    ∷ None ∷ None ∷ Some (30, 2, 0) ∷ None ∷ None ∷ None ∷ []
 unfolding der_computes header_of
 headers = refl
 
 -- a header inside an end that it passes, and one with another tag
 bodies : inside_at 2 (hex "020101") 0 3 ∷ inside_at 2 (hex "020101") 0 2 ∷ inside_at 10 (hex "020101") 0 3 ∷ []
-    ≡ Inside.Of 2 1 ∷ Inside.Misfit ∷ Inside.Misfit ∷ []
+    ≡ Some (2, 1) ∷ None ∷ None ∷ []
 unfolding der_computes
 bodies = refl
 

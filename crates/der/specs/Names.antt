@@ -9,8 +9,6 @@ use Rattle.der.specs.Tag.{own_octet}
 use Rattle.der.specs.Header.{header_at, inside_at, opened}
 use Rattle.der.specs.Contents.{legal_oid, legal_text}
 use Rattle.der.specs.Order.{not_above}
-use Rattle.der.specs.declared.Header.{Header}
-use Rattle.der.specs.declared.Inside.{Inside}
 
 abbrev pub most_rdns : ℕ
 most_rdns = 16
@@ -51,13 +49,13 @@ legal_string o c =
     false))
 
 -- the value of a pair: it ends where the pair ends
-abbrev pub legal_value : List ℕ → Header → Bool
-legal_value c Header.Misfit = false
-legal_value c (Header.Found o start n) = both (eqb (start + n) (length c)) (legal_string o (part c start n))
+abbrev pub legal_value : List ℕ → Option (ℕ × ℕ × ℕ) → Bool
+legal_value c None = false
+legal_value c (Some (o, start, n)) = both (eqb (start + n) (length c)) (legal_string o (part c start n))
 
-abbrev pub legal_type : List ℕ → Inside → Bool
-legal_type c Inside.Misfit = false
-legal_type c (Inside.Of start n) = both (legal_oid (part c start n)) (legal_value c (header_at c (start + n) (length c)))
+abbrev pub legal_type : List ℕ → Option (ℕ × ℕ) → Bool
+legal_type c None = false
+legal_type c (Some (start, n)) = both (legal_oid (part c start n)) (legal_value c (header_at c (start + n) (length c)))
 
 unfoldable pub legal_pair : List ℕ → Bool
 legal_pair c = legal_type c (inside_at (own_octet object_identifier) c 0 (length c))
@@ -92,13 +90,13 @@ pub record Pair : Type 0 where
   pub type : List ℕ
   pub value : List ℕ
 
-abbrev pub contents_of : List ℕ → Header → List ℕ
-contents_of c Header.Misfit = []
-contents_of c (Header.Found o start n) = part c start n
+abbrev pub contents_of : List ℕ → Option (ℕ × ℕ × ℕ) → List ℕ
+contents_of c None = []
+contents_of c (Some (o, start, n)) = part c start n
 
-abbrev pub pair_behind : List ℕ → Inside → Pair
-pair_behind c Inside.Misfit = record { type = []; value = [] }
-pair_behind c (Inside.Of start n) = record { type = part c start n; value = contents_of c (header_at c (start + n) (length c)) }
+abbrev pub pair_behind : List ℕ → Option (ℕ × ℕ) → Pair
+pair_behind c None = record { type = []; value = [] }
+pair_behind c (Some (start, n)) = record { type = part c start n; value = contents_of c (header_at c (start + n) (length c)) }
 
 unfoldable pub pair_of : List ℕ → Pair
 pair_of c = pair_behind c (inside_at (own_octet object_identifier) c 0 (length c))

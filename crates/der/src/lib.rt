@@ -1,9 +1,10 @@
 // DER values: tag octet, length, header, and the contents of the basic kinds. Where nothing is asked of a caller, reads past the end give 0.
 #![tactic(auto)]
 
-ghost use Rattle.std.specs.Prelude.{◌≡◌, ◌≤◌, ◌<◌, ◌+◌, ◌-◌, ◌%◌, ◌^◌, eqb, length, drop, get_or};
+ghost use Rattle.std.specs.Prelude.{◌≡◌, ◌≤◌, ◌<◌, ◌+◌, ◌-◌, ◌*◌, ◌%◌, ◌^◌, eqb, length, drop, get_or};
 ghost use Rattle.octets.specs.Pick.{both};
 ghost use Rattle.octets.specs.Octets.{octet, two, base_from, every};
+ghost use Rattle.octets.specs.Text.{decimal};
 ghost use Rattle.octets.specs.Inner.Answers.{between};
 ghost use Rattle.der.specs.Tag as tag;
 ghost use Rattle.der.specs.Tag.{number};
@@ -24,27 +25,6 @@ struct Tag {
     number: u8,
 }
 
-// A length: its value and the place after it.
-#[derive(Clone, Copy)]
-pub enum Length {
-    Of(usize, usize),
-    Unusable,
-}
-
-// A header that fits: its tag octet, where its contents start and how long they are.
-#[derive(Clone, Copy)]
-pub enum Header {
-    Found(u8, usize, usize),
-    Misfit,
-}
-
-// What lies behind a header with the tag asked for: where the contents start and how long they are.
-#[derive(Clone, Copy)]
-pub enum Inside {
-    Of(usize, usize),
-    Misfit,
-}
-
 // A subidentifier and the place after it; the end of the contents; or octets that are none.
 #[derive(Clone, Copy)]
 pub enum Sub {
@@ -61,7 +41,7 @@ pub struct Integer {
 }
 
 // A time: its 14 digits as one number, and its fraction in billionths.
-#[derive(Clone, Copy)]
+#[derive(Clone, Copy, PartialEq, Eq, PartialOrd, Ord)]
 pub struct Time {
     pub stamp: u64,
     pub fraction: u64,
@@ -153,147 +133,94 @@ fn split(o: u8) -> Tag
 }
 
 // A tag by class and number, as one number.
+#[tactic(auto, unfolding(crate::specs::Tag::tag_of))]
 pub fn tag_of(o: u8) -> u8
     ensures { result ≡ tag.tag_of o }
 {
     let tag = split(o);
-    if tag.class == 0 {
-        return tag.number;
+    match tag.class {
+        0 => tag.number,
+        2 => 32 + tag.number,
+        _ => 31,
     }
-    if tag.class == 2 {
-        return 32 + tag.number;
-    }
-    31
-}
-
-fn universal_text(kind: u8) -> u8
-    ensures { result ≡ tag.universal_text kind }
-{
-    if kind == Kind::UTF8_STRING {
-        return 12;
-    }
-    if kind == Kind::PRINTABLE_STRING {
-        return 19;
-    }
-    if kind == Kind::IA5_STRING {
-        return 22;
-    }
-    if kind == Kind::GENERALIZED_TIME {
-        return 24;
-    }
-    if kind == Kind::SEQUENCE {
-        return 16;
-    }
-    if kind == Kind::SEQUENCE_OF {
-        return 16;
-    }
-    if kind == Kind::SET_OF {
-        return 17;
-    }
-    if kind == Kind::RDN_SEQUENCE {
-        return 16;
-    }
-    if kind == Kind::RDN {
-        return 17;
-    }
-    0
 }
 
 // The universal tag of a kind; 0 for a CHOICE and for what is no type's kind.
+#[tactic(auto, unfolding(crate::specs::Tag::universal, crate::specs::Tag::universal_text))]
 pub fn universal(kind: u8) -> u8
     ensures { result ≡ tag.universal kind }
 {
-    if kind == Kind::BOOLEAN {
-        return 1;
+    match kind {
+        Kind::BOOLEAN => 1,
+        Kind::INTEGER => 2,
+        Kind::ENUMERATED => 10,
+        Kind::NULL => 5,
+        Kind::OBJECT_IDENTIFIER => 6,
+        Kind::OCTET_STRING => 4,
+        Kind::BIT_STRING | Kind::NAMED_BIT_STRING => 3,
+        Kind::UTF8_STRING => 12,
+        Kind::PRINTABLE_STRING => 19,
+        Kind::IA5_STRING => 22,
+        Kind::GENERALIZED_TIME => 24,
+        Kind::SEQUENCE | Kind::SEQUENCE_OF | Kind::RDN_SEQUENCE => 16,
+        Kind::SET_OF | Kind::RDN => 17,
+        _ => 0,
     }
-    if kind == Kind::INTEGER {
-        return 2;
-    }
-    if kind == Kind::ENUMERATED {
-        return 10;
-    }
-    if kind == Kind::NULL {
-        return 5;
-    }
-    if kind == Kind::OBJECT_IDENTIFIER {
-        return 6;
-    }
-    if kind == Kind::OCTET_STRING {
-        return 4;
-    }
-    if kind == Kind::BIT_STRING {
-        return 3;
-    }
-    if kind == Kind::NAMED_BIT_STRING {
-        return 3;
-    }
-    universal_text(kind)
 }
 
 // The constructed bit of a kind's tag octet.
+#[tactic(auto, unfolding(crate::specs::Kind::is_constructed))]
 fn form(kind: u8) -> u8
     ensures { result ≡ tag.form kind }
 {
-    if kind == Kind::SEQUENCE {
-        return 32;
+    match kind {
+        Kind::SEQUENCE | Kind::SEQUENCE_OF | Kind::SET_OF | Kind::RDN_SEQUENCE | Kind::RDN => 32,
+        _ => 0,
     }
-    if kind == Kind::SEQUENCE_OF {
-        return 32;
-    }
-    if kind == Kind::SET_OF {
-        return 32;
-    }
-    if kind == Kind::RDN_SEQUENCE {
-        return 32;
-    }
-    if kind == Kind::RDN {
-        return 32;
-    }
-    0
 }
 
 // The tag octet of a kind's values: its own, or with an implicit context tag; and that of an explicit wrapper.
 pub fn own_octet(kind: u8) -> usize
     ensures { result ≡ tag.own_octet kind }
 {
-    octets::wide(form(kind)) + octets::wide(universal(kind))
+    usize::from(form(kind)) + usize::from(universal(kind))
 }
 
 pub fn implicit_octet(n: u8, kind: u8) -> usize
     ensures { result ≡ tag.implicit_octet n kind }
 {
-    128 + octets::wide(form(kind)) + octets::wide(n)
+    128 + usize::from(form(kind)) + usize::from(n)
 }
 
 pub fn wrapper_octet(n: u8) -> usize
     ensures { result ≡ tag.wrapper_octet n }
 {
-    160 + octets::wide(n)
+    160 + usize::from(n)
 }
 
 // ---- headers
-fn long_length(n: usize, least: usize, next: usize, end: usize) -> Length
+fn long_length(n: usize, least: usize, next: usize, end: usize) -> Option<(usize, usize)>
     ensures { result ≡ header.long_length n least next end }
 {
     if end < next {
-        return Length::Unusable;
+        return None;
     }
     if n < least {
-        return Length::Unusable;
+        return None;
     }
-    Length::Of(n, next)
+    Some((n, next))
 }
 
 // The length at a place, whose octets lie before end.
-fn read_length(s: &[u8], at: usize, end: usize) -> Length
+fn read_length(s: &[u8], at: usize, end: usize) -> Option<(usize, usize)>
     ensures { result ≡ header.length_at s.now at end }
 {
     if end <= at {
-        return Length::Unusable;
+        return None;
     }
     let first = octets::octet(s, at);
     if first < 128 {
-        return Length::Of(octets::wide(first), at + 1);
+        return Some((octets::wide(first), at + 1));
     }
     if first == 129 {
         return read_one(s, at, end);
@@ -301,144 +228,131 @@ fn read_length(s: &[u8], at: usize, end: usize) -> Length
     if first == 130 {
         return read_two(s, at, end);
     }
-    Length::Unusable
+    None
 }
 
 // A length of one octet after 81.
-fn read_one(s: &[u8], at: usize, end: usize) -> Length
+fn read_one(s: &[u8], at: usize, end: usize) -> Option<(usize, usize)>
     requires { at < end }
     ensures { result ≡ header.long_length (octet s.now (at + 1)) 128 (at + 2) end }
 {
     if end - at < 2 {
-        return Length::Unusable;
+        return None;
     }
     let n = octets::wide(octets::octet(s, at + 1));
     long_length(n, 128, at + 2, end)
 }
 
 // A length of two octets after 82.
-fn read_two(s: &[u8], at: usize, end: usize) -> Length
+fn read_two(s: &[u8], at: usize, end: usize) -> Option<(usize, usize)>
     requires { at < end }
     ensures { result ≡ header.long_length (two s.now (at + 1)) 256 (at + 3) end }
 {
     if end - at < 3 {
-        return Length::Unusable;
+        return None;
     }
     let n = octets::wide_two(octets::octet(s, at + 1), octets::octet(s, at + 2));
     long_length(n, 256, at + 3, end)
 }
 
 // The contents behind a tag octet at a place, by their length of any form.
-fn open_long(s: &[u8], at: usize, end: usize) -> Inside
+fn open_long(s: &[u8], at: usize, end: usize) -> Option<(usize, usize)>
     requires { at < end }
     ensures { result ≡ behind end (header.length_at s.now (at + 1) end) }
 {
-    let Length::Of(n, next) = read_length(s, at + 1, end) else {
-        return Inside::Misfit;
+    let Some((n, next)) = read_length(s, at + 1, end) else {
+        return None;
     };
     if end - next < n {
-        return Inside::Misfit;
+        return None;
     }
-    Inside::Of(next, n)
+    Some((next, n))
 }
 
 // The header at a place of a value that lies before end. Where a length octet isn't usable, reading ends there.
-pub fn read_header(s: &[u8], at: usize, end: usize) -> Header
+pub fn read_header(s: &[u8], at: usize, end: usize) -> Option<(u8, usize, usize)>
     ensures { result ≡ header.header_at s.now at end }
 {
     if end <= at {
-        return Header::Misfit;
+        return None;
     }
     let first = octets::octet(s, at);
     let tag = split(first);
     if tag.number == 31 {
-        return Header::Misfit;
+        return None;
     }
-    let Inside::Of(start, n) = open_long(s, at, end) else {
-        return Header::Misfit;
+    let Some((start, n)) = open_long(s, at, end) else {
+        return None;
     };
-    Header::Found(first, start, n)
+    Some((first, start, n))
 }
 
 // The contents behind a header whose tag octet was seen, before end: by its length.
-pub fn open_seen(s: &[u8], at: usize, end: usize) -> Inside
+pub fn open_seen(s: &[u8], at: usize, end: usize) -> Option<(usize, usize)>
     requires within { end ≤ length s.now }
     requires here { at < end }
     requires usable { number (octet s.now at) < 31 }
     ensures { result ≡ header.inside_at (octet s.now at) s.now at end }
 {
     if end - at < 2 {
-        return Inside::Misfit;
+        return None;
     }
     let n = octets::wide(s[at + 1]);
     if 128 <= n {
         return open_long(s, at, end);
     }
     if end - at - 2 < n {
-        return Inside::Misfit;
+        return None;
     }
-    Inside::Of(at + 2, n)
+    Some((at + 2, n))
 }
 
 // The contents at a place behind a tag octet, before end, which lies within the octets.
-pub fn open_within(tag: usize, s: &[u8], at: usize, end: usize) -> Inside
+pub fn open_within(tag: usize, s: &[u8], at: usize, end: usize) -> Option<(usize, usize)>
     requires within { end ≤ length s.now }
     requires usable { number tag < 31 }
     ensures { result ≡ header.inside_at tag s.now at end }
 {
     if end <= at {
-        return Inside::Misfit;
+        return None;
     }
     if octets::wide(s[at]) != tag {
-        return Inside::Misfit;
+        return None;
     }
     open_seen(s, at, end)
 }
 
 // ---- contents of the basic kinds
+#[tactic(auto, using(crate::proofs::ContentsSteps::boolean_many), unfolding(crate::specs::Contents::legal_boolean, octets::specs::Octets::same))]
 fn legal_boolean(c: &[u8]) -> bool
     ensures { result ≡ contents.legal_boolean c.now }
 {
-    if c.len() != 1 {
-        return false;
-    }
-    if c[0] == 0 {
-        return true;
-    }
-    c[0] == 255
+    matches!(c, [0 | 255])
 }
 
+#[tactic(auto, unfolding(crate::specs::Contents::shortest))]
 fn shortest(a: u8, b: u8) -> bool
     ensures { result ≡ contents.shortest a b }
 {
-    if a == 0 {
-        return 128 <= b;
+    match a {
+        0 => 128 <= b,
+        255 => b < 128,
+        _ => true,
     }
-    if a == 255 {
-        return b < 128;
-    }
-    true
 }
 
+#[tactic(auto, unfolding(crate::specs::Contents::legal_integer))]
 fn legal_integer(c: &[u8]) -> bool
     ensures { result ≡ contents.legal_integer c.now }
 {
-    if c.len() < 1 {
-        return false;
-    }
-    if 8 < c.len() {
-        return false;
-    }
-    if c.len() == 1 {
-        return true;
-    }
-    shortest(c[0], c[1])
+    (1..=8).contains(&c.len()) && (c.len() == 1 || shortest(c[0], c[1]))
 }
 
+#[tactic(auto, unfolding(crate::specs::Contents::legal_null))]
 fn legal_null(c: &[u8]) -> bool
     ensures { result ≡ contents.legal_null c.now }
 {
-    c.len() == 0
+    c.is_empty()
 }
 
 // The subidentifier at a place: seven bits an octet, the top bit set on all but the last.
@@ -452,17 +366,15 @@ pub fn read_sub(c: &[u8], at: usize) -> Sub
     if c[at] == 128 {
         return Sub::Broken;
     }
-    let mut i = at;
     let mut v: u32 = 0;
-    while i < c.len() {
+    for i in at..c.len() {
         let o = c[i];
         if 33554431 < v {
             return Sub::Broken;
         }
-        v = (v << 7) | ((o & 127) as u32);
-        i += 1;
+        v = (v << 7) | u32::from(o & 127);
         if o < 128 {
-            return Sub::Value(v, i);
+            return Sub::Value(v, i + 1);
         }
     }
     Sub::Broken
@@ -471,11 +383,11 @@ pub fn read_sub(c: &[u8], at: usize) -> Sub
 fn legal_oid(c: &[u8]) -> bool
     ensures { result ≡ contents.legal_oid c.now }
 {
+    // A cursor: each subidentifier says where the next one starts.
     let mut i = 0;
     let mut n: usize = 0;
     while i < c.len() {
-        let s = read_sub(c, i);
-        match s {
+        match read_sub(c, i) {
             Sub::Value(_, next) => {
                 if n == 32 {
                     return false;
@@ -483,12 +395,8 @@ fn legal_oid(c: &[u8]) -> bool
                 i = next;
                 n += 1;
             }
-            Sub::End => {
-                return 1 <= n;
-            }
-            Sub::Broken => {
-                return false;
-            }
+            Sub::End => return 1 <= n,
+            Sub::Broken => return false,
         }
     }
     1 <= n
@@ -501,34 +409,22 @@ fn unused_clear(u: u8, last: u8) -> bool
     last % (1u8 << u) == 0
 }
 
+#[tactic(auto, unfolding(crate::specs::Contents::legal_bits))]
 fn legal_bits(c: &[u8]) -> bool
     ensures { result ≡ contents.legal_bits c.now }
 {
-    if c.len() < 1 {
-        return false;
+    match c {
+        [] => false,
+        [unused] => *unused == 0,
+        [unused, .., last] => *unused <= 7 && unused_clear(*unused, *last),
     }
-    if 7 < c[0] {
-        return false;
-    }
-    if c.len() == 1 {
-        return c[0] == 0;
-    }
-    let last = c.len() - 1;
-    unused_clear(c[0], c[last])
 }
 
 // Whether bits are legal without a trailing zero bit: there are none, or the last that is used is 1.
 fn legal_named_bits(c: &[u8]) -> bool
     ensures { result ≡ contents.legal_named_bits c.now }
 {
-    if !legal_bits(c) {
-        return false;
-    }
-    if c.len() == 1 {
-        return true;
-    }
-    let last = c.len() - 1;
-    (c[last] >> c[0]) & 1 == 1
+    legal_bits(c) && (c.len() == 1 || (c[c.len() - 1] >> c[0]) & 1 == 1)
 }
 
 // The characters of a PrintableString as sets of bits: those below 64, and those from 64 on.
@@ -552,26 +448,22 @@ fn is_printable(b: u8) -> bool
 fn both_printable(a: u8, b: u8) -> bool
     ensures { result ≡ both (contents.is_printable a) (contents.is_printable b) }
 {
-    if !is_printable(a) {
-        return false;
-    }
-    is_printable(b)
+    is_printable(a) && is_printable(b)
 }
 
 fn four_printable(c: &[u8], i: usize) -> bool
     requires { i + 4 ≤ length c.now }
     ensures { result ≡ four_printable c.now i }
 {
-    if !both_printable(c[i], c[i + 1]) {
-        return false;
-    }
-    both_printable(c[i + 2], c[i + 3])
+    both_printable(c[i], c[i + 1]) && both_printable(c[i + 2], c[i + 3])
 }
 
 // A place before which there are only characters of a PrintableString: as far as whole fours of them go.
 fn skip_printable(c: &[u8]) -> usize
-    ensures { every contents.is_printable (drop result c.now) ≡ every contents.is_printable c.now }
+    ensures within { result ≤ length c.now }
+    ensures rest { every contents.is_printable (drop result c.now) ≡ every contents.is_printable c.now }
 {
+    // By index: four characters are tested at each step.
     let mut i = 0;
     while 4 <= c.len() - i {
         if !four_printable(c, i) {
@@ -585,14 +477,7 @@ fn skip_printable(c: &[u8]) -> usize
 fn legal_printable(c: &[u8]) -> bool
     ensures { result ≡ contents.legal_printable c.now }
 {
-    let mut i = skip_printable(c);
-    while i < c.len() {
-        if !is_printable(c[i]) {
-            return false;
-        }
-        i += 1;
-    }
-    true
+    c[skip_printable(c)..].iter().all(|b| is_printable(*b))
 }
 
 fn legal_ia5(c: &[u8]) -> bool
@@ -602,174 +487,104 @@ fn legal_ia5(c: &[u8]) -> bool
 }
 
 // ---- times
+// The number that decimal digits stand for, of which there are few enough that it fits.
+fn digits(p: &[u8]) -> u64
+    requires { length p.now ≤ 14 }
+    ensures value { result ≡ decimal p.now }
+    ensures small { result + 23 ≤ 23 * 10 ^ length p.now }
+{
+    let mut v: u64 = 0;
+    for b in p {
+        v = v * 10 + octets::digit(*b);
+    }
+    v
+}
+
 // The number that n digits from a place on stand for.
 fn digits_at(c: &[u8], at: usize, n: usize) -> u64
     requires { n ≤ 14 }
     ensures { result ≡ time.digits_at c.now at n }
 {
-    let p = octets::part(c, at, n);
-    let mut i = 0;
-    let mut v: u64 = 0;
-    while i < p.len() {
-        v = v * 10 + octets::digit(p[i]);
-        i += 1;
-    }
-    v
+    digits(octets::part(c, at, n))
 }
 
 // A fraction in billionths.
 fn billionths(f: &[u8]) -> u64
     ensures { result ≡ time.billionths f.now }
 {
-    let mut k = 0;
-    let mut v: u64 = 0;
-    while k < 9 {
-        v = v * 10 + octets::digit(octets::octet(f, k));
-        k += 1;
-    }
-    v
+    let kept = octets::part(f, 0, 9);
+    digits(kept) * 10u64.pow(9 - kept.len() as u32)
 }
 
+#[tactic(auto, unfolding(crate::specs::Time::is_leap))]
 fn is_leap(year: u64) -> bool
     ensures { result ≡ time.is_leap year }
 {
-    if year % 4 != 0 {
-        return false;
-    }
-    if year % 100 != 0 {
-        return true;
-    }
-    year % 400 == 0
+    year % 4 == 0 && (year % 100 != 0 || year % 400 == 0)
 }
 
-fn has_thirty(month: u64) -> bool
-    ensures { result ≡ time.has_thirty month }
-{
-    if month == 4 {
-        return true;
-    }
-    if month == 6 {
-        return true;
-    }
-    if month == 9 {
-        return true;
-    }
-    month == 11
-}
-
+#[tactic(auto, unfolding(crate::specs::Time::days_in, crate::specs::Time::has_thirty))]
 fn days_in(year: u64, month: u64) -> u64
     ensures { result ≡ time.days_in year month }
 {
-    if month == 2 {
-        if is_leap(year) {
-            return 29;
-        }
-        return 28;
+    match month {
+        2 => if is_leap(year) { 29 } else { 28 },
+        4 | 6 | 9 | 11 => 30,
+        _ => 31,
     }
-    if has_thirty(month) {
-        return 30;
-    }
-    31
 }
 
+#[tactic(auto, unfolding(crate::specs::Time::real_date))]
 fn real_date(year: u64, month: u64, day: u64) -> bool
     ensures { result ≡ time.real_date year month day }
 {
-    if month < 1 {
-        return false;
-    }
-    if 12 < month {
-        return false;
-    }
-    if day < 1 {
-        return false;
-    }
-    day <= days_in(year, month)
+    (1..=12).contains(&month) && (1..=days_in(year, month)).contains(&day)
 }
 
+#[tactic(auto, unfolding(crate::specs::Time::real_time))]
 fn real_time(hour: u64, minute: u64, second: u64) -> bool
     ensures { result ≡ time.real_time hour minute second }
 {
-    if 23 < hour {
-        return false;
-    }
-    if 59 < minute {
-        return false;
-    }
-    second <= 60
+    hour <= 23 && minute <= 59 && second <= 60
 }
 
 // The digits between the point and the `Z`.
+#[tactic(auto, unfolding(crate::specs::Time::fraction_digits))]
 fn fraction_digits(c: &[u8]) -> &[u8]
     ensures { result.now ≡ time.fraction_digits c.now }
 {
-    if c.len() <= 16 {
-        return octets::part(c, 15, 0);
-    }
-    octets::part(c, 15, c.len() - 16)
+    octets::part(c, 15, c.len().saturating_sub(16))
 }
 
+#[tactic(auto, unfolding(crate::specs::Time::fraction_formed))]
 fn fraction_formed(f: &[u8]) -> bool
     ensures { result ≡ time.fraction_formed f.now }
 {
-    if f.len() < 1 {
-        return false;
-    }
-    if 9 < f.len() {
-        return false;
-    }
-    if !octets::all_digits(f) {
-        return false;
-    }
-    let last = f.len() - 1;
-    f[last] != 48
+    (1..=9).contains(&f.len()) && octets::all_digits(f) && f[f.len() - 1] != b'0'
 }
 
+#[tactic(auto, unfolding(crate::specs::Time::tail_formed))]
 fn tail_formed(c: &[u8]) -> bool
     requires { 15 ≤ length c.now }
     ensures { result ≡ time.tail_formed c.now }
 {
-    let last = c.len() - 1;
-    if c[last] != 90 {
-        return false;
-    }
-    if c.len() == 15 {
-        return true;
-    }
-    if c[14] != 46 {
-        return false;
-    }
-    fraction_formed(fraction_digits(c))
+    c[c.len() - 1] == b'Z'
+        && (c.len() == 15 || c[14] == b'.' && fraction_formed(fraction_digits(c)))
 }
 
+#[tactic(auto, unfolding(crate::specs::Time::real_moment))]
 fn real_moment(c: &[u8]) -> bool
     ensures { result ≡ time.real_moment c.now }
 {
-    let year = digits_at(c, 0, 4);
-    let month = digits_at(c, 4, 2);
-    let day = digits_at(c, 6, 2);
-    if !real_date(year, month, day) {
-        return false;
-    }
-    let hour = digits_at(c, 8, 2);
-    let minute = digits_at(c, 10, 2);
-    let second = digits_at(c, 12, 2);
-    real_time(hour, minute, second)
+    let date_is_real = real_date(digits_at(c, 0, 4), digits_at(c, 4, 2), digits_at(c, 6, 2));
+    date_is_real && real_time(digits_at(c, 8, 2), digits_at(c, 10, 2), digits_at(c, 12, 2))
 }
 
+#[tactic(auto, unfolding(crate::specs::Time::legal_time))]
 pub fn legal_time(c: &[u8]) -> bool
     ensures { result ≡ time.legal_time c.now }
 {
-    if c.len() < 15 {
-        return false;
-    }
-    if !octets::all_digits(octets::part(c, 0, 14)) {
-        return false;
-    }
-    if !tail_formed(c) {
-        return false;
-    }
-    real_moment(c)
+    15 <= c.len() && octets::all_digits(&c[..14]) && tail_formed(c) && real_moment(c)
 }
 
 // What a time says.
@@ -781,23 +596,19 @@ pub fn read_time(c: &[u8]) -> Time
     Time { stamp, fraction }
 }
 
+#[tactic(auto, unfolding(crate::specs::Time::same_time))]
 pub fn same_time(a: Time, b: Time) -> bool
     ensures { result ≡ time.same_time a b }
 {
-    if a.stamp != b.stamp {
-        return false;
-    }
-    a.fraction == b.fraction
+    a == b
 }
 
 // By date and time, then fraction.
+#[tactic(auto, unfolding(crate::specs::Time::earlier))]
 pub fn earlier(a: Time, b: Time) -> bool
     ensures { result ≡ time.earlier a b }
 {
-    if a.stamp == b.stamp {
-        return a.fraction < b.fraction;
-    }
-    a.stamp < b.stamp
+    a < b
 }
 
 // ---- stored names
@@ -809,61 +620,51 @@ const PRINTABLE_TAG: u8 = 19;
 const IA5_TAG: u8 = 22;
 
 // Whether contents are legal for the kind of string with a tag octet.
+#[tactic(auto, using(crate::proofs::NameLaws::string_by_octet))]
 fn legal_string(tag: u8, c: &[u8]) -> bool
     ensures { result ≡ names.legal_string tag c.now }
 {
-    if tag == UTF8_TAG {
-        return octets::utf8(c);
+    match tag {
+        UTF8_TAG => octets::utf8(c),
+        PRINTABLE_TAG => legal_printable(c),
+        IA5_TAG => legal_ia5(c),
+        _ => false,
     }
-    if tag == PRINTABLE_TAG {
-        return legal_printable(c);
-    }
-    if tag == IA5_TAG {
-        return legal_ia5(c);
-    }
-    false
 }
 
 // Whether a legal value stands at a place of a pair and ends with it.
 fn legal_value(c: &[u8], at: usize) -> bool
     ensures { result ≡ names.legal_value c.now (header.header_at c.now at (length c.now)) }
 {
-    let Header::Found(tag, start, n) = read_header(c, at, c.len()) else {
+    let Some((tag, start, n)) = read_header(c, at, c.len()) else {
         return false;
     };
-    if c.len() - start != n {
-        return false;
-    }
-    legal_string(tag, octets::part(c, start, n))
+    c.len() - start == n && legal_string(tag, octets::part(c, start, n))
 }
 
 // Whether the contents of a pair are legal: an attribute type, then a value.
 fn legal_pair(c: &[u8]) -> bool
     ensures { result ≡ names.legal_pair c.now }
 {
-    let Inside::Of(start, n) = open_within(Name::TYPE_TAG, c, 0, c.len()) else {
+    let Some((start, n)) = open_within(Name::TYPE_TAG, c, 0, c.len()) else {
         return false;
     };
-    if !legal_oid(octets::part(c, start, n)) {
-        return false;
-    }
-    legal_value(c, start + n)
+    legal_oid(octets::part(c, start, n)) && legal_value(c, start + n)
 }
 
 // Whether a pair, from place at up to end with its contents from start on, is legal and not below the one from place `before` up to it.
 fn legal_after(c: &[u8], before: usize, at: usize, start: usize, end: usize) -> bool
     ensures { result ≡ legal_after c.now before at start end }
 {
-    if !not_above(octets::between(c, before, at), octets::between(c, at, end)) {
-        return false;
-    }
-    legal_pair(octets::between(c, start, end))
+    not_above(octets::between(c, before, at), octets::between(c, at, end))
+        && legal_pair(octets::between(c, start, end))
 }
 
 // Whether the contents of an RDN are legal: 1 to 4 pairs, none below the one before.
 fn legal_rdn(c: &[u8]) -> bool
     ensures { result ≡ names.legal_rdn c.now }
 {
+    // A cursor: each element says where the next one starts.
     let mut n: usize = 0;
     let mut before: usize = 0;
     let mut at: usize = 0;
@@ -871,7 +672,7 @@ fn legal_rdn(c: &[u8]) -> bool
         if n == Name::MAX_PAIRS {
             return false;
         }
-        let Inside::Of(start, len) = open_within(Name::PAIR_TAG, c, at, c.len()) else {
+        let Some((start, len)) = open_within(Name::PAIR_TAG, c, at, c.len()) else {
             return false;
         };
         let end = start + len;
@@ -889,13 +690,14 @@ fn legal_rdn(c: &[u8]) -> bool
 fn legal_rdn_sequence(c: &[u8]) -> bool
     ensures { result ≡ names.legal_rdn_sequence c.now }
 {
+    // A cursor: each element says where the next one starts.
     let mut n: usize = 0;
     let mut at: usize = 0;
     while at < c.len() {
         if n == Name::MAX_RDNS {
             return false;
         }
-        let Inside::Of(start, len) = open_within(Name::RDN_TAG, c, at, c.len()) else {
+        let Some((start, len)) = open_within(Name::RDN_TAG, c, at, c.len()) else {
             return false;
         };
         if !legal_rdn(octets::part(c, start, len)) {
@@ -913,21 +715,21 @@ pub fn pair_parts(c: &[u8]) -> PairParts
     ensures value_is { between c.now result.value_start result.value_end ≡ (names.pair_of c.now).value }
     ensures placed { Placed c.now result }
 {
-    let Inside::Of(type_start, n) = open_within(Name::TYPE_TAG, c, 0, c.len()) else {
-        return PairParts {
-            type_start: 0,
-            type_end: 0,
-            value_start: 0,
-            value_end: 0,
-        };
+    let none = PairParts {
+        type_start: 0,
+        type_end: 0,
+        value_start: 0,
+        value_end: 0,
+    };
+    let Some((type_start, n)) = open_within(Name::TYPE_TAG, c, 0, c.len()) else {
+        return none;
     };
     let type_end = type_start + n;
-    let Header::Found(_, value_start, m) = read_header(c, type_end, c.len()) else {
+    let Some((_, value_start, m)) = read_header(c, type_end, c.len()) else {
         return PairParts {
             type_start,
             type_end,
-            value_start: 0,
-            value_end: 0,
+            ..none
         };
     };
     PairParts {
@@ -940,64 +742,30 @@ pub fn pair_parts(c: &[u8]) -> PairParts
 
 // ---- contents by kind
 // Whether contents are legal for a basic kind.
+#[tactic(auto, unfolding(crate::specs::Legal::legal, crate::specs::Contents::legal_text))]
 pub fn legal_contents(kind: u8, c: &[u8]) -> bool
     ensures { result ≡ legal kind c.now }
 {
-    if kind == Kind::BOOLEAN {
-        return legal_boolean(c);
+    match kind {
+        Kind::BOOLEAN => legal_boolean(c),
+        Kind::INTEGER | Kind::ENUMERATED => legal_integer(c),
+        Kind::NULL => legal_null(c),
+        Kind::OBJECT_IDENTIFIER => legal_oid(c),
+        Kind::OCTET_STRING => true,
+        Kind::BIT_STRING => legal_bits(c),
+        Kind::UTF8_STRING => octets::utf8(c),
+        Kind::PRINTABLE_STRING => legal_printable(c),
+        Kind::IA5_STRING => legal_ia5(c),
+        Kind::GENERALIZED_TIME => legal_time(c),
+        Kind::NAMED_BIT_STRING => legal_named_bits(c),
+        Kind::RDN_SEQUENCE => legal_rdn_sequence(c),
+        Kind::RDN => legal_rdn(c),
+        _ => false,
     }
-    if kind == Kind::INTEGER {
-        return legal_integer(c);
-    }
-    if kind == Kind::ENUMERATED {
-        return legal_integer(c);
-    }
-    if kind == Kind::NULL {
-        return legal_null(c);
-    }
-    if kind == Kind::OBJECT_IDENTIFIER {
-        return legal_oid(c);
-    }
-    if kind == Kind::OCTET_STRING {
-        return true;
-    }
-    if kind == Kind::BIT_STRING {
-        return legal_bits(c);
-    }
-    if kind < Kind::SEQUENCE {
-        return legal_text(kind, c);
-    }
-    if kind == Kind::NAMED_BIT_STRING {
-        return legal_named_bits(c);
-    }
-    if kind == Kind::RDN_SEQUENCE {
-        return legal_rdn_sequence(c);
-    }
-    if kind == Kind::RDN {
-        return legal_rdn(c);
-    }
-    false
-}
-
-fn legal_text(kind: u8, c: &[u8]) -> bool
-    ensures { result ≡ contents.legal_text kind c.now }
-{
-    if kind == Kind::UTF8_STRING {
-        return octets::utf8(c);
-    }
-    if kind == Kind::PRINTABLE_STRING {
-        return legal_printable(c);
-    }
-    if kind == Kind::IA5_STRING {
-        return legal_ia5(c);
-    }
-    if kind == Kind::GENERALIZED_TIME {
-        return legal_time(c);
-    }
-    false
 }
 
 // The same of the octets from start up to end; the most usual kinds first.
+#[tactic(auto, unfolding(crate::specs::Legal::legal, crate::specs::Contents::legal_text))]
 pub fn legal(kind: u8, s: &[u8], start: usize, end: usize) -> bool
     requires ordered { start ≤ end }
     requires within { end ≤ length s.now }
@@ -1025,31 +793,9 @@ pub fn plain(c: &[u8]) -> u64
     requires { length c.now ≤ 8 }
     ensures { result ≡ base_from 0 c.now }
 {
-    let mut i = 0;
     let mut n: u64 = 0;
-    while i < c.len() {
-        n = n * 256 + octets::wide64(c[i]);
-        i += 1;
-    }
-    n
-}
-
-fn complement(b: u8) -> u64
-    ensures { result + b ≡ 255 }
-{
-    octets::wide64(255 - b)
-}
-
-// The contents' complement as a number without a sign.
-fn flipped(c: &[u8]) -> u64
-    requires { length c.now ≤ 8 }
-    ensures { result + base_from 0 c.now + 1 ≡ 256 ^ length c.now }
-{
-    let mut i = 0;
-    let mut n: u64 = 0;
-    while i < c.len() {
-        n = n * 256 + complement(c[i]);
-        i += 1;
+    for b in c {
+        n = n * 256 + u64::from(*b);
     }
     n
 }
@@ -1065,10 +811,10 @@ pub fn read_integer(c: &[u8]) -> Integer
             size: plain(c),
         };
     }
-    let rest = flipped(c);
+    let largest = u64::MAX >> (64 - 8 * c.len());
     Integer {
         minus: true,
-        size: rest + 1,
+        size: largest - plain(c) + 1,
     }
 }
 
@@ -1077,15 +823,10 @@ pub fn bit_count(c: &[u8]) -> usize
     requires { length c.now ≤ 65536 }
     ensures { result ≡ length (meaning.bits_of c.now) }
 {
-    if c.len() == 0 {
+    let [unused, octets @ ..] = c else {
         return 0;
-    }
-    let all = 8 * (c.len() - 1);
-    let unused = octets::wide(c[0]);
-    if all <= unused {
-        return 0;
-    }
-    all - unused
+    };
+    (8 * octets.len()).saturating_sub(usize::from(*unused))
 }
 
 // Its bit at an index, 0 past the end.
@@ -1112,16 +853,11 @@ fn bit_of(o: u8, k: usize) -> u8
 pub fn not_above(a: &[u8], b: &[u8]) -> bool
     ensures { result ≡ not_above a.now b.now }
 {
-    let mut i = 0;
-    while i < a.len() {
-        let other = octets::octet(b, i);
-        if a[i] < other {
-            return true;
+    for (i, x) in a.iter().enumerate() {
+        let y = octets::octet(b, i);
+        if *x != y {
+            return *x < y;
         }
-        if other < a[i] {
-            return false;
-        }
-        i += 1;
     }
     true
 }

@@ -4,8 +4,10 @@ use mathlib.Core.Bool.{Bool, true, false, not, false≢true}
 use mathlib.Core.List.{List, [], ◌∷◌}
 use Prim.Native.Nat.{ℕ, zero, suc, ◌≤◌, ◌<◌, ◌+◌, ◌-◌, ◌/◌, ◌%◌, ◌^◌}
 use native.Mathlib.Omega.{arith}
+use native.Mathlib.Numerals.{add-one}
 use borrow.Author.Tests.{not-true, eq-eqb, ne_eqb}
-use lib.Dec.{ltb, leb, eqb}
+use lib.Dec.{leb, eqb}
+use Rattle.std.specs.Prelude.{Option, None, Some}
 use lib.ListN.{length, drop, get_or}
 use Rattle.octets.specs.Pick.{pick, both}
 use Rattle.octets.specs.Octets.{octet, same}
@@ -15,55 +17,37 @@ use Rattle.digits.specs.Named.{trimmed}
 use Rattle.digits.specs.Inner.Answers.{rest_bits, report_bit, report_drawn, bits_in}
 use Rattle.digits.specs.Inner.Masks.{mask_bits}
 use Rattle.digits.specs.Inner.Alike.{is_zero, alike, alike_number, padded}
-use Rattle.digits.specs.Inner.Significant.{significant, ends_before}
+use Rattle.digits.specs.Inner.Significant.{significant}
 use Rattle.digits.specs.declared.Quarter.{Quarter}
 use Rattle.digits.specs.declared.Bits.{Bits}
-use Rattle.digits.specs.declared.BitStep.{BitStep}
 use Rattle.digits.specs.declared.Drawn.{Drawn}
 use Rattle.digits.proofs.BitSteps.{bit_end, rest-start, bits_told}
 use Rattle.digits.proofs.NamedLaws.{alike_is, low-length, number-alike}
 use Rattle.digits.proofs.SignificantLaws.{zeros_later, last_differs}
 
-padded-none : (t : List ℕ) → [] ≡ t → 0 ∷ t ≡ padded t
-padded-none [] e = refl
-padded-none (b ∷ t) e = absurd (omega (arith, ap length e))
-
-padded_some : (b : ℕ) (s t : List ℕ) → b ∷ s ≡ t → b ∷ s ≡ padded t
-padded_some b s [] e = absurd (omega (arith, ap length e))
-padded_some b s (x ∷ t) e = e
-
 -- ---- a bit of a text, and the bits left of it
-module _ (h : List ℕ) (hexed : Bool) (a : Bits) (step : BitStep) (read : report_bit hexed h step ≡ rest_bits hexed h a) where
-  none_left : step ≡ BitStep.End → [] ≡ rest_bits hexed h a
+module _ (h : List ℕ) (hexed : Bool) (a : Bits) (step : Option Drawn) (read : report_bit hexed h step ≡ rest_bits hexed h a) where
+  none_left : step ≡ None → [] ≡ rest_bits hexed h a
   none_left e = sym (ap (report_bit hexed h) e) ∙ read
 
-  pub drawn_end : step ≡ BitStep.End → report_drawn hexed h (record { bit = 0; after = a }) ≡ padded (rest_bits hexed h a)
-  drawn_end e = padded-none (rest_bits hexed h a) (none_left e)
-
-  pub zeros_end : (m : Bool) → alike [] (rest_bits hexed h a) ≡ m → step ≡ BitStep.End → true ≡ m
+  pub zeros_end : (m : Bool) → alike [] (rest_bits hexed h a) ≡ m → step ≡ None → true ≡ m
   unfolding alike
   zeros_end m inv e = sym (every-nil is_zero) ∙ ap (alike []) (none_left e) ∙ inv
 
-  module _ (x : ℕ) (b : Bits) (e : step ≡ BitStep.Bit x b) where
-    one_left : x ∷ rest_bits hexed h b ≡ rest_bits hexed h a
+  module _ (d : Drawn) (e : step ≡ Some d) where
+    one_left : report_drawn hexed h d ≡ rest_bits hexed h a
     one_left = sym (ap (report_bit hexed h) e) ∙ read
 
-    pub drawn_bit : report_drawn hexed h (record { bit = x; after = b }) ≡ padded (rest_bits hexed h a)
-    drawn_bit = padded_some x (rest_bits hexed h b) (rest_bits hexed h a) one_left
-
-    pub zeros_fall : length (rest_bits hexed h b) < length (rest_bits hexed h a)
-    zeros_fall = let l : suc (length (rest_bits hexed h b)) ≡ length (rest_bits hexed h a) = ap length one_left in omega arith
-
     module _ (m : Bool) (inv : alike [] (rest_bits hexed h a) ≡ m) where
-      front : both (eqb 0 x) (alike [] (rest_bits hexed h b)) ≡ m
+      front : both (eqb 0 d.bit) (alike [] (rest_bits hexed h d.after)) ≡ m
       unfolding alike
-      front = sym (every-cons is_zero x (rest_bits hexed h b)) ∙ ap (alike []) one_left ∙ inv
+      front = sym (every-cons is_zero d.bit (rest_bits hexed h d.after)) ∙ ap (alike []) one_left ∙ inv
 
-      pub zeros_other : (x ≡ 0 → ⊥) → false ≡ m
-      zeros_other d = rw (ne_eqb 0 x (λ q. d (sym q))) at front
+      pub zeros_other : (d.bit ≡ 0 → ⊥) → false ≡ m
+      zeros_other g = rw (ne_eqb 0 d.bit (λ q. g (sym q))) at front
 
-      pub zeros_on : x ≡ 0 → alike [] (rest_bits hexed h b) ≡ m
-      zeros_on d = rw (eq-eqb 0 x (sym d)) at front
+      pub zeros_on : d.bit ≡ 0 → alike [] (rest_bits hexed h d.after) ≡ m
+      zeros_on g = rw (eq-eqb 0 d.bit (sym g)) at front
 
 pub zeros_none : (h : List ℕ) (hexed : Bool) (a : Bits) → length h ≤ a.at → true ≡ alike [] (rest_bits hexed h a)
 unfolding alike
@@ -86,8 +70,8 @@ module _ (h : List ℕ) (n : ℕ) (m : ℕ) (inv : significant n h ≡ m) (some 
   unfolding significant
   cut = rw one at inv
 
-  pub digit_counts : (octet h (n - 1) ≡ 48 → ⊥) → n ≡ m
-  digit_counts d = one ∙ rw (ne_eqb (octet h (n - 1)) 48 d) at cut
+  pub digit_counts : (octet h (n - 1) ≡ 48 → ⊥) → n - 1 + 1 ≡ m
+  digit_counts d = add-one (n - 1) ∙ rw (ne_eqb (octet h (n - 1)) 48 d) at cut
 
   pub digit_zero : octet h (n - 1) ≡ 48 → significant (n - 1) h ≡ m
   digit_zero e = rw (eq-eqb (octet h (n - 1)) 48 e) at cut
@@ -96,12 +80,6 @@ pub digits-none : (h : List ℕ) (n m : ℕ) → significant n h ≡ m → n ≤
 unfolding significant
 digits-none h zero m inv l = inv
 digits-none h (suc n) m inv l = absurd (omega arith)
-
-pub ends-hex : (hexed : Bool) (h : List ℕ) (n : ℕ) → hexed ≡ true → ltb (length h) (n / 4) ≡ ends_before hexed h n
-ends-hex hexed h n e = rw e
-
-pub ends-text : (hexed : Bool) (h : List ℕ) (n : ℕ) → hexed ≡ false → ltb (length h) n ≡ ends_before hexed h n
-ends-text hexed h n e = rw e
 
 -- ---- stored bits against those of a text
 pub alike-start : (s h : List ℕ) (hexed : Bool) → alike s (rest_bits hexed h (record { at = 0; quarter = Quarter.First })) ≡ alike s (bits_in hexed h)
@@ -113,9 +91,6 @@ alike-padded a s [] = refl
 alike-padded a s (b ∷ t) = refl
 
 module _ (s h : List ℕ) (hexed : Bool) (i : ℕ) (a : Bits) (m : Bool) (inv : alike (drop i s) (rest_bits hexed h a) ≡ m) (n : ℕ) (count : n ≡ length s) where
-  pub alike-done : (r : Bool) → n ≤ i → r ≡ alike [] (rest_bits hexed h a) → r ≡ m
-  alike-done r l e = let g : length s ≤ i = omega arith in e ∙ ap (λ (x : List ℕ). alike x (rest_bits hexed h a)) (sym (rest-none s i g)) ∙ inv
-
   module _ (l : i < n) (drawn : Drawn) (told : report_drawn hexed h drawn ≡ padded (rest_bits hexed h a)) (y : ℕ) (held : y ≡ get_or s i 0) where
     heads : both (eqb y drawn.bit) (alike (drop (i + 1) s) (rest_bits hexed h drawn.after)) ≡ m
     unfolding alike

@@ -1,4 +1,6 @@
 -- One arc: its digits, and the piece of the text that it stands in.
+use Rattle.std.specs.Prelude.{Option}
+use Rattle.std.specs.Prelude.{None, Some}
 use mathlib.Core.Path.{◌≡◌, refl, sym, ap, ◌∙◌}
 use mathlib.Core.Bool.{Bool, true, false, not}
 use mathlib.Core.List.{List, [], ◌∷◌}
@@ -12,49 +14,23 @@ use Rattle.octets.specs.Pick.{pick, both}
 use Rattle.octets.specs.Octets.{octet, every}
 use Rattle.octets.specs.Text.{is_digit, is_number, decimal_from, onto_first, pieces}
 use Rattle.octets.specs.Inner.Answers.{clip, grow_of}
-use Rattle.octets.specs.declared.Size.{Size}
 use Rattle.octets.proofs.Laws.{rest-cons, rest-none}
 use Rattle.octets.proofs.TextLaws.{every-nil, every-cons, decimal-nil, decimal-cons, number-nil, number-cons, pieces-nil, pieces-cons}
 use Rattle.octets.proofs.Steps.{grow_clip}
 use Rattle.der.specs.Dotted.{every_number}
 use Rattle.der.proofs.DottedLaws.{numbers-nil, numbers-cons}
-use Rattle.dotted.specs.Inner.Arcs.{more_digit, first_digit, after_digit, is_formed, numbers_after, add_digit, arc_of, arc_from, arc_at, rest_pieces}
+use Rattle.dotted.specs.Inner.Arcs.{after_digit, is_formed, numbers_after, add_digit, arc_of, arc_from, arc_at, rest_pieces}
 use Rattle.dotted.specs.declared.Form.{Form}
 use Rattle.dotted.specs.declared.Digits.{Digits}
-use Rattle.dotted.specs.declared.Dots.{Dots}
 use Rattle.dotted.specs.declared.Arc.{Arc}
 
--- ---- one digit more
-module _ (f r : Form) (b : ℕ) where
-  pub after-empty : f ≡ Form.Empty → r ≡ first_digit b → r ≡ after_digit f b
-  unfolding after_digit
-  after-empty e h = rw e h
-
-  pub after_zero : f ≡ Form.Zero → Form.Broken ≡ after_digit f b
-  unfolding after_digit
-  after_zero e = rw e
-
-  pub after-number : f ≡ Form.Number → r ≡ more_digit b → r ≡ after_digit f b
-  unfolding after_digit
-  after-number e h = rw e h
-
-  pub after-broken : f ≡ Form.Broken → Form.Broken ≡ after_digit f b
-  unfolding after_digit
-  after-broken e = rw e
-
-pub add_is : (d : Digits) (b g : ℕ) (s : Size) (f : Form) → g ≡ b - 48 → s ≡ grow_of d.size g → f ≡ after_digit d.form b → record { size = s; form = f } ≡ add_digit d b
-add_is d b g s f h e q = rw (e, h, q)
-
-pub arc_is : (d : Digits) (next : Dots) (u : Bool) → u ≡ is_formed d.form → record { size = d.size; formed = u; next = next } ≡ arc_of d next
-arc_is d next u e = rw e
-
 -- ---- the loop
-pub arc_start : (t : List ℕ) (at : ℕ) → arc_from (record { size = Size.Of 0; form = Form.Empty }) (drop at t) at ≡ arc_at t at
+pub arc_start : (t : List ℕ) (at : ℕ) → arc_from (record { size = Some 0; form = Form.Empty }) (drop at t) at ≡ arc_at t at
 unfolding arc_at
 arc_start t at = refl
 
 module _ (t : List ℕ) (at i : ℕ) (d : Digits) (inv : arc_from d (drop i t) i ≡ arc_at t at) where
-  pub arc_done : (r : Arc) → length t ≤ i → r ≡ arc_of d Dots.Over → r ≡ arc_at t at
+  pub arc_done : (r : Arc) → length t ≤ i → r ≡ arc_of d None → r ≡ arc_at t at
   unfolding arc_from
   arc_done r h e = e ∙ (rw (rest-none t i h) at inv)
 
@@ -62,7 +38,7 @@ module _ (t : List ℕ) (at i : ℕ) (d : Digits) (inv : arc_from d (drop i t) i
     step : arc_from d (octet t i ∷ drop (i + 1) t) i ≡ arc_at t at
     step = sym (ap (λ (l : List ℕ). arc_from d l i) (rest-cons t i h)) ∙ inv
 
-    pub arc_dot : (r : Arc) → octet t i ≡ 46 → r ≡ arc_of d (Dots.At (i + 1)) → r ≡ arc_at t at
+    pub arc_dot : (r : Arc) → octet t i ≡ 46 → r ≡ arc_of d (Some (i + 1)) → r ≡ arc_at t at
     unfolding arc_from
     arc_dot r q e = e ∙ (rw (eq-eqb (octet t i) 46 q) at step)
 
@@ -157,13 +133,13 @@ module _ (t : List ℕ) (i : ℕ) (f : Form) (m : Bool) (inv : numbers_after f (
       unfolding numbers_after
       numbers-bad e = rw (eq-eqb (octet t i) 46 q, sym told ∙ not-true u e) at on
 
-      pub numbers_next : not u ≡ false → numbers_after Form.Empty (drop (i + 1) t) ≡ m
+      pub numbers_next : (g : Form) → not u ≡ false → g ≡ Form.Empty → numbers_after g (drop (i + 1) t) ≡ m
       unfolding numbers_after
-      numbers_next e = rw (eq-eqb (octet t i) 46 q, sym told ∙ not-false u e) at on
+      numbers_next g e z = rw z (rw (eq-eqb (octet t i) 46 q, sym told ∙ not-false u e) at on)
 
-    pub numbers_longer : (g : Form) → (octet t i ≡ 46 → ⊥) → g ≡ after_digit f (octet t i) → numbers_after g (drop (i + 1) t) ≡ m
+    pub numbers_longer : (g r : Form) → (octet t i ≡ 46 → ⊥) → g ≡ r → r ≡ after_digit f (octet t i) → numbers_after g (drop (i + 1) t) ≡ m
     unfolding numbers_after
-    numbers_longer g q e = rw e (rw (ne_eqb (octet t i) 46 q) at on)
+    numbers_longer g r q z e = rw (z, e) (rw (ne_eqb (octet t i) 46 q) at on)
 
 -- ---- the piece that an arc stands in, after digits that stand for n, of form f
 record Piece (ps : List (List ℕ)) (n : ℕ) (f : Form) (t : List ℕ) (arc : Arc) : Type 0 where
@@ -182,14 +158,14 @@ piece_of : (t : List ℕ) (n : ℕ) (d : Digits) (l : List ℕ) (at : ℕ) → d
 unfolding arc_from rest_pieces form_from
 piece_of t n d [] at c e = record { piece = []; is = pieces-nil; clipped = c ∙ ap clip (sym (decimal-nil n)); formed = refl }
 piece_of t n d (b ∷ bs) at c e =
-    go (piece_of t (n * 10 + (b - 48)) (add_digit d b) bs (at + 1) (ap (λ (z : Size). grow_of z (b - 48)) c ∙ grow_clip n (b - 48)) tail) (eqb b 46) (pieces-cons b bs)
+    go (piece_of t (n * 10 + (b - 48)) (add_digit d b) bs (at + 1) (ap (λ (z : Option ℕ). grow_of z (b - 48)) c ∙ grow_clip n (b - 48)) tail) (eqb b 46) (pieces-cons b bs)
   where
     tail : bs ≡ drop (at + 1) t
     tail = drop_next b bs t at e
 
     go : Piece (pieces bs) (n * 10 + (b - 48)) (after_digit d.form b) t (arc_from (add_digit d b) bs (at + 1)) → (u : Bool)
         → pieces (b ∷ bs) ≡ pick u ([] ∷ pieces bs) (onto_first b (pieces bs))
-        → Piece (pieces (b ∷ bs)) n d.form t (pick u (arc_of d (Dots.At (at + 1))) (arc_from (add_digit d b) bs (at + 1)))
+        → Piece (pieces (b ∷ bs)) n d.form t (pick u (arc_of d (Some (at + 1))) (arc_from (add_digit d b) bs (at + 1)))
     go more true q = record { piece = []; is = q ∙ ap (λ (x : List ℕ). [] ∷ pieces x) tail; clipped = c ∙ ap clip (sym (decimal-nil n)); formed = refl }
     go more false q = record {
       piece = b ∷ more.piece;
@@ -207,8 +183,8 @@ pub record Headed (t : List ℕ) (at : ℕ) (arc : Arc) : Type 0 where
 
 pub arc_headed : (t : List ℕ) (at : ℕ) (arc : Arc) → arc ≡ arc_at t at → Headed t at arc
 unfolding arc_at
-arc_headed t at arc e = rw e (go (piece_of t 0 (record { size = Size.Of 0; form = Form.Empty }) (drop at t) at refl refl))
+arc_headed t at arc e = rw e (go (piece_of t 0 (record { size = Some 0; form = Form.Empty }) (drop at t) at refl refl))
   where
-    go : Piece (pieces (drop at t)) 0 Form.Empty t (arc_from (record { size = Size.Of 0; form = Form.Empty }) (drop at t) at)
-        → Headed t at (arc_from (record { size = Size.Of 0; form = Form.Empty }) (drop at t) at)
+    go : Piece (pieces (drop at t)) 0 Form.Empty t (arc_from (record { size = Some 0; form = Form.Empty }) (drop at t) at)
+        → Headed t at (arc_from (record { size = Some 0; form = Form.Empty }) (drop at t) at)
     go p = record { piece = p.piece; is = p.is; clipped = p.clipped; formed = p.formed ∙ number-form p.piece }

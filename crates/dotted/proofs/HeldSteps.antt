@@ -12,7 +12,6 @@ use Rattle.octets.specs.Pick.{pick, both, consed}
 use Rattle.octets.specs.Octets.{same}
 use Rattle.octets.specs.Text.{decimal_from}
 use Rattle.octets.specs.Inner.Answers.{clip}
-use Rattle.octets.specs.declared.Size.{Size}
 use Rattle.octets.proofs.TextLaws.{same-nil, same_shorter, same_longer, same-cons}
 use Rattle.octets.proofs.Laws.{never}
 use Rattle.der.specs.Contents.{subidentifiers}
@@ -24,7 +23,6 @@ use Rattle.der.proofs.DottedLaws.{arcs-pieces}
 use Rattle.der.proofs.MeaningLaws.{arcs_subs}
 use Rattle.dotted.specs.Inner.Arcs.{arc_at, small_at, rest_pieces}
 use Rattle.dotted.specs.Inner.Held.{split_first, rest_held, report_held, first_step, is_over, same_arc, rest_arcs, matches}
-use Rattle.dotted.specs.declared.Dots.{Dots}
 use Rattle.dotted.specs.declared.SmallArc.{SmallArc}
 use Rattle.dotted.specs.declared.Held.{Held}
 use Rattle.dotted.specs.declared.HeldStep.{HeldStep}
@@ -65,34 +63,7 @@ module _ (c : List ℕ) (w : Sub) where
     unfolding rest_held
     start_first n next r h q = ap (report_held c) q ∙ first_told c n next ∙ ap split_first (ap (report_sub c) (sym h) ∙ e)
 
-  module _ (at : ℕ) (e : report_sub c w ≡ subidentifiers (drop at c)) where
-    pub at-end : w ≡ Sub.End → report_held c (HeldStep.End true) ≡ rest_held c (Held.At at)
-    unfolding rest_held
-    at-end h = ap (report_sub c) (sym h) ∙ e
-
-    pub at-broken : w ≡ Sub.Broken → report_held c (HeldStep.End false) ≡ rest_held c (Held.At at)
-    unfolding rest_held
-    at-broken h = ap (report_sub c) (sym h) ∙ e
-
-    pub at_next : (n next : ℕ) → w ≡ Sub.Value n next → report_held c (HeldStep.Next n (Held.At next)) ≡ rest_held c (Held.At at)
-    unfolding rest_held
-    at_next n next h = ap (report_sub c) (sym h) ∙ e
-
-module _ (c : List ℕ) (h : Held) where
-  pub next_start : (r : HeldStep) → h ≡ Held.Start → report_held c r ≡ rest_held c Held.Start → report_held c r ≡ rest_held c h
-  next_start r e q = rw e q
-
-  pub next_second : (b next : ℕ) → h ≡ Held.Second b next → report_held c (HeldStep.Next b (Held.At next)) ≡ rest_held c h
-  unfolding rest_held
-  next_second b next e = rw e
-
-  pub next_at : (r : HeldStep) (at : ℕ) → h ≡ Held.At at → report_held c r ≡ rest_held c (Held.At at) → report_held c r ≡ rest_held c h
-  next_at r at e q = rw e q
-
 -- ---- both sides
-pub wide_fits : (n : ℕ) → n < 4294967296 → n < 18446744073709551616
-wide_fits n h = omega arith
-
 same-clip : (k n : ℕ) → n < 4294967296 → same_arc (clip k) n ≡ eqb n k
 same-clip k n h = go (ltb k 18446744073709551616) refl
   where
@@ -100,11 +71,11 @@ same-clip k n h = go (ltb k 18446744073709551616) refl
     swap true e = let q : n ≡ k = eqb-true n k e in eq-eqb k n (sym q) ∙ sym e
     swap false e = ne_eqb k n (λ q. eqb-false n k e (sym q)) ∙ sym e
 
-    go : (u : Bool) → ltb k 18446744073709551616 ≡ u → same_arc (pick u (Size.Of k) Size.Beyond) n ≡ eqb n k
+    go : (u : Bool) → ltb k 18446744073709551616 ≡ u → same_arc (pick u (Some k) None) n ≡ eqb n k
     go true e = swap (eqb n k) refl
     go false e = sym (ne_eqb n k (λ q. omega (arith, ltb-false k 18446744073709551616 e)))
 
-rest_at_0 : (t : List ℕ) → rest_arcs t (Dots.At 0) ≡ dotted_arcs t
+rest_at_0 : (t : List ℕ) → rest_arcs t (Some 0) ≡ dotted_arcs t
 unfolding rest_pieces
 rest_at_0 t = sym (arcs-pieces t)
 
@@ -114,7 +85,7 @@ first_arc t = arc_headed t 0 (arc_at t 0) refl
 none-same : (t : List ℕ) → false ≡ same [] (dotted_arcs t)
 none-same t = sym (ap (same []) (arcs-pieces t ∙ ap (map (decimal_from 0)) (first_arc t).is) ∙ same_shorter (decimal_from 0 (first_arc t).piece) (map (decimal_from 0) (rest_pieces t (arc_at t 0).next)))
 
-pub arcs-start : (t c : List ℕ) → matches (rest_held c Held.Start) (rest_arcs t (Dots.At 0)) ≡ same (arcs_of c) (dotted_arcs t)
+pub arcs-start : (t c : List ℕ) → matches (rest_held c Held.Start) (rest_arcs t (Some 0)) ≡ same (arcs_of c) (dotted_arcs t)
 unfolding rest_held
 arcs-start t c = ap (matches (split_first (subidentifiers c))) (rest_at_0 t) ∙ go (subidentifiers c) ∙ ap (λ (x : List ℕ). same x (dotted_arcs t)) (sym (arcs_subs c))
   where
@@ -123,7 +94,7 @@ arcs-start t c = ap (matches (split_first (subidentifiers c))) (rest_at_0 t) ∙
     go (Some []) = refl
     go (Some (n ∷ l)) = refl
 
-none-asked : (t : List ℕ) → rest_arcs t Dots.Over ≡ []
+none-asked : (t : List ℕ) → rest_arcs t None ≡ []
 unfolding rest_pieces
 none-asked t = refl
 
@@ -140,15 +111,15 @@ matches-cons : (n k : ℕ) (o : Option (List ℕ)) (l : List ℕ) → matches (c
 matches-cons n k None l = sym (never (eqb n k))
 matches-cons n k (Some s) l = same-cons n k s l
 
-module _ (t c : List ℕ) (a : Dots) (h : Held) (step : HeldStep) (m : Bool)
+module _ (t c : List ℕ) (a : Option ℕ) (h : Held) (step : HeldStep) (m : Bool)
     (inv : matches (rest_held c h) (rest_arcs t a) ≡ m) (told : report_held c step ≡ rest_held c h) where
   sides : (l : List ℕ) → rest_arcs t a ≡ l → matches (report_held c step) l ≡ m
   sides l e = ap₂ matches told (sym e) ∙ inv
 
-  pub arcs-over : (r : Bool) → a ≡ Dots.Over → r ≡ is_over step → r ≡ m
+  pub arcs-over : (r : Bool) → a ≡ None → r ≡ is_over step → r ≡ m
   arcs-over r e q = q ∙ over-matches c step ∙ sides [] (ap (rest_arcs t) e ∙ none-asked t)
 
-  module _ (at : ℕ) (e : a ≡ Dots.At at) where
+  module _ (at : ℕ) (e : a ≡ Some at) where
     headed : Headed t at (arc_at t at)
     headed = arc_headed t at (arc_at t at) refl
 
@@ -157,34 +128,35 @@ module _ (t c : List ℕ) (a : Dots) (h : Held) (step : HeldStep) (m : Bool)
     left = ap (rest_pieces t) e ∙ headed.is
 
     -- the next arc of the text beside a stored one
-    module _ (small : SmallArc) (read : small ≡ small_at t at) (n : ℕ) (after : Held) (f : step ≡ HeldStep.Next n after) (low : n < 4294967296) where
+    module _ (small : Option SmallArc) (read : small ≡ small_at t at) (n : ℕ) (after : Held) (f : step ≡ HeldStep.Next n after) (low : n < 4294967296) where
       agree : both (same_arc (arc_at t at).size n) (matches (rest_held c after) (rest_arcs t (arc_at t at).next)) ≡ m
       agree =
           ap (λ (x : Bool). both x (matches (rest_held c after) (rest_arcs t (arc_at t at).next)))
-          (ap (λ (z : Size). same_arc z n) headed.clipped ∙ same-clip (decimal_from 0 headed.piece) n low)
+          (ap (λ (z : Option ℕ). same_arc z n) headed.clipped ∙ same-clip (decimal_from 0 headed.piece) n low)
           ∙ sym (matches-cons n (decimal_from 0 headed.piece) (rest_held c after) (rest_arcs t (arc_at t at).next))
           ∙ sym (ap (λ (x : HeldStep). matches (report_held c x) (decimal_from 0 headed.piece ∷ rest_arcs t (arc_at t at).next)) f)
           ∙ sides (decimal_from 0 headed.piece ∷ rest_arcs t (arc_at t at).next) (ap (map (decimal_from 0)) left)
 
-      pub arcs-above : small ≡ SmallArc.Above → false ≡ m
+      pub arcs-above : small ≡ None → false ≡ m
       unfolding small_at
       arcs-above q = rw (above_arc (arc_at t at).size (arc_at t at).next n (sym read ∙ q) low) at agree
 
-      module _ (k : ℕ) (next : Dots) (q : small ≡ SmallArc.Of k next) where
-        known : IsSmall t at k next
-        known = small-known t at k next small read q
+      module _ (arc : SmallArc) (q : small ≡ Some arc) where
+        known : IsSmall t at arc
+        known = small-known t at arc small read q
 
-        turn : both (eqb k n) (matches (rest_held c after) (rest_arcs t next)) ≡ m
-        turn = ap₂ (λ (z : Size) (d : Dots). both (same_arc z n) (matches (rest_held c after) (rest_arcs t d))) (sym known.size) (sym known.goes) ∙ agree
+        turn : both (eqb arc.number n) (matches (rest_held c after) (rest_arcs t arc.next)) ≡ m
+        turn = ap₂ (λ (z : Option ℕ) (d : Option ℕ). both (same_arc z n) (matches (rest_held c after) (rest_arcs t d))) (sym known.size) (sym known.goes) ∙ agree
 
-        pub arcs-differ : (k ≡ n → ⊥) → false ≡ m
-        arcs-differ d = rw (ne_eqb k n d) at turn
+        module _ (wide : ℕ) (w : wide ≡ n) where
+          pub arcs-differ : (arc.number ≡ wide → ⊥) → false ≡ m
+          arcs-differ d = rw (ne_eqb arc.number n (λ z. d (z ∙ sym w))) at turn
 
-        pub arcs-more : k ≡ n → matches (rest_held c after) (rest_arcs t next) ≡ m
-        arcs-more d = rw (eq-eqb k n d) at turn
+          pub arcs-more : arc.number ≡ wide → matches (rest_held c after) (rest_arcs t arc.next) ≡ m
+          arcs-more d = rw (eq-eqb arc.number n (d ∙ w)) at turn
 
-        pub arcs_fall : length (rest_pieces t next) < length (rest_pieces t a)
-        arcs_fall = let z : length (rest_pieces t (arc_at t at).next) ≡ length (rest_pieces t next) = ap (λ (d : Dots). length (rest_pieces t d)) known.goes in
+        pub arcs_fall : length (rest_pieces t arc.next) < length (rest_pieces t a)
+        arcs_fall = let z : length (rest_pieces t (arc_at t at).next) ≡ length (rest_pieces t arc.next) = ap (λ (d : Option ℕ). length (rest_pieces t d)) known.goes in
             omega (arith, ap length left)
 
     asked : rest_arcs t a ≡ decimal_from 0 headed.piece ∷ rest_arcs t (arc_at t at).next

@@ -1,52 +1,27 @@
 -- A text in dotted form, arc by arc.
+use Rattle.std.specs.Prelude.{Option}
+use Rattle.std.specs.Prelude.{None, Some}
 use mathlib.Core.Path.{◌≡◌, refl, sym, ap, ap₂, ◌∙◌}
 use mathlib.Core.Bool.{Bool, true, false, not}
 use mathlib.Core.List.{List, [], ◌∷◌, map}
 use Prim.Native.Nat.{ℕ, ◌≤◌, ◌<◌}
 use native.Mathlib.Omega.{arith}
-use borrow.Author.Tests.{le-ltb, lt-leb, le-leb, leb-true, eqb-true, eq-eqb, ne_eqb, ltb-false, not-true, not-false}
+use borrow.Author.Tests.{le-ltb, lt-leb, leb-true, eqb-true, ltb-false, not-true, not-false}
 use lib.Dec.{ltb, leb, eqb}
 use lib.ListN.{length, drop}
 use Rattle.octets.specs.Pick.{pick, both, either}
 use Rattle.octets.specs.Octets.{octet, every}
 use Rattle.octets.specs.Text.{is_digit, is_number, decimal_from, onto_first, pieces}
 use Rattle.octets.specs.Inner.Answers.{clip}
-use Rattle.octets.specs.declared.Size.{Size}
 use Rattle.octets.proofs.Laws.{never, both_true, rest-cons}
 use Rattle.octets.proofs.TextLaws.{pieces-cons}
 use Rattle.der.specs.Dotted.{every_number, rooted, is_dotted}
 use Rattle.der.proofs.DottedLaws.{numbers-nil, numbers-cons, dotted-pieces}
 use Rattle.dotted.specs.Inner.Arcs.{is_joint, arc_at, rest_pieces, are_roots, under_root, dotted_under}
-use Rattle.dotted.specs.declared.Dots.{Dots}
 use Rattle.dotted.specs.declared.Arc.{Arc}
 use Rattle.dotted.proofs.ArcSteps.{cut, Headed, arc_headed}
 
 -- ---- the first two arcs
-module _ (a b : Size) (m : ℕ) (e : a ≡ Size.Of m) where
-  pub roots_high : 2 < m → false ≡ are_roots a b
-  roots_high h = rw e (go b)
-    where
-      go : (b : Size) → false ≡ are_roots (Size.Of m) b
-      go Size.Beyond = rw (lt-leb m 2 h)
-      go (Size.Of n) = rw (lt-leb m 2 h)
-
-  pub roots_two : m ≡ 2 → true ≡ are_roots a b
-  roots_two h = rw e (go b)
-    where
-      low : m ≤ 2
-      low = omega arith
-
-      go : (b : Size) → true ≡ are_roots (Size.Of m) b
-      go Size.Beyond = rw (le-leb m 2 low, eq-eqb m 2 h)
-      go (Size.Of n) = rw (le-leb m 2 low, eq-eqb m 2 h)
-
-  module _ (l : m ≤ 2) (h : m ≡ 2 → ⊥) where
-    pub roots_beyond : b ≡ Size.Beyond → false ≡ are_roots a b
-    roots_beyond q = rw (e, q, le-leb m 2 l, ne_eqb m 2 h)
-
-    pub roots_is : (n : ℕ) (u : Bool) → b ≡ Size.Of n → u ≡ ltb n 40 → u ≡ are_roots a b
-    roots_is n u q f = rw (e, q, le-leb m 2 l, ne_eqb m 2 h) f
-
 roots_clip : (m n : ℕ) → are_roots (clip m) (clip n) ≡ both (leb m 2) (either (eqb m 2) (ltb n 40))
 roots_clip m n = go (ltb m 18446744073709551616) (ltb n 18446744073709551616) refl refl
   where
@@ -55,17 +30,17 @@ roots_clip m n = go (ltb m 18446744073709551616) (ltb n 18446744073709551616) re
     alone false = refl
 
     go : (x y : Bool) → ltb m 18446744073709551616 ≡ x → ltb n 18446744073709551616 ≡ y
-        → are_roots (pick x (Size.Of m) Size.Beyond) (pick y (Size.Of n) Size.Beyond) ≡ both (leb m 2) (either (eqb m 2) (ltb n 40))
+        → are_roots (pick x (Some m) None) (pick y (Some n) None) ≡ both (leb m 2) (either (eqb m 2) (ltb n 40))
     go false y p q = let h : 2 < m = omega (arith, ltb-false) in rw (lt-leb m 2 h)
     go true true p q = refl
     go true false p q = let h : 40 ≤ n = omega (arith, ltb-false) in rw (le-ltb n 40 h) (ap (both (leb m 2)) (alone (eqb m 2)))
 
 -- ---- numbers from a place on
-rest_over : (t : List ℕ) → rest_pieces t Dots.Over ≡ []
+rest_over : (t : List ℕ) → rest_pieces t None ≡ []
 unfolding rest_pieces
 rest_over t = refl
 
-rest_at : (t : List ℕ) (p : ℕ) → rest_pieces t (Dots.At p) ≡ pieces (drop p t)
+rest_at : (t : List ℕ) (p : ℕ) → rest_pieces t (Some p) ≡ pieces (drop p t)
 unfolding rest_pieces
 rest_at t p = refl
 
@@ -77,11 +52,11 @@ module _ (t : List ℕ) (i : ℕ) (arc : Arc) (read : arc ≡ arc_at t i) where
   numbers = ap every_number headed.is ∙ numbers-cons _ _ ∙ ap (λ (x : Bool). both x (every_number (rest_pieces t arc.next))) (sym headed.formed)
 
   -- ---- the arcs after the first
-  under : (a : Size) → dotted_under a (pieces (drop i t)) ≡ both (both arc.formed (every_number (rest_pieces t arc.next))) (are_roots a arc.size)
+  under : (a : Option ℕ) → dotted_under a (pieces (drop i t)) ≡ both (both arc.formed (every_number (rest_pieces t arc.next))) (are_roots a arc.size)
   unfolding dotted_under
   under a = ap₂ both numbers (ap (under_root a) headed.is ∙ ap (are_roots a) (sym headed.clipped))
 
-  module _ (a : Size) where
+  module _ (a : Option ℕ) where
     pub under-bad : not arc.formed ≡ true → false ≡ dotted_under a (pieces (drop i t))
     under-bad h = sym (under a ∙ rw (not-true arc.formed h))
 
@@ -94,27 +69,14 @@ module _ (t : List ℕ) (i : ℕ) (arc : Arc) (read : arc ≡ arc_at t i) where
       under-wrong q = sym (under a ∙ rw (sym told ∙ not-true u q) (never (both arc.formed (every_number (rest_pieces t arc.next)))))
 
       module _ (q : not u ≡ false) where
-        pub under-end : arc.next ≡ Dots.Over → true ≡ dotted_under a (pieces (drop i t))
+        pub under-end : arc.next ≡ None → true ≡ dotted_under a (pieces (drop i t))
         under-end e = sym (under a ∙ rw (sym told ∙ not-false u q, not-false arc.formed h, e, rest_over t, numbers-nil))
 
-        pub under-is : (p : ℕ) (r : Bool) → arc.next ≡ Dots.At p → r ≡ every_number (pieces (drop p t)) → r ≡ dotted_under a (pieces (drop i t))
+        pub under-is : (p : ℕ) (r : Bool) → arc.next ≡ Some p → r ≡ every_number (pieces (drop p t)) → r ≡ dotted_under a (pieces (drop i t))
         under-is p r e f = f ∙ sym (under a ∙ rw (sym told ∙ not-false u q, not-false arc.formed h, e, rest_at t p) (always (every_number (pieces (drop p t)))))
 
 -- ---- a text whose first arc is 2
 module _ (t : List ℕ) where
-  pub joint_short : length t < 2 → false ≡ is_joint t
-  unfolding is_joint
-  joint_short h = rw (lt-leb 2 (length t) h)
-
-  module _ (h : 2 ≤ length t) where
-    pub joint_other : (octet t 0 ≡ 50 → ⊥) → false ≡ is_joint t
-    unfolding is_joint
-    joint_other q = rw (le-leb 2 (length t) h, ne_eqb (octet t 0) 50 q)
-
-    pub joint_is : (r : Bool) → octet t 0 ≡ 50 → r ≡ eqb (octet t 1) 46 → r ≡ is_joint t
-    unfolding is_joint
-    joint_is r q e = rw (le-leb 2 (length t) h, eq-eqb (octet t 0) 50 q) e
-
   joint_pieces : is_joint t ≡ true → pieces t ≡ (50 ∷ []) ∷ pieces (drop 2 t)
   unfolding is_joint
   joint_pieces e =
@@ -150,10 +112,10 @@ module _ (t : List ℕ) (arc : Arc) (read : arc ≡ arc_at t 0) where
     whole-at : is_dotted t ≡ both (both arc.formed (every_number x)) (rooted (decimal_from 0 first.piece ∷ map (decimal_from 0) x))
     whole-at = whole ∙ ap (λ (y : List (List ℕ)). both (both arc.formed (every_number y)) (rooted (decimal_from 0 first.piece ∷ map (decimal_from 0) y))) e
 
-  over : arc.next ≡ Dots.Over → rest_pieces t arc.next ≡ []
+  over : arc.next ≡ None → rest_pieces t arc.next ≡ []
   over e = ap (rest_pieces t) e ∙ rest_over t
 
-  later : (p : ℕ) → arc.next ≡ Dots.At p → rest_pieces t arc.next ≡ pieces (drop p t)
+  later : (p : ℕ) → arc.next ≡ Some p → rest_pieces t arc.next ≡ pieces (drop p t)
   later p e = ap (rest_pieces t) e ∙ rest_at t p
 
   pub dotted-bad : not arc.formed ≡ true → false ≡ is_dotted t
@@ -166,7 +128,7 @@ module _ (t : List ℕ) (arc : Arc) (read : arc ≡ arc_at t 0) where
   none true = refl
   none false = refl
 
-  pub dotted-alone : arc.next ≡ Dots.Over → false ≡ is_dotted t
+  pub dotted-alone : arc.next ≡ None → false ≡ is_dotted t
   dotted-alone e = sym (whole-at [] (over e) ∙ none (both arc.formed (every_number [])))
 
   rooted-under : (n : ℕ) (ps : List (List ℕ)) → both (every_number ps) (rooted (n ∷ map (decimal_from 0) ps)) ≡ dotted_under (clip n) ps
@@ -177,8 +139,8 @@ module _ (t : List ℕ) (arc : Arc) (read : arc ≡ arc_at t 0) where
   formed-is : (f : Bool) (x : List (List ℕ)) (n : ℕ) → f ≡ true → both (both f (every_number x)) (rooted (n ∷ map (decimal_from 0) x)) ≡ dotted_under (clip n) x
   formed-is f x n h = rw h (rooted-under n x)
 
-  pub dotted-is : (p : ℕ) (r : Bool) → not arc.formed ≡ false → arc.next ≡ Dots.At p → r ≡ dotted_under arc.size (pieces (drop p t)) → r ≡ is_dotted t
+  pub dotted-is : (p : ℕ) (r : Bool) → not arc.formed ≡ false → arc.next ≡ Some p → r ≡ dotted_under arc.size (pieces (drop p t)) → r ≡ is_dotted t
   dotted-is p r h e f =
-      f ∙ ap (λ (x : Size). dotted_under x (pieces (drop p t))) first.clipped
+      f ∙ ap (λ (x : Option ℕ). dotted_under x (pieces (drop p t))) first.clipped
       ∙ sym (formed-is arc.formed (pieces (drop p t)) (decimal_from 0 first.piece) (not-false arc.formed h))
       ∙ sym (whole-at (pieces (drop p t)) (later p e))

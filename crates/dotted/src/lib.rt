@@ -11,7 +11,6 @@ ghost use Rattle.dotted.specs.Inner.Held as held;
 ghost use Rattle.dotted.specs.Inner.Stored as stored;
 
 use der::Sub;
-use octets::Size;
 
 // What the digits of an arc are so far: none, a single 0, a number without a leading 0, or no number.
 #[derive(Clone, Copy)]
@@ -25,15 +24,8 @@ pub enum Form {
 // The digits of an arc so far: the number they stand for, and their form.
 #[derive(Clone, Copy)]
 pub struct Digits {
-    pub size: Size,
+    pub size: Option<u64>,
     pub form: Form,
-}
-
-// Where the next arc starts, if there is one.
-#[derive(Clone, Copy)]
-pub enum Dots {
-    At(usize),
-    Over,
 }
 
 // Where the next stored arc stands: at the start, in the first subidentifier, whose second arc is left, or at a place.
@@ -51,81 +43,70 @@ pub enum HeldStep {
     End(bool),
 }
 
-// An arc: its number, whether it is written as one, and where the next arc starts.
+// An arc: its number, whether it is written as one, and where the next arc starts, if there is one.
 #[derive(Clone, Copy)]
 pub struct Arc {
-    pub size: Size,
+    pub size: Option<u64>,
     pub formed: bool,
-    pub next: Dots,
+    pub next: Option<usize>,
 }
 
-// An arc that a stored one may be: its number, below 2^32, and where the next arc starts; or one above all stored ones.
+// An arc that a stored one may be: its number, below 2^32, and where the next arc starts, if there is one.
 #[derive(Clone, Copy)]
-pub enum SmallArc {
-    Of(u64, Dots),
-    Above,
+pub struct SmallArc {
+    pub number: u64,
+    pub next: Option<usize>,
 }
 
 fn first_digit(b: u8) -> Form
     ensures { result ≡ arcs.first_digit b }
 {
-    if b == 48 {
-        return Form::Zero;
-    }
-    more_digit(b)
+    if b == b'0' { Form::Zero } else { more_digit(b) }
 }
 
 fn more_digit(b: u8) -> Form
     ensures { result ≡ arcs.more_digit b }
 {
     if octets::is_digit(b) {
-        return Form::Number;
+        Form::Number
+    } else {
+        Form::Broken
     }
-    Form::Broken
 }
 
+#[tactic(auto, unfolding(crate::specs::Inner::Arcs::after_digit))]
 fn after_digit(f: Form, b: u8) -> Form
     ensures { result ≡ arcs.after_digit f b }
 {
     match f {
         Form::Empty => first_digit(b),
-        Form::Zero => Form::Broken,
         Form::Number => more_digit(b),
-        Form::Broken => Form::Broken,
+        Form::Zero | Form::Broken => Form::Broken,
     }
 }
 
 fn is_formed(f: Form) -> bool
     ensures { result ≡ arcs.is_formed f }
 {
-    match f {
-        Form::Empty => false,
-        Form::Zero => true,
-        Form::Number => true,
-        Form::Broken => false,
-    }
+    matches!(f, Form::Zero | Form::Number)
 }
 
 // One digit more.
 fn add_digit(d: Digits, b: u8) -> Digits
     ensures { result ≡ arcs.add_digit d b }
 {
-    let size = d.size;
-    let form = d.form;
     Digits {
-        size: octets::grow(size, octets::digit(b)),
-        form: after_digit(form, b),
+        size: octets::grow(d.size, octets::digit(b)),
+        form: after_digit(d.form, b),
     }
 }
 
-fn arc_of(d: Digits, next: Dots) -> Arc
+fn arc_of(d: Digits, next: Option<usize>) -> Arc
     ensures { result ≡ arcs.arc_of d next }
 {
-    let size = d.size;
-    let form = d.form;
     Arc {
-        size,
-        formed: is_formed(form),
+        size: d.size,
+        formed: is_formed(d.form),
         next,
     }
 }
@@ -134,114 +115,94 @@ fn arc_of(d: Digits, next: Dots) -> Arc
 fn read_arc(t: &[u8], at: usize) -> Arc
     ensures { result ≡ arcs.arc_at t.now at }
 {
-    let mut i = at;
     let mut d = Digits {
-        size: Size::Of(0),
+        size: Some(0),
         form: Form::Empty,
     };
-    while i < t.len() {
+    for i in at..t.len() {
         let b = t[i];
-        if b == 46 {
-            return arc_of(d, Dots::At(i + 1));
+        if b == b'.' {
+            return arc_of(d, Some(i + 1));
         }
         d = add_digit(d, b);
-        i += 1;
     }
-    arc_of(d, Dots::Over)
+    arc_of(d, None)
 }
 
-// The same as a stored one may be: its digits are read no further than the number stays below 2^32.
-fn small_arc(t: &[u8], at: usize) -> SmallArc
+// The same as a stored one may be: its digits are read no further than the number stays below 2^32; above that it is none.
+fn small_arc(t: &[u8], at: usize) -> Option<SmallArc>
     ensures { result ≡ arcs.small_at t.now at }
 {
-    let mut i = at;
-    let mut n: u64 = 0;
-    while i < t.len() {
+    let mut number: u64 = 0;
+    for i in at..t.len() {
         let b = t[i];
-        if b == 46 {
-            return SmallArc::Of(n, Dots::At(i + 1));
+        if b == b'.' {
+            return Some(SmallArc {
+                number,
+                next: Some(i + 1),
+            });
         }
-        n = n * 10 + octets::digit(b);
-        if 4294967295 < n {
-            return SmallArc::Above;
+        number = number * 10 + octets::digit(b);
+        if 4294967295 < number {
+            return None;
         }
-        i += 1;
     }
-    SmallArc::Of(n, Dots::Over)
+    Some(SmallArc { number, next: None })
 }
 
 // ---- dotted form
 // Whether the first two arcs are within their bounds.
-fn are_roots(a: Size, b: Size) -> bool
+fn are_roots(a: Option<u64>, b: Option<u64>) -> bool
     ensures { result ≡ arcs.are_roots a b }
 {
-    let Size::Of(m) = a else {
+    let Some(m) = a else {
         return false;
     };
-    if 2 < m {
-        return false;
-    }
-    if m == 2 {
-        return true;
-    }
-    let Size::Of(n) = b else {
-        return false;
-    };
-    n < 40
+    m == 2 || m < 2 && matches!(b, Some(n) if n < 40)
 }
 
 // Whether each arc from a place on is a number.
 fn all_numbers(t: &[u8], at: usize) -> bool
     ensures { result ≡ every_number (pieces (drop at t.now)) }
 {
-    let mut i = at;
     let mut form = Form::Empty;
-    while i < t.len() {
+    for i in at..t.len() {
         let b = t[i];
-        if b == 46 {
+        if b == b'.' {
             if !is_formed(form) {
                 return false;
             }
             form = Form::Empty;
-            i += 1;
         } else {
             form = after_digit(form, b);
-            i += 1;
         }
     }
     is_formed(form)
 }
 
 // Whether the arcs from a place on are numbers and the first of them may stand under the root a.
-fn dotted_under(t: &[u8], a: Size, at: usize) -> bool
+fn dotted_under(t: &[u8], a: Option<u64>, at: usize) -> bool
     ensures { result ≡ arcs.dotted_under a (pieces (drop at t.now)) }
 {
     let arc = read_arc(t, at);
     if !arc.formed {
         return false;
     }
-    let b = arc.size;
-    if !are_roots(a, b) {
+    if !are_roots(a, arc.size) {
         return false;
     }
-    let next = arc.next;
-    let Dots::At(p) = next else {
+    let Some(p) = arc.next else {
         return true;
     };
     all_numbers(t, p)
 }
 
 // Whether a text begins with the arc 2: any number may stand under it.
+#[tactic(auto, unfolding(crate::specs::Inner::Arcs::is_joint))]
 fn is_joint(t: &[u8]) -> bool
     ensures { result ≡ arcs.is_joint t.now }
 {
-    if t.len() < 2 {
-        return false;
-    }
-    if t[0] != 50 {
-        return false;
-    }
-    t[1] == 46
+    matches!(t, [b'2', b'.', ..])
 }
 
 // Whether a text is an OBJECT IDENTIFIER in dotted form.
@@ -255,12 +216,10 @@ pub fn is_dotted(t: &[u8]) -> bool
     if !arc.formed {
         return false;
     }
-    let a = arc.size;
-    let next = arc.next;
-    let Dots::At(p) = next else {
+    let Some(p) = arc.next else {
         return false;
     };
-    dotted_under(t, a, p)
+    dotted_under(t, arc.size, p)
 }
 
 // ---- stored arcs
@@ -269,36 +228,36 @@ fn first_arcs(n: u32, next: usize) -> HeldStep
     ensures { result ≡ held.first_step n next }
 {
     if n < 40 {
-        return HeldStep::Next(0, Held::Second(n, next));
+        HeldStep::Next(0, Held::Second(n, next))
+    } else if n < 80 {
+        HeldStep::Next(1, Held::Second(n - 40, next))
+    } else {
+        HeldStep::Next(2, Held::Second(n - 80, next))
     }
-    if n < 80 {
-        return HeldStep::Next(1, Held::Second(n - 40, next));
-    }
-    HeldStep::Next(2, Held::Second(n - 80, next))
 }
 
 fn held_start(c: &[u8]) -> HeldStep
     ensures { held.report_held c.now result ≡ held.rest_held c.now Held.Start }
 {
-    let s = der::read_sub(c, 0);
-    match s {
+    match der::read_sub(c, 0) {
         Sub::Value(n, next) => first_arcs(n, next),
         Sub::End => HeldStep::End(true),
         Sub::Broken => HeldStep::End(false),
     }
 }
 
+#[tactic(auto, unfolding(crate::specs::Inner::Held::rest_held))]
 fn held_at(c: &[u8], at: usize) -> HeldStep
     ensures { held.report_held c.now result ≡ held.rest_held c.now (Held.At at) }
 {
-    let s = der::read_sub(c, at);
-    match s {
+    match der::read_sub(c, at) {
         Sub::Value(n, next) => HeldStep::Next(n, Held::At(next)),
         Sub::End => HeldStep::End(true),
         Sub::Broken => HeldStep::End(false),
     }
 }
 
+#[tactic(auto, unfolding(crate::specs::Inner::Held::rest_held))]
 fn next_held(c: &[u8], h: Held) -> HeldStep
     ensures { held.report_held c.now result ≡ held.rest_held c.now h }
 {
@@ -312,35 +271,30 @@ fn next_held(c: &[u8], h: Held) -> HeldStep
 fn is_over(step: HeldStep) -> bool
     ensures { result ≡ held.is_over step }
 {
-    match step {
-        HeldStep::End(whole) => whole,
-        HeldStep::Next(_, _) => false,
-    }
+    matches!(step, HeldStep::End(true))
 }
 
 // Whether contents of an OBJECT IDENTIFIER have the arcs of a dotted text, arc by arc.
 pub fn same_arcs(t: &[u8], c: &[u8]) -> bool
     ensures { result ≡ same (arcs_of c.now) (dotted_arcs t.now) }
 {
-    let mut a = Dots::At(0);
+    // Cursors on both sides: each arc says where the next one stands.
+    let mut a = Some(0);
     let mut h = Held::Start;
-    loop {
-        let step = next_held(c, h);
-        let Dots::At(at) = a else {
-            return is_over(step);
-        };
-        let HeldStep::Next(n, after) = step else {
+    while let Some(at) = a {
+        let HeldStep::Next(n, after) = next_held(c, h) else {
             return false;
         };
-        let SmallArc::Of(m, next) = small_arc(t, at) else {
+        let Some(arc) = small_arc(t, at) else {
             return false;
         };
-        if m != n as u64 {
+        if arc.number != u64::from(n) {
             return false;
         }
-        a = next;
+        a = arc.next;
         h = after;
     }
+    is_over(next_held(c, h))
 }
 
 // ---- a text whose arcs can be stored
@@ -348,17 +302,16 @@ pub fn same_arcs(t: &[u8], c: &[u8]) -> bool
 pub fn fits_stored(t: &[u8]) -> bool
     ensures { result ≡ stored.fitting 33 (dotted_arcs t.now) }
 {
+    // A cursor: each arc says where the next one starts.
     let mut i = 0;
-    let mut k: usize = 33;
-    while 0 < k {
-        let SmallArc::Of(_, next) = small_arc(t, i) else {
+    for _left in (0..33_usize).rev() {
+        let Some(arc) = small_arc(t, i) else {
             return false;
         };
-        let Dots::At(p) = next else {
+        let Some(p) = arc.next else {
             return true;
         };
         i = p;
-        k -= 1;
     }
     false
 }

@@ -1,25 +1,25 @@
 -- The listing: one lemma for each return; its premises are the facts as the code has them.
-use mathlib.Core.Path.{◌≡◌, refl, sym, ap, ◌∙◌}
-use mathlib.Core.Bool.{Bool, true, false, not, true≢false}
-use Rattle.std.specs.Prelude.{Option, None, Some}
+use mathlib.Core.Path.{◌≡◌, refl, sym, ap, ◌∙◌, subst}
+use mathlib.Core.Bool.{Bool, true, false, true≢false}
+use Rattle.std.specs.Prelude.{Option, None, Some, Result, Ok, Err, ok_or}
+use Rattle.table.specs.declared.Refusal.{Refusal}
 use mathlib.Core.List.{List, [], map}
 use Prim.Native.Nat.{ℕ, ◌≤◌, ◌<◌, ◌+◌, ◌*◌, ◌/◌, min}
 use native.Mathlib.Omega.{arith}
-use borrow.Author.Tests.{not-true, not-false, lt-ltb, le-ltb}
+use borrow.Author.Tests.{lt-ltb, le-ltb}
 use lib.ListN.{length}
-use lib.Dec.{leb}
 use Rattle.octets.specs.Pick.{bind, is_some}
-use Rattle.rows.specs.Limits.{table_fits}
 use Rattle.rows.specs.Paper.{table_limits}
 use Rattle.types.specs.Types.{Ty, type_at}
 use Rattle.types.specs.Inner.Work.{row_count}
 use Rattle.table.specs.Inner.Rows as table
 use Rattle.table.specs.Inner.Rows.{table_rows}
-use Rattle.value.specs.Paper.{value_limits}
 use Rattle.value.specs.Value.{Value}
 use Rattle.value.specs.Decode.{stored_value}
-use Rattle.value.specs.Check.{value_fits}
-use Rattle.value.proofs.EntrySteps.{not_admitted, is-admitted}
+use Rattle.types.specs.Admitted.{admitted}
+use Rattle.table.specs.Inner.Pass.{Leaves}
+use Rattle.table.specs.Inner.Words.{Worded}
+use Rattle.value.proofs.EntrySteps.{not_admitted, is-admitted, worded-here}
 use Rattle.reference.specs.Reference.{Id, given_ids}
 use Rattle.reference.specs.Allowed.{allowed}
 use Rattle.reference.specs.Named.{named}
@@ -36,33 +36,12 @@ use Rattle.walk.specs.declared.State.{State}
 use Rattle.walk.proofs.Callers.{asks_of, asks-listed}
 use Rattle.walk.proofs.ListLaws.{counted-all, list-run}
 use Rattle.evaluation.proofs.ItemSteps.{some_there}
-use Rattle.engine.specs.Listing.{Listing, refused_list, lists, report, written, listed, reference_fits, listing_fits, with_stored, with_ids, listing_of, list_report, listing}
+use Rattle.engine.specs.Listing.{Listing, refused_list, lists, report, written, listed, listing_fits, with_stored, with_ids, listing_of, list_report, listing}
 use Rattle.engine.specs.Paper.{limits}
-use Rattle.engine.specs.Inner.Listed.{landed, Asked, Lists, LeadsFrom, PlannedTo, Leads, LeadsOn, Led, ListsLed, ListsTo}
+use Rattle.engine.specs.Inner.Checked.{PassedIf}
+use Rattle.engine.specs.Inner.Listed.{Asked, Lists, LedBy, Leads}
 use Rattle.engine.specs.declared.Listed.{Listed}
 use Rattle.engine.proofs.MisfitLaws.{trail-fits}
-
--- ---- sizes
-module _ (given : Bool) (r : List ℕ) where
-  pub reference-none : not given ≡ true → true ≡ reference_fits limits given r
-  reference-none e = rw (not-true given e)
-
-  pub reference-given : not given ≡ false → leb (length r) limits.reference ≡ reference_fits limits given r
-  reference-given e = rw (not-false given e)
-
-  module _ (t v : List ℕ) (x : Bool) (fits : x ≡ table_fits table_limits t) where
-    pub fits-table : not x ≡ true → false ≡ listing_fits limits t v given r
-    unfolding listing_fits
-    fits-table e = rw (sym fits ∙ not-true x e)
-
-    module _ (e : not x ≡ false) (y : Bool) (fits-v : y ≡ value_fits value_limits v) where
-      pub fits-value : not y ≡ true → false ≡ listing_fits limits t v given r
-      unfolding listing_fits
-      fits-value f = rw (sym fits ∙ not-false x e, sym fits-v ∙ not-true y f)
-
-      pub fits-reference : (b : Bool) → not y ≡ false → b ≡ reference_fits limits given r → b ≡ listing_fits limits t v given r
-      unfolding listing_fits
-      fits-reference b f q = rw (sym fits ∙ not-false x e, sym fits-v ∙ not-false y f) q
 
 -- ---- what a plan names
 pub asked_so : (t q v : List ℕ) → Asked t q v → Asks t q [] v
@@ -81,14 +60,14 @@ module _ (t q v : List ℕ) (limit n : ℕ) (m : List ℕ) (counts : task_of q �
   unfolding Tallies
   counted g = told g limit counts ∙ counted-all limit 0 (named g.defaults g.ids g.val) (omega arith)
 
-  pub planned-short : limit ≤ n → Lists t q v m (listing (Listed.Refused 6) m)
+  pub planned-short : limit ≤ n → Lists t q v m (listing (Err Refusal.Room) m)
   unfolding Lists listed
   planned-short h g =
       let f = counted g in
       let z : length m < size g * 3 = omega arith in
       rw (lt-ltb (length m) (size g * 3) z)
 
-  pub planned-whole : (p : List ℕ) (w : State) (m' : List ℕ) (values : Listed) → n < limit → Relisted q p → task_of p ≡ task.listing → Answers t p [] v 0 m (seen w m')
+  pub planned-whole : (p : List ℕ) (w : State) (m' : List ℕ) (values : Result Listed Refusal) → n < limit → Relisted q p → task_of p ≡ task.listing → Answers t p [] v 0 m (seen w m')
       → report values ≡ lists n → Lists t q v m (listing values m')
   unfolding Lists listed written Answers asks-listed
   planned-whole p w m' values h relisted lists-all answers made g =
@@ -122,112 +101,94 @@ module _ (ty : Ty) (v m : List ℕ) (d : Bool) where
   unfolding with_ids with_stored
   is-listed is x e f = rw (e, f, trail-fits ty v x f d is)
 
-landed-there : (t : List ℕ) (g : Target) → landed g ≡ is_some (report_target table_limits.chain t (table_rows t) g)
-landed-there t (Target.Row i) = refl
-landed-there t Target.Count = refl
-landed-there t Target.No = refl
-
-landed_so : (g : Target) → Lands g → landed g ≡ true
-landed_so (Target.Row i) e = refl
-landed_so Target.Count e = refl
-landed_so Target.No e = absurd e
-
-lands_so : (g : Target) → landed g ≡ true → Lands g
-lands_so (Target.Row i) e = tt
-lands_so Target.Count e = tt
-lands_so Target.No e = absurd (true≢false (sym e))
-
-allowed-by : (t q : List ℕ) (g : Target) (k : PlannedTo t q g) → is_some (bind (given_ids k.given k.reference) (λ is. allowed is (table.type_at t 0))) ≡ landed g
-allowed-by t q g k = ap is_some (sym k.leads) ∙ sym (landed-there t g)
-
--- the identifiers of a reference that leads somewhere
-ids : (t q : List ℕ) (k : LeadsOn t q) → (is : List Id) × (given_ids k.planned.given k.planned.reference ≡ Some is) × (is_some (allowed is (table.type_at t 0)) ≡ true)
-ids t q k = go (given_ids k.planned.given k.planned.reference) refl (allowed-by t q k.target k.planned ∙ landed_so k.target k.lands)
-  where
-    go : (o : Option (List Id)) → given_ids k.planned.given k.planned.reference ≡ o → is_some (bind o (λ is. allowed is (table.type_at t 0))) ≡ true
-        → (is : List Id) × (given_ids k.planned.given k.planned.reference ≡ Some is) × (is_some (allowed is (table.type_at t 0)) ≡ true)
-    go None p h = absurd (true≢false (sym h))
-    go (Some is) p h = (is, p, h)
-
-module _ (t v : List ℕ) (x : Bool) (stored : x ≡ is_some (stored_value (table.type_at t 0) v)) (q : List ℕ) where
-  pub led-bad : (m : List ℕ) → not x ≡ true → ListsLed t q v m (listing (Listed.Refused 4) m)
-  unfolding ListsLed
-  led-bad m f k =
-      not_stored (table.type_at t 0) v m k.planned.defaults (given_ids k.planned.given k.planned.reference)
-      (allowed-by t q k.target k.planned ∙ landed_so k.target k.lands) (sym stored ∙ not-true x f)
-
-  module _ (f : not x ≡ false) where
-    val : (y : Value) × (stored_value (table.type_at t 0) v ≡ Some y)
-    val = some_there (stored_value (table.type_at t 0) v) (sym stored ∙ not-false x f)
-
-    unfoldable asks : LeadsOn t q → Asks t q [] v
-    asks k =
-        asks_of t k.planned.given k.planned.reference [] k.planned.defaults q v k.target k.planned.resolves k.lands (ids t q k).0 (ids t q k).1 val.0 val.1
-
-    pub led-asked : Led t q → Asked t q v
-    unfolding Asked Led
-    led-asked k = asks k
-
-    pub led-listed : (m : List ℕ) (l : Listing) → Lists t q v m l → ListsLed t q v m l
-    unfolding Lists ListsLed asks asks_of
-    led-listed m l told k =
-        told (asks k) ∙ is-listed (table.type_at t 0) v m k.planned.defaults (ids t q k).0 val.0 (ids t q k).2 val.1
-        ∙ ap (with_ids (table.type_at t 0) v k.planned.defaults m) (sym (ids t q k).1)
-
-module _ (t q : List ℕ) (g : Target) (b : Bool) (led : b ≡ landed g) where
-  pub resolved_not : (v m : List ℕ) → not b ≡ true → ListsTo t q v m g (listing (Listed.Refused 3) m)
-  unfolding ListsTo
-  resolved_not v m e k = not_allowed (table.type_at t 0) v m k.defaults (given_ids k.given k.reference) (allowed-by t q g k ∙ sym led ∙ not-true b e)
-
-  module _ (e : not b ≡ false) where
-    unfoldable on : PlannedTo t q g → LeadsOn t q
-    on k = record { target = g; lands = lands_so g (sym led ∙ not-false b e); planned = k }
-
-    pub resolved_led : Leads t q g → Led t q
-    unfolding Leads Led
-    resolved_led k = on k
-
-    pub resolved_listed : (v m : List ℕ) (l : Listing) → ListsLed t q v m l → ListsTo t q v m g l
-    unfolding ListsLed ListsTo on
-    resolved_listed v m l told k = told (on k)
-
-module _ (t r : List ℕ) (given d : Bool) (q : List ℕ) (g : Target) where
-  pub counted-leads : report_target table_limits.chain t (table_rows t) g ≡ leads_to given r (table.type_at t 0) → Resolves t given r [] d q g → LeadsFrom t q given r d g
-  unfolding LeadsFrom
-  counted-leads leads resolves = (leads, resolves)
-
-  unfoldable plans : LeadsFrom t q given r d g → PlannedTo t q g
-  unfolding LeadsFrom
-  plans k = record { given = given; reference = r; defaults = d; leads = k.0; resolves = k.1 }
-
-  module _ (k : LeadsFrom t q given r d g) where
-    pub typed-leads : Leads t q g
-    unfolding Leads
-    typed-leads = plans k
-
-    pub typed-listed : (v m : List ℕ) (l : Listing) → ListsTo t q v m g l → l ≡ with_ids (table.type_at t 0) v d m (given_ids given r)
-    unfolding ListsTo plans
-    typed-listed v m l told = told (plans k)
+-- ---- a reference that leads somewhere, or nowhere
+pub counted-leads : (t q r : List ℕ) (given d : Bool) (g : Option Target) → report_target table_limits.chain t (table_rows t) g ≡ leads_to given r (table.type_at t 0)
+    → Resolves t given r [] d q g → (a : Result Target Refusal) → a ≡ ok_or g Refusal.Form → Leads t q given r d a
+unfolding Leads
+counted-leads t q r given d (Some x) leads h a e = subst (Leads t q given r d) (sym e) (record { target = x; leads = leads; resolves = h })
+counted-leads t q r given d None leads h a e = subst (Leads t q given r d) (sym e) (ap is_some (sym leads), refl)
 
 pub counted-task : (q p : List ℕ) (limit : ℕ) → task_of q ≡ counting limit → task_of p ≡ task_of q → task_of p ≡ counting limit
 counted-task q p limit e f = f ∙ e
 
--- ---- 2, then the others
-module _ (t v r m : List ℕ) (given d : Bool) (n : ℕ) (count : n ≡ row_count table_limits t) where
-  pub admitted_not : n ≡ 0 → listing (Listed.Refused 2) m ≡ listing_of limits t v given r d m
-  unfolding listing_of
-  admitted_not z = rw (not_admitted table_limits t n count z)
+there-is : (t : List ℕ) (x : Target) → is_some (report_target table_limits.chain t (table_rows t) (Some x)) ≡ true
+there-is t (Target.Row i) = refl
+there-is t Target.Count = refl
 
-  pub admitted-typed : (l : Listing) → (n ≡ 0 → ⊥) → l ≡ with_ids (table.type_at t 0) v d m (given_ids given r) → l ≡ listing_of limits t v given r d m
-  unfolding listing_of type_at
-  admitted-typed l z q = q ∙ rw (is-admitted table_limits t n count z)
+lands-there : (x : Target) → Lands (Some x)
+lands-there (Target.Row i) = tt
+lands-there Target.Count = tt
 
--- ---- 1, then the others
+module _ (t q r v : List ℕ) (given d : Bool) (k : LedBy t q given r d) where
+  led_to : is_some (bind (given_ids given r) (λ is. allowed is (table.type_at t 0))) ≡ true
+  led_to = ap is_some (sym k.leads) ∙ there-is t k.target
+
+  -- its identifiers
+  ids : (is : List Id) × (given_ids given r ≡ Some is) × (is_some (allowed is (table.type_at t 0)) ≡ true)
+  ids = go (given_ids given r) refl led_to
+    where
+      go : (o : Option (List Id)) → given_ids given r ≡ o → is_some (bind o (λ is. allowed is (table.type_at t 0))) ≡ true
+          → (is : List Id) × (given_ids given r ≡ Some is) × (is_some (allowed is (table.type_at t 0)) ≡ true)
+      go None p h = absurd (true≢false (sym h))
+      go (Some is) p h = (is, p, h)
+
+  module _ (y : Value) (stored : stored_value (table.type_at t 0) v ≡ Some y) where
+    unfoldable asks : Asks t q [] v
+    asks = asks_of t given r [] d q v (Some k.target) k.resolves (lands-there k.target) ids.0 ids.1 y stored
+
+    led-listed : (m : List ℕ) (l : Listing) → Lists t q v m l → l ≡ with_ids (table.type_at t 0) v d m (given_ids given r)
+    unfolding Lists asks asks_of
+    led-listed m l told = told asks ∙ is-listed (table.type_at t 0) v m d ids.0 y ids.2 stored ∙ ap (with_ids (table.type_at t 0) v d m) (sym ids.1)
+
+-- ---- the admission of a table
+module _ (t : List ℕ) (n : ℕ) (count : n ≡ row_count table_limits t) where
+  pub admit_not : n ≡ 0 → PassedIf (admitted table_limits t) Refusal.Table (Err Refusal.Table)
+  admit_not z = (not_admitted table_limits t n count z, refl)
+
+  pub admit_told : (n ≡ 0 → ⊥) → PassedIf (admitted table_limits t) Refusal.Table (Ok tt)
+  admit_told z = is-admitted table_limits t n count z
+
+  pub admit_words : (w : List ℕ) → Leaves t w n → admitted table_limits t ≡ true → Worded t w
+  admit_words w left a = worded-here t n count (λ z. true≢false (sym a ∙ not_admitted table_limits t n count z)) w left
+
+-- ---- the listing
 module _ (t v r m : List ℕ) (given d b : Bool) (fits : b ≡ listing_fits limits t v given r) where
-  pub sizes_not : not b ≡ true → listing (Listed.Refused 1) m ≡ list_report limits t v given r d m
+  pub list-sizes : (e : Refusal) → (b ≡ false) × (e ≡ Refusal.Size) → listing (Err e) m ≡ list_report limits t v given r d m
   unfolding list_report
-  sizes_not e = rw (sym fits ∙ not-true b e)
+  list-sizes e w = rw (w.1, sym fits ∙ w.0)
 
-  pub sizes_are : (a : Listed) (m' : List ℕ) → not b ≡ false → listing a m' ≡ listing_of limits t v given r d m → listing a m' ≡ list_report limits t v given r d m
-  unfolding list_report
-  sizes_are a m' e q = rw (sym fits ∙ not-false b e) q
+  module _ (sized : b ≡ true) where
+    pub list-table : (e : Refusal) → (admitted table_limits t ≡ false) × (e ≡ Refusal.Table) → listing (Err e) m ≡ list_report limits t v given r d m
+    unfolding list_report listing_of
+    list-table e w = rw (w.1, sym fits ∙ sized, w.0)
+
+    module _ (admits : admitted table_limits t ≡ true) where
+      by-ids : with_ids (table.type_at t 0) v d m (given_ids given r) ≡ list_report limits t v given r d m
+      unfolding list_report listing_of type_at
+      by-ids = rw (sym fits ∙ sized, admits)
+
+      pub list-led : (q : List ℕ) (e : Refusal) → Leads t q given r d (Err e) → listing (Err e) m ≡ list_report limits t v given r d m
+      unfolding Leads
+      list-led q e w = ap (λ (y : Refusal). listing (Err y) m) w.1 ∙ not_allowed (table.type_at t 0) v m d (given_ids given r) w.0 ∙ by-ids
+
+      module _ (q : List ℕ) (g : Target) (k : Leads t q given r d (Ok g)) (x : Bool) (stored : x ≡ is_some (stored_value (table.type_at t 0) v)) where
+        led : LedBy t q given r d
+        unfolding Leads
+        led = k
+
+        pub list-stored : (e : Refusal) → (x ≡ false) × (e ≡ Refusal.Value) → listing (Err e) m ≡ list_report limits t v given r d m
+        list-stored e w =
+            ap (λ (y : Refusal). listing (Err y) m) w.1
+            ∙ not_stored (table.type_at t 0) v m d (given_ids given r) (led_to t q r v given d led) (sym stored ∙ w.0)
+            ∙ by-ids
+
+        module _ (is : x ≡ true) where
+          val : (y : Value) × (stored_value (table.type_at t 0) v ≡ Some y)
+          val = some_there (stored_value (table.type_at t 0) v) (sym stored ∙ is)
+
+          pub list-asked : Asked t q v
+          unfolding Asked
+          list-asked = asks t q r v given d led val.0 val.1
+
+          pub list-whole : (l : Listing) → Lists t q v m l → l ≡ list_report limits t v given r d m
+          list-whole l told = led-listed t q r v given d led val.0 val.1 m l told ∙ by-ids

@@ -1,7 +1,7 @@
 -- The answer to a filter: a truth with the tests made, or a refusal. "Of 5 and 7 the first met is given, each value being reached just before its
 -- test".
 use Rattle.std.specs.Prelude.{ℕ, Bool, List, leb}
-use Rattle.std.specs.Prelude.{Option, None, Some}
+use Rattle.std.specs.Prelude.{Option, None, Some, Result, Ok, Err}
 use Rattle.octets.specs.Pick.{pick, both}
 use Rattle.rows.specs.Limits.{table_fits}
 use Rattle.types.specs.Types.{Ty, type_at}
@@ -17,6 +17,8 @@ use Rattle.evaluation.specs.Truth.{Truth, TRUE, FALSE, UNDEFINED}
 use Rattle.evaluation.specs.Reading.{Outcome, settled, reading}
 use Rattle.evaluation.specs.Assertion.{outcome}
 use Rattle.engine.specs.Misfit.{meets_misfit}
+use Rattle.table.specs.declared.Refusal.{Refusal}
+use Rattle.table.specs.Check.{refusal_number}
 use Rattle.engine.specs.declared.Answer.{Answer}
 
 -- a refusal number, 0 for none; the truth and the number of tests. A refusal "returns its number, no truth and count 0"
@@ -62,8 +64,8 @@ unfoldable pub ask_report : Limits → List Known → List ℕ → List ℕ → 
 ask_report l ks t v s budget = pick (question_fits l t v s budget) (question_of l ks t v s budget) (refused 1)
 
 -- ---- what the code's answer says
-abbrev pub report : Answer → Report
-report (Answer.True n) = answers TRUE n
-report (Answer.False n) = answers FALSE n
-report (Answer.Undefined n) = answers UNDEFINED n
-report (Answer.Refused n) = refused n
+abbrev pub report : Result Answer Refusal → Report
+report (Ok (Answer.True n)) = answers TRUE n
+report (Ok (Answer.False n)) = answers FALSE n
+report (Ok (Answer.Undefined n)) = answers UNDEFINED n
+report (Err r) = refused (refusal_number r)

@@ -1,6 +1,6 @@
 -- The listing: "three numbers for each named value", or a refusal; and the lent memory afterwards. Order: 1, 2, 3, 4, 7, 6.
 use Rattle.std.specs.Prelude.{ℕ, ◌*◌, Bool, true, false, List, ◌++◌, map, length, drop, ltb, leb}
-use Rattle.std.specs.Prelude.{Option, None, Some}
+use Rattle.std.specs.Prelude.{Option, None, Some, Result, Ok, Err}
 use Rattle.octets.specs.Pick.{pick, both, either, no, is_some}
 use Rattle.rows.specs.Limits.{table_fits}
 use Rattle.types.specs.Types.{Ty, type_at}
@@ -14,6 +14,8 @@ use Rattle.reference.specs.Named.{named}
 use Rattle.reference.specs.Numbers.{Component, component, threes}
 use Rattle.engine.specs.Limits.{Limits}
 use Rattle.misfit.specs.Trail.{trail, has_misfit}
+use Rattle.table.specs.declared.Refusal.{Refusal}
+use Rattle.table.specs.Check.{refusal_number}
 use Rattle.engine.specs.declared.Listed.{Listed}
 
 -- whether it is done and not refused; the refusal's number, 0 for none; "the count in its answer is the number of named values", and 0 with a refusal
@@ -83,10 +85,10 @@ list_report l t v given r defaults room =
     (refused_list 1 room)
 
 -- ---- what the code's answer says
-abbrev pub report : Listed → ListReport
-report (Listed.Values n) = lists n
-report (Listed.Refused n) = refused n
+abbrev pub report : Result Listed Refusal → ListReport
+report (Ok l) = lists l.values
+report (Err r) = refused (refusal_number r)
 
 -- with the lent memory
-abbrev pub listing : Listed → List ℕ → Listing
+abbrev pub listing : Result Listed Refusal → List ℕ → Listing
 listing a memory = record { report = report a; memory = memory }

@@ -1,34 +1,34 @@
 // The answers of the engine: the listing, and the answer to a filter.
 #![tactic(auto)]
 
-ghost use Rattle.std.specs.Prelude.{◌≡◌, true, ◌≤◌, ◌+◌, ◌/◌, length};
+ghost use Rattle.std.specs.Prelude.{◌≡◌, true, ◌≤◌, ◌+◌, ◌/◌, length, Ok};
 ghost use Rattle.rows.specs.Paper.{table_limits};
 ghost use Rattle.types.specs.Admitted.{admitted};
 ghost use Rattle.table.specs.Inner.Rows.{type_at};
 ghost use Rattle.table.specs.Inner.Words.{Worded};
-ghost use Rattle.reference.specs.Reference.{given_ids};
 ghost use Rattle.rules.specs.Rule.{known_rules};
 ghost use Rattle.plan.specs.Inner.Task.{counting, task_of};
 ghost use Rattle.filter.specs.Parse.{parse};
 ghost use Rattle.filter.specs.Paper.{filter_limits};
 ghost use Rattle.evaluation.specs.Inner.Work.{Ready};
 ghost use Rattle.engine.specs.Answer as answer;
-ghost use Rattle.engine.specs.Listing.{report, lists, reference_fits, listing_fits, with_ids, listing_of, list_report, listing};
+ghost use Rattle.engine.specs.Listing.{report, lists, reference_fits, listing_fits, list_report, listing};
 ghost use Rattle.engine.specs.Paper.{limits};
+ghost use Rattle.engine.specs.Inner.Checked.{PassedIf};
 ghost use Rattle.engine.specs.Inner.Judged.{refused_behind, settled_as};
 ghost use Rattle.engine.specs.Inner.Listed as inner;
 
-use evaluation::{Evaluated, Verdict};
-use filter::{Filter, Reading};
+use evaluation::{Fault, Verdict};
+use filter::Filter;
 use reference::Target;
 use rows::Table;
+use table::Refusal;
 use value::Value;
 
-// The answer of the listing: the number of named values, or a refusal.
+// A listing: the number of named values.
 #[derive(Clone, Copy)]
-pub enum Listed {
-    Values(usize),
-    Refused(u8),
+pub struct Listed {
+    pub values: usize,
 }
 
 impl Listed {
@@ -36,47 +36,49 @@ impl Listed {
 
     // So many named values.
     pub fn of(n: usize) -> Self
-        ensures { report result ≡ lists n }
+        ensures { report (Ok result) ≡ lists n }
     {
-        Self::Values(n)
+        Self { values: n }
     }
 }
 
-// ---- refusal 1
+// ---- checks
+// Nothing where it holds, and else a refusal.
+fn require(holds: bool, refusal: Refusal) -> Result<(), Refusal>
+    ensures { PassedIf holds refusal result }
+{
+    if holds {
+        return Ok(());
+    }
+    Err(refusal)
+}
+
+// Writes the words of an admitted table; another is refused.
+fn admit(table: &[u8], w: &mut [u64; 256]) -> Result<(), Refusal>
+    ensures told { PassedIf (admitted table_limits table.now) Refusal.Table result }
+    ensures words { admitted table_limits table.now ≡ true → Worded table.now w.new }
+{
+    if table::admit_table(table, w) == 0 {
+        return Err(Refusal::Table);
+    }
+    Ok(())
+}
+
 fn reference_fits(given: bool, reference: &[u8]) -> bool
     ensures { result ≡ reference_fits limits given reference.now }
 {
-    if !given {
-        return true;
-    }
-    reference.len() <= Listed::MAX_REFERENCE
+    !given || reference.len() <= Listed::MAX_REFERENCE
 }
 
+#[tactic(auto, unfolding(crate::specs::Listing::listing_fits))]
 fn listing_fits(table: &[u8], value: &[u8], given: bool, reference: &[u8]) -> bool
     ensures { result ≡ listing_fits limits table.now value.now given reference.now }
 {
-    if !Table::fits(table) {
-        return false;
-    }
-    if !Value::fits(value) {
-        return false;
-    }
-    reference_fits(given, reference)
+    Table::fits(table) && Value::fits(value) && reference_fits(given, reference)
 }
 
 // ---- the listing
-// Whether a reference leads anywhere.
-fn is_led(target: Target) -> bool
-    ensures { result ≡ inner.landed target }
-{
-    match target {
-        Target::Row(_) => true,
-        Target::Count => true,
-        Target::No => false,
-    }
-}
-
-// Writes the plan of a count of what a reference names, up to a limit; what the reference leads to.
+// Writes the plan of a count of what a reference names, up to a limit; what the reference leads to, or a refusal where it leads nowhere.
 fn plan_count(
     t: &[u8],
     w: &[u64; 256],
@@ -85,16 +87,14 @@ fn plan_count(
     given: bool,
     r: &[u8],
     defaults: bool,
-) -> Target
+) -> Result<Target, Refusal>
     requires worded { Worded t.now w.now }
     requires admitted { admitted table_limits t.now ≡ true }
-    requires steps { length q.old ≡ 72 }
-    ensures leads { inner.LeadsFrom t.now q.new given r.now defaults result }
+    ensures leads { inner.Leads t.now q.new given r.now defaults result }
     ensures counts { task_of q.new ≡ counting limit }
-    ensures steps { length q.new ≡ 72 }
 {
     plan::plan_tally(q, limit);
-    plan::resolve(t, w, q, given, r, b"", defaults)
+    plan::resolve(t, w, q, given, r, b"", defaults).ok_or(Refusal::Form)
 }
 
 // The least number of values that a room of so many numbers is too small for.
@@ -112,9 +112,8 @@ fn list_planned(
     v: &[u8],
     limit: usize,
     room: &mut [u64],
-) -> Listed
+) -> Result<Listed, Refusal>
     requires worded { Worded t.now w.now }
-    requires steps { length q.old ≡ 72 }
     requires asks { inner.Asked t.now q.old v.now }
     requires counts { task_of q.old ≡ counting limit }
     requires least { limit ≡ length room.old / 3 + 1 }
@@ -122,96 +121,11 @@ fn list_planned(
 {
     let n = walk::tally(t, w, q, v, 0);
     if limit <= n {
-        return Listed::Refused(6);
+        return Err(Refusal::Room);
     }
     plan::plan_listing(q);
     walk::list(t, w, q, v, 0, room);
-    Listed::of(n)
-}
-
-// The listing by the plan of a reference that leads somewhere.
-fn list_led(
-    t: &[u8],
-    w: &[u64; 256],
-    q: &mut [usize; 72],
-    v: &[u8],
-    limit: usize,
-    room: &mut [u64],
-) -> Listed
-    requires worded { Worded t.now w.now }
-    requires steps { length q.old ≡ 72 }
-    requires leads { inner.Led t.now q.old }
-    requires counts { task_of q.old ≡ counting limit }
-    requires least { limit ≡ length room.old / 3 + 1 }
-    ensures { inner.ListsLed t.now q.old v.now room.old (listing result room.new) }
-{
-    if !value::is_stored(t, w, v) {
-        return Listed::Refused(4);
-    }
-    list_planned(t, w, q, v, limit, room)
-}
-
-// The listing by the plan of a reference, and what the reference leads to.
-fn list_resolved(
-    t: &[u8],
-    w: &[u64; 256],
-    q: &mut [usize; 72],
-    v: &[u8],
-    target: Target,
-    limit: usize,
-    room: &mut [u64],
-) -> Listed
-    requires worded { Worded t.now w.now }
-    requires steps { length q.old ≡ 72 }
-    requires leads { inner.Leads t.now q.old target }
-    requires counts { task_of q.old ≡ counting limit }
-    requires least { limit ≡ length room.old / 3 + 1 }
-    ensures { inner.ListsTo t.now q.old v.now room.old target (listing result room.new) }
-{
-    if !is_led(target) {
-        return Listed::Refused(3);
-    }
-    list_led(t, w, q, v, limit, room)
-}
-
-// The listing by the words of an admitted table.
-fn list_typed(
-    t: &[u8],
-    w: &[u64; 256],
-    v: &[u8],
-    given: bool,
-    r: &[u8],
-    defaults: bool,
-    room: &mut [u64],
-) -> Listed
-    requires worded { Worded t.now w.now }
-    requires admitted { admitted table_limits t.now ≡ true }
-    ensures { listing result room.new
-        ≡ with_ids (type_at t.now 0) v.now defaults room.old (given_ids given r.now) }
-{
-    let limit = too_many(room.len());
-    let mut q = [0usize; 72];
-    let target = plan_count(t, w, &mut q, limit, given, r, defaults);
-    list_resolved(t, w, &mut q, v, target, limit, room)
-}
-
-// The listing where the sizes are admitted.
-fn list_admitted(
-    table: &[u8],
-    value: &[u8],
-    given: bool,
-    reference: &[u8],
-    defaults: bool,
-    room: &mut [u64],
-) -> Listed
-    ensures { listing result room.new
-        ≡ listing_of limits table.now value.now given reference.now defaults room.old }
-{
-    let mut w = [0u64; 256];
-    if table::admit_table(table, &mut w) == 0 {
-        return Listed::Refused(2);
-    }
-    list_typed(table, &w, value, given, reference, defaults, room)
+    Ok(Listed::of(n))
 }
 
 // The listing: three numbers for each value that a reference names, or for the whole value where none is given. Any octets for all.
@@ -222,24 +136,28 @@ pub fn list(
     reference: &[u8],
     defaults: bool,
     room: &mut [u64],
-) -> Listed
+) -> Result<Listed, Refusal>
     ensures { listing result room.new
         ≡ list_report limits table.now value.now given reference.now defaults room.old }
 {
-    if !listing_fits(table, value, given, reference) {
-        return Listed::Refused(1);
-    }
-    list_admitted(table, value, given, reference, defaults, room)
+    let fits = listing_fits(table, value, given, reference);
+    require(fits, Refusal::Size)?;
+    let mut w = [0u64; 256];
+    admit(table, &mut w)?;
+    let mut q = [0usize; 72];
+    let limit = too_many(room.len());
+    plan_count(table, &w, &mut q, limit, given, reference, defaults)?;
+    require(value::is_stored(table, &w, value), Refusal::Value)?;
+    list_planned(table, &w, &mut q, value, limit, room)
 }
 
 // ---- a filter
-// The answer to a filter: its truth with the tests made, or a refusal.
+// The answer to a filter: its truth with the tests made.
 #[derive(Clone, Copy)]
 pub enum Answer {
     True(usize),
     False(usize),
     Undefined(usize),
-    Refused(u8),
 }
 
 impl Answer {
@@ -257,78 +175,51 @@ impl Answer {
     }
 }
 
+#[tactic(auto, unfolding(crate::specs::Answer::question_fits))]
 fn question_fits(table: &[u8], value: &[u8], filter: &[u8], budget: u64) -> bool
     ensures { result ≡ answer.question_fits limits table.now value.now filter.now budget }
 {
-    if !Table::fits(table) {
-        return false;
-    }
-    if !Value::fits(value) {
-        return false;
-    }
-    if !Filter::fits(filter) {
-        return false;
-    }
-    budget <= Answer::MAX_BUDGET
+    Table::fits(table) && Value::fits(value) && Filter::fits(filter) && budget <= Answer::MAX_BUDGET
 }
 
-// The refusal n, where a text is a filter; else 3, which comes before it.
-fn refuse_filter(filter: &[u8], n: u8) -> Answer
-    ensures { result ≡ refused_behind n (parse filter_limits filter.now) }
+// A refusal, where a text is a filter; else that of a text that is none, which comes before it.
+fn refuse_filter(filter: &[u8], refusal: Refusal) -> Result<Answer, Refusal>
+    ensures { result ≡ refused_behind refusal (parse filter_limits filter.now) }
 {
-    let Reading::Good(_) = filter::read(filter) else {
-        return Answer::Refused(3);
+    let Some(_) = filter::read(filter) else {
+        return Err(Refusal::Form);
     };
-    Answer::Refused(n)
+    Err(refusal)
 }
 
 // The answer on a value that has been checked.
-fn ask_stored(t: &[u8], w: &[u64; 256], v: &[u8], filter: &[u8], budget: usize) -> Answer
+fn ask_stored(
+    t: &[u8],
+    w: &[u64; 256],
+    v: &[u8],
+    filter: &[u8],
+    budget: usize,
+) -> Result<Answer, Refusal>
     requires ready { Ready t.now w.now v.now filter.now }
     ensures { answer.report result
         ≡ answer.with_filter known_rules (type_at t.now 0) v.now budget (parse filter_limits filter.now) }
 {
     match evaluation::judge(t, w, v, filter, budget) {
-        Evaluated::Of(u, n) => Answer::of(u, n),
-        Evaluated::Over => refuse_filter(filter, 5),
-        Evaluated::Malformed => Answer::Refused(3),
+        Ok(judged) => Ok(Answer::of(judged.verdict, judged.tests)),
+        Err(Fault::Over) => refuse_filter(filter, Refusal::Tests),
+        Err(Fault::Malformed) => Err(Refusal::Form),
     }
-}
-
-// The answer by the words of an admitted table.
-fn ask_typed(t: &[u8], w: &[u64; 256], v: &[u8], filter: &[u8], budget: usize) -> Answer
-    requires worded { Worded t.now w.now }
-    requires admitted { admitted table_limits t.now ≡ true }
-    requires short { length v.now ≤ 65536 }
-    requires brief { length filter.now ≤ 2048 }
-    ensures { answer.report result
-        ≡ answer.with_filter known_rules (type_at t.now 0) v.now budget (parse filter_limits filter.now) }
-{
-    if !value::is_stored(t, w, v) {
-        return refuse_filter(filter, 4);
-    }
-    ask_stored(t, w, v, filter, budget)
-}
-
-// The answer where sizes and budget are within limits.
-fn ask_admitted(table: &[u8], value: &[u8], filter: &[u8], budget: usize) -> Answer
-    requires short { length value.now ≤ 65536 }
-    requires brief { length filter.now ≤ 2048 }
-    ensures { answer.report result ≡ answer.question_of limits known_rules table.now value.now filter.now budget }
-{
-    let mut w = [0u64; 256];
-    if table::admit_table(table, &mut w) == 0 {
-        return Answer::Refused(2);
-    }
-    ask_typed(table, &w, value, filter, budget)
 }
 
 // The answer to a filter over a value: any octets for table, value and filter, any budget.
-pub fn ask(table: &[u8], value: &[u8], filter: &[u8], budget: u64) -> Answer
+pub fn ask(table: &[u8], value: &[u8], filter: &[u8], budget: u64) -> Result<Answer, Refusal>
     ensures { answer.report result ≡ answer.ask_report limits known_rules table.now value.now filter.now budget }
 {
-    if !question_fits(table, value, filter, budget) {
-        return Answer::Refused(1);
+    require(question_fits(table, value, filter, budget), Refusal::Size)?;
+    let mut w = [0u64; 256];
+    admit(table, &mut w)?;
+    if !value::is_stored(table, &w, value) {
+        return refuse_filter(filter, Refusal::Value);
     }
-    ask_admitted(table, value, filter, budget as usize)
+    ask_stored(table, &w, value, filter, budget as usize)
 }

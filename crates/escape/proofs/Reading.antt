@@ -1,4 +1,5 @@
 -- A name's reader on an escaped text.
+use Rattle.std.specs.Prelude.{Result, Ok, Err}
 use mathlib.Core.Path.{◌≡◌, refl, sym, ap, subst, ◌∙◌}
 use mathlib.Core.Bool.{true, false≢true}
 use Rattle.std.specs.Prelude.{Some}
@@ -16,7 +17,7 @@ use Rattle.names.specs.Rfc4514.{letters, up_to_end, from_end, with_value, attrib
 use Rattle.names.proofs.Laws.{letters-bare}
 use Rattle.escape.specs.Escape.{escaped_text, Escaping, escaping, written, fits, escaped_into, escaped_report}
 use Rattle.escape.specs.Reading.{ends_value, pair_with, ReadsAs, Reads}
-use Rattle.escape.specs.declared.Escaped.{Escaped}
+use Rattle.escape.specs.declared.EscapeError.{EscapeError}
 use Rattle.escape.proofs.Types.{type-read}
 use Rattle.escape.proofs.Unicode.{utf8-joined, utf8-escaped}
 use Rattle.escape.proofs.Letters.{letters_for, letters-escaped, up_to-end, from-end, octets-back, string-escaped}
@@ -60,7 +61,7 @@ escaped-reads t u = record {
 abbrev Read : List ℕ → Escaping → Type 0
 Read t x = Reads x.answer t x.memory
 
-read_none : (t : List ℕ) (x : Escaping) → ((n : ℕ) → x.answer ≡ Escaped.Written n → ⊥) → Read t x
+read_none : (t : List ℕ) (x : Escaping) → ((n : ℕ) → x.answer ≡ Ok n → ⊥) → Read t x
 read_none t x f = record { written = λ n e. absurd (f n e) }
 
 read-written : (t room : List ℕ) → utf8 t ≡ true → Read t (written t room)
@@ -76,8 +77,8 @@ unfolding escaped_report escaped_into
 report-read t room =
     pick_cases (Read t) (utf8 t) _ _
     (λ u. pick_cases (Read t) (fits t (length room)) _ _ (λ _. read-written t room u)
-    (λ _. read_none t (escaping Escaped.TooLittleRoom room) (λ n e. let z : ◌≡◌ {A = ℕ} 0 1 = cc in omega arith)))
-    (λ _. read_none t (escaping Escaped.NotUtf8 room) (λ n e. let z : ◌≡◌ {A = ℕ} 0 1 = cc in omega arith))
+    (λ _. read_none t (escaping (Err EscapeError.TooLittleRoom) room) (λ n e. let z : ◌≡◌ {A = ℕ} 0 1 = cc in omega arith)))
+    (λ _. read_none t (escaping (Err EscapeError.NotUtf8) room) (λ n e. let z : ◌≡◌ {A = ℕ} 0 1 = cc in omega arith))
 
-pub reads_report : (t room m : List ℕ) (r : Escaped) → escaping r m ≡ escaped_report t room → Reads r t m
+pub reads_report : (t room m : List ℕ) (r : Result ℕ EscapeError) → escaping r m ≡ escaped_report t room → Reads r t m
 reads_report t room m r e = subst (Read t) (sym e) (report-read t room)

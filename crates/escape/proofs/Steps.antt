@@ -1,61 +1,23 @@
--- One lemma for each return and each turn of a loop; its premises are the facts as the code has them.
-use mathlib.Core.Path.{◌≡◌, refl, sym, ap, ◌∙◌}
+-- One lemma for each return and each turn of a loop that needs one; its premises are the facts as the code has them.
+use Rattle.std.specs.Prelude.{Ok}
+use mathlib.Core.Path.{◌≡◌, sym, ap, ◌∙◌}
 use mathlib.Core.Bool.{Bool, true, false, not}
 use mathlib.Core.List.{List, [], ◌∷◌, ◌++◌, append_assoc, append-nil}
 use Prim.Native.Nat.{ℕ, ◌≤◌, ◌<◌, ◌+◌, ◌-◌}
 use native.Mathlib.Omega.{arith}
 use native.Mathlib.Numerals.{add-one}
-use borrow.Author.Tests.{eq-eqb, ne_eqb, le-leb, lt-leb, leb-true, not-true, not-false}
+use borrow.Author.Tests.{le-leb, lt-leb, not-false}
 use lib.Dec.{eqb}
 use lib.ListN.{length, take, drop, set, length-set, take-append-drop}
 use lib.Seq.{take-suc-set, drop-set-lt, drop-drop}
 use Rattle.octets.specs.Octets.{octet}
 use Rattle.octets.specs.Utf8.{utf8}
-use Rattle.escape.specs.declared.Escaped.{Escaped}
-use Rattle.escape.specs.Escape.{always_escaped, edge_escaped, escaped_text, Escaping, escaping, written, fits, escaped_into, escaped_report}
-use Rattle.escape.specs.Inner.Work.{width, width_at}
+use Rattle.escape.specs.declared.EscapeError.{EscapeError}
+use Rattle.escape.specs.Escape.{escaped_text, Escaping, escaping, written, fits, escaped_into, escaped_report}
+use Rattle.escape.specs.Inner.Work.{width_at}
 use Rattle.escape.proofs.Laws.{to_come, octets_at, escaped-at, escaped-end, width-at, width_some, width_one, width_two, width_three}
 
--- ---- the tests of an octet
-module _ (first last : Bool) (b : ℕ) where
-  pub edge-first : b ≡ 32 → first ≡ true → true ≡ edge_escaped first last b
-  unfolding edge_escaped
-  edge-first e f = rw (eq-eqb b 32 e, f)
-
-  pub edge-last : b ≡ 32 → first ≡ false → last ≡ edge_escaped first last b
-  unfolding edge_escaped
-  edge-last e f = rw (eq-eqb b 32 e, f)
-
-  pub edge_sharp : (b ≡ 32 → ⊥) → b ≡ 35 → first ≡ edge_escaped first last b
-  unfolding edge_escaped
-  edge_sharp n e = rw (ne_eqb b 32 n, eq-eqb b 35 e)
-
-  pub edge_other : (b ≡ 32 → ⊥) → (b ≡ 35 → ⊥) → false ≡ edge_escaped first last b
-  unfolding edge_escaped
-  edge_other n m = rw (ne_eqb b 32 n, ne_eqb b 35 m)
-
-  pub width-nul : b ≡ 0 → 3 ≡ width first last b
-  unfolding width
-  width-nul e = rw (eq-eqb b 0 e)
-
-  module _ (n : b ≡ 0 → ⊥) (a : Bool) (always : a ≡ always_escaped b) where
-    pub width-always : a ≡ true → 2 ≡ width first last b
-    unfolding width
-    width-always h = rw (ne_eqb b 0 n, sym always ∙ h)
-
-    module _ (e : Bool) (edge : e ≡ edge_escaped first last b) (h : a ≡ false) where
-      pub width-edge : e ≡ true → 2 ≡ width first last b
-      unfolding width
-      width-edge k = rw (ne_eqb b 0 n, sym always ∙ h, sym edge ∙ k)
-
-      pub width-itself : e ≡ false → 1 ≡ width first last b
-      unfolding width
-      width-itself k = rw (ne_eqb b 0 n, sym always ∙ h, sym edge ∙ k)
-
 -- ---- fits: the room that is left, and what is yet to be counted
-pub fits-start : (t : List ℕ) (size : ℕ) → length (escaped_text t) + size ≡ size + length (to_come t 0)
-fits-start t size = omega arith
-
 module _ (t : List ℕ) (size i left : ℕ) (inv : length (escaped_text t) + left ≡ size + length (to_come t i)) where
   pub fits-done : length t ≤ i → true ≡ fits t size
   fits-done h = let e = ap length (escaped-end t i h) in sym (le-leb (length (escaped_text t)) size (omega arith))
@@ -88,8 +50,8 @@ module _ (whole room : List ℕ) (n : ℕ) (s : List ℕ) where
     kept = drop-set-lt (n + 1) s n b (omega arith) ∙ sym (drop-drop 1 n s) ∙ ap (drop 1) v.kept ∙ drop-drop 1 n room;
   }
 
-  writing_done : Writing whole room n [] s → escaping (Escaped.Written n) s ≡ escaping (Escaped.Written (length whole)) (whole ++ drop (length whole) room)
-  writing_done v = (λ i. escaping (Escaped.Written (all i)) (octets i))
+  writing_done : Writing whole room n [] s → escaping (Ok n) s ≡ escaping (Ok (length whole)) (whole ++ drop (length whole) room)
+  writing_done v = (λ i. escaping (Ok (all i)) (octets i))
     where
       all : n ≡ length whole
       all = let c = v.count in omega arith
@@ -101,11 +63,8 @@ module _ (whole room : List ℕ) (n : ℕ) (s : List ℕ) where
 abbrev pub Escapes : List ℕ → List ℕ → ℕ → ℕ → List ℕ → Type 0
 Escapes t room n i s = Writing (escaped_text t) room n (to_come t i) s
 
-pub escapes_start : (t room : List ℕ) → length (escaped_text t) ≤ length room → Escapes t room 0 0 room
-escapes_start t room h = record { long = refl; fit = h; count = omega arith; start = refl; kept = refl }
-
 module _ (t room : List ℕ) (n i : ℕ) (s : List ℕ) (v : Escapes t room n i s) where
-  pub escapes_end : length t ≤ i → escaping (Escaped.Written n) s ≡ written t room
+  pub escapes_end : length t ≤ i → escaping (Ok n) s ≡ written t room
   escapes_end h = writing_done (escaped_text t) room n s (rw (escaped-end t i h) at v)
 
   pub room-more : i < length t → n < length s
@@ -131,55 +90,46 @@ module _ (t room : List ℕ) (n i : ℕ) (s : List ℕ) (v : Escapes t room n i 
     nul : (w ≡ 1 → ⊥) → (w ≡ 2 → ⊥) → Writing (escaped_text t) room n (92 ∷ 48 ∷ 48 ∷ to_come t (i + 1)) s
     nul e f = here (width_three (eqb i 0) (eqb (i + 1) (length t)) (octet t i) (λ z. e (told ∙ z)) (λ z. f (told ∙ z)))
 
-    pub escapes_itself : w ≡ 1 → Escapes t room (n + 1) (i + 1) (set s n (octet t i))
-    escapes_itself e = writing_one (escaped_text t) room n s (octet t i) (to_come t (i + 1)) (itself e)
+    two_written : (w ≡ 1 → ⊥) → (w ≡ 2 → ⊥) → Writing (escaped_text t) room (n + 1 + 1) (48 ∷ to_come t (i + 1)) (set (set s n 92) (n + 1) 48)
+    two_written e f =
+        writing_one (escaped_text t) room (n + 1) (set s n 92) 48 (48 ∷ to_come t (i + 1))
+        (writing_one (escaped_text t) room n s 92 (48 ∷ 48 ∷ to_come t (i + 1)) (nul e f))
 
-    pub escapes_pair : w ≡ 2 → Escapes t room (n + 1 + 1) (i + 1) (set (set s n 92) (n + 1) (octet t i))
-    escapes_pair e =
-        let rest = octet t i ∷ to_come t (i + 1) in
-        writing_one (escaped_text t) room (n + 1) (set s n 92) (octet t i) (to_come t (i + 1)) (writing_one (escaped_text t) room n s 92 rest (pair e))
+    -- the number of octets and the memory after each way to write octet i
+    module _ (m : ℕ) (u : List ℕ) where
+      pub escapes_itself : w ≡ 1 → m ≡ n + 1 → u ≡ set s n (octet t i) → Escapes t room m (i + 1) u
+      escapes_itself e a b = rw (a, b) (writing_one (escaped_text t) room n s (octet t i) (to_come t (i + 1)) (itself e))
 
-    pub escapes_nul : (w ≡ 1 → ⊥) → (w ≡ 2 → ⊥) → Escapes t room (n + 1 + 1 + 1) (i + 1) (set (set (set s n 92) (n + 1) 48) (n + 1 + 1) 48)
-    escapes_nul e f =
-        let first = writing_one (escaped_text t) room n s 92 (48 ∷ 48 ∷ to_come t (i + 1)) (nul e f) in
-        let second = writing_one (escaped_text t) room (n + 1) (set s n 92) 48 (48 ∷ to_come t (i + 1)) first in
-        writing_one (escaped_text t) room (n + 1 + 1) (set (set s n 92) (n + 1) 48) 48 (to_come t (i + 1)) second
+      pub escapes_pair : w ≡ 2 → m ≡ n + 2 → u ≡ set (set s n 92) (n + 1) (octet t i) → Escapes t room m (i + 1) u
+      escapes_pair e a b =
+          let q : m ≡ n + 1 + 1 = omega arith in
+          rw (q, b) (writing_one (escaped_text t) room (n + 1) (set s n 92) (octet t i) (to_come t (i + 1))
+          (writing_one (escaped_text t) room n s 92 (octet t i ∷ to_come t (i + 1)) (pair e)))
+
+      pub escapes_nul : (w ≡ 1 → ⊥) → (w ≡ 2 → ⊥) → m ≡ n + 3 → u ≡ set (set (set s n 92) (n + 1) 48) (n + 2) 48 → Escapes t room m (i + 1) u
+      escapes_nul e f a b =
+          let q : m ≡ n + 1 + 1 + 1 = omega arith in
+          let p : n + 2 ≡ n + 1 + 1 = omega arith in
+          rw (q, b, p) (writing_one (escaped_text t) room (n + 1 + 1) (set (set s n 92) (n + 1) 48) 48 (to_come t (i + 1)) (two_written e f))
 
     -- room for the second octet of an escape, and for the third
-    pub room-second : (w ≡ 1 → ⊥) → n + 1 < length (set s n 92)
+    pub room-second : 2 ≤ w → n + 1 < length (set s n 92)
     room-second e =
         let a = width-at t i h in
-        let m = width_some (eqb i 0) (eqb (i + 1) (length t)) (octet t i) in
         let l = v.long in
         let c = v.count in
         let f = v.fit in
         rw length-set (omega arith)
 
-    pub room-third : (w ≡ 1 → ⊥) → (w ≡ 2 → ⊥) → n + 1 + 1 < length (set (set s n 92) (n + 1) 48)
+    pub room-third : (w ≡ 1 → ⊥) → (w ≡ 2 → ⊥) → n + 2 < length (set (set s n 92) (n + 1) 48)
     room-third e g =
-        writing_room (escaped_text t) room (n + 1 + 1) (set (set s n 92) (n + 1) 48) 48 (to_come t (i + 1))
-        (writing_one (escaped_text t) room (n + 1) (set s n 92) 48 (48 ∷ to_come t (i + 1))
-        (writing_one (escaped_text t) room n s 92 (48 ∷ 48 ∷ to_come t (i + 1)) (nul e g)))
+        let p : n + 2 ≡ n + 1 + 1 = omega arith in
+        rw p (writing_room (escaped_text t) room (n + 1 + 1) (set (set s n 92) (n + 1) 48) 48 (to_come t (i + 1)) (two_written e g))
+
+    pub longer : (w ≡ 1 → ⊥) → 2 ≤ w
+    longer e = let m = width_some (eqb i 0) (eqb (i + 1) (length t)) (octet t i) in omega arith
 
 -- ---- escape
-module _ (t room : List ℕ) where
-  module _ (f : Bool) (g : f ≡ fits t (length room)) where
-    pub into_little : not f ≡ true → escaping Escaped.TooLittleRoom room ≡ escaped_into t room
-    unfolding escaped_into
-    into_little k = rw (sym g ∙ not-true f k)
-
-    pub into_written : (r : Escaping) → not f ≡ false → r ≡ written t room → r ≡ escaped_into t room
-    unfolding escaped_into
-    into_written r k q = rw (sym g ∙ not-false f k) q
-
-  module _ (u : Bool) (e : u ≡ utf8 t) where
-    pub escape_other : not u ≡ true → escaping Escaped.NotUtf8 room ≡ escaped_report t room
-    unfolding escaped_report
-    escape_other h = rw (sym e ∙ not-true u h)
-
-    pub escape_text : (r : Escaping) → not u ≡ false → r ≡ escaped_into t room → r ≡ escaped_report t room
-    unfolding escaped_report
-    escape_text r h q = rw (sym e ∙ not-false u h) q
-
-pub fits_all : (t : List ℕ) (size : ℕ) (f : Bool) → f ≡ fits t size → not f ≡ false → length (escaped_text t) ≤ size
-fits_all t size f g k = leb-true (length (escaped_text t)) size (sym g ∙ not-false f k)
+pub escape_text : (t room : List ℕ) (u : Bool) → u ≡ utf8 t → (r : Escaping) → not u ≡ false → r ≡ escaped_into t room → r ≡ escaped_report t room
+unfolding escaped_report
+escape_text t room u e r h q = rw (sym e ∙ not-false u h) q

@@ -1,9 +1,10 @@
 -- The value of an attribute as a name has it: RFC 4514 section 2.4, on a text in UTF-8. "If that UTF-8-encoded Unicode string does not have any of the
 -- following characters that need escaping, then that string can be used as the string representation of the value."
+use Rattle.std.specs.Prelude.{Result, Ok, Err}
 use Rattle.std.specs.Prelude.{ℕ, Bool, true, false, List, [], ◌∷◌, ◌++◌, length, drop, leb, eqb}
 use Rattle.octets.specs.Pick.{pick, both, either}
 use Rattle.octets.specs.Utf8.{utf8}
-use Rattle.escape.specs.declared.Escaped.{Escaped}
+use Rattle.escape.specs.declared.EscapeError.{EscapeError}
 
 -- "one of the characters `"`, `+`, `,`, `;`, `<`, `>`, or `\`"
 unfoldable pub always_escaped : ℕ → Bool
@@ -32,23 +33,23 @@ escaped_text text = escaped_from true text
 -- ---- answers
 -- an answer, and the lent memory afterwards
 pub record Escaping : Type 0 where
-  pub answer : Escaped
+  pub answer : Result ℕ EscapeError
   pub memory : List ℕ
 
-abbrev pub escaping : Escaped → List ℕ → Escaping
+abbrev pub escaping : Result ℕ EscapeError → List ℕ → Escaping
 escaping answer memory = record { answer = answer; memory = memory }
 
 -- the escaped text from the start of the room, and no more; the answer has its length
 abbrev pub written : List ℕ → List ℕ → Escaping
-written text room = escaping (Escaped.Written (length (escaped_text text))) (escaped_text text ++ drop (length (escaped_text text)) room)
+written text room = escaping (Ok (length (escaped_text text))) (escaped_text text ++ drop (length (escaped_text text)) room)
 
 abbrev pub fits : List ℕ → ℕ → Bool
 fits text size = leb (length (escaped_text text)) size
 
 -- too little room, and nothing is written; or all of it
 unfoldable pub escaped_into : List ℕ → List ℕ → Escaping
-escaped_into text room = pick (fits text (length room)) (written text room) (escaping Escaped.TooLittleRoom room)
+escaped_into text room = pick (fits text (length room)) (written text room) (escaping (Err EscapeError.TooLittleRoom) room)
 
 -- a text that isn't UTF-8, and nothing is written; then as the room is
 unfoldable pub escaped_report : List ℕ → List ℕ → Escaping
-escaped_report text room = pick (utf8 text) (escaped_into text room) (escaping Escaped.NotUtf8 room)
+escaped_report text room = pick (utf8 text) (escaped_into text room) (escaping (Err EscapeError.NotUtf8) room)

@@ -1,10 +1,11 @@
 -- Computed examples.
+use Rattle.std.specs.Prelude.{Ok, Err}
 use Rattle.std.specs.Prelude.{◌≡◌, refl, true, List, [], ◌∷◌, map}
 use Rattle.std.specs.Prelude.{Some}
 use Prim.Native.String.{String}
 use Rattle.octets.specs.Octets.{bytes, hex}
 use Rattle.names.specs.Rfc4514.{Attribute, distinguished_name}
-use Rattle.escape.specs.declared.Escaped.{Escaped}
+use Rattle.escape.specs.declared.EscapeError.{EscapeError}
 use Rattle.escape.specs.Escape.{escaped_text, escaping, escaped_report}
 use Rattle.escape.specs.Building.{name_text, is_name}
 use Rattle.escape.specs.Computing.{escape_computes}
@@ -24,8 +25,8 @@ others = refl
 -- room of two octets and more, and of one, for the text `,`; no text, in no room; a text that isn't UTF-8, in no room
 answers : escaped_report (bytes ",") (bytes "yz") ∷ escaped_report (bytes ",") (bytes "yz!") ∷ escaped_report (bytes ",") (bytes "z") ∷ escaped_report [] []
     ∷ escaped_report (hex "C3") [] ∷ []
-    ≡ escaping (Escaped.Written 2) (bytes "\\,") ∷ escaping (Escaped.Written 2) (bytes "\\,!") ∷ escaping Escaped.TooLittleRoom (bytes "z")
-    ∷ escaping (Escaped.Written 0) [] ∷ escaping Escaped.NotUtf8 [] ∷ []
+    ≡ escaping (Ok 2) (bytes "\\,") ∷ escaping (Ok 2) (bytes "\\,!") ∷ escaping (Err EscapeError.TooLittleRoom) (bytes "z")
+    ∷ escaping (Ok 0) [] ∷ escaping (Err EscapeError.NotUtf8) [] ∷ []
 unfolding escape_computes
 answers = refl
 

@@ -1,11 +1,12 @@
 -- What the reader of a name makes of octets q that are an escaped text.
+use Rattle.std.specs.Prelude.{Result, Ok}
 use Rattle.std.specs.Prelude.{ℕ, ◌≡◌, Bool, true, List, [], ◌∷◌, ◌++◌, take, eqb}
 use Rattle.std.specs.Prelude.{Some}
 use Rattle.octets.specs.Pick.{either}
 use Rattle.octets.specs.Utf8.{utf8}
 use Rattle.der.specs.Dotted.{is_dotted}
 use Rattle.names.specs.Rfc4514.{letters, attribute_from}
-use Rattle.escape.specs.declared.Escaped.{Escaped}
+use Rattle.escape.specs.declared.EscapeError.{EscapeError}
 
 -- what may stand behind a value in a name: nothing, or a plus sign or a comma and any octets
 abbrev pub ends_value : List ℕ → Bool
@@ -24,5 +25,5 @@ pub record ReadsAs (text q : List ℕ) : Type 0 where
   pub characters : (before after : List ℕ) → utf8 before ≡ true → utf8 (before ++ (q ++ after)) ≡ utf8 after
 
 -- the octets that were written
-pub record Reads (answer : Escaped) (text memory : List ℕ) : Type 0 where
-  pub written : (n : ℕ) → answer ≡ Escaped.Written n → ReadsAs text (take n memory)
+pub record Reads (answer : Result ℕ EscapeError) (text memory : List ℕ) : Type 0 where
+  pub written : (n : ℕ) → answer ≡ Ok n → ReadsAs text (take n memory)

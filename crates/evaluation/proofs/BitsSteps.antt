@@ -1,7 +1,8 @@
 -- An assertion with a rule of bits: one lemma for each return, its premises as the code has them.
 use mathlib.Core.Path.{◌≡◌, refl, sym, ap, ◌∙◌, subst}
+use mathlib.Core.Logic.{◌⊎◌, inl, inr}
 use mathlib.Core.Bool.{Bool, true, false, false≢true}
-use Rattle.std.specs.Prelude.{Option, None, Some}
+use Rattle.std.specs.Prelude.{Option, None, Some, Result, Ok}
 use mathlib.Core.List.{List, [], ◌∷◌}
 use Prim.Native.Nat.{ℕ, ◌≤◌, ◌<◌, ◌+◌}
 use native.Mathlib.Omega.{arith}
@@ -28,12 +29,12 @@ use Rattle.rules.specs.RuleFor.{comparison, if_for}
 use Rattle.rules.specs.declared.Rule.{Rule}
 use Rattle.rules.specs.Inner.Answers.{meant, read_by_target}
 use Rattle.rules.proofs.Laws.{asserted_by_names, rule_for-known}
-use Rattle.plan.specs.Inner.Test.{Test, test_of, bits_test_by, bits_test, report_bits}
+use Rattle.plan.specs.Inner.Test.{Test, bits_test_by, bits_test, report_test, report_bits}
+use Rattle.plan.specs.declared.TestNumbers.{TestNumbers}
 use Rattle.plan.specs.Inner.Task as task
 use Rattle.plan.specs.Inner.Task.{Task, task_of, passes}
 use Rattle.plan.specs.Inner.Plan.{absent_of, SameSteps}
 use Rattle.plan.specs.Inner.Resolve.{Lands}
-use Rattle.plan.specs.declared.BitsTest.{BitsTest}
 use Rattle.plan.proofs.TaskLaws.{replanned}
 use Rattle.plan.proofs.BitsAccepting.{Accepting, Agree, bits-agree, bits_no_count, bits-no_default}
 use Rattle.walk.specs.Inner.Run.{ran_to}
@@ -42,26 +43,27 @@ use Rattle.walk.specs.declared.State.{State}
 use Rattle.assertion.specs.declared.Parts.{Parts}
 use Rattle.assertion.specs.Inner.Places.{component_of, item_of}
 use Rattle.evaluation.specs.Assertion.{asked, testing, outcome_of, outcome}
-use Rattle.evaluation.specs.Inner.Work.{Ready, outcome_for, stored_outcome, target_of, leads_by, bits_any, PlannedFor, ended, charged}
-use Rattle.evaluation.specs.declared.Judged.{Judged}
+use Rattle.evaluation.specs.Inner.Work.{Ready, judged, outcome_for, stored_outcome, target_of, leads_by, bits_any, PlannedFor, ended, charged}
 use Rattle.evaluation.specs.declared.Verdict.{Verdict}
+use Rattle.evaluation.specs.declared.Judged.{Judged}
+use Rattle.evaluation.specs.declared.Fault.{Fault}
 use Rattle.evaluation.proofs.Typed.{DefaultFine, default_fine, fine_first}
 use Rattle.evaluation.proofs.Fits.{bits-tests}
 use Rattle.evaluation.proofs.Testing.{tested-ends}
 use Rattle.evaluation.proofs.ItemSteps.{asked_by, asked-none, undefined-then, some_there}
 
 -- ---- the test on what a reference leads to
-module _ (t : List ℕ) (r : Rule) (g : Target) (x : List ℕ) where
-  pub test-row : (i : ℕ) (b : BitsTest) → g ≡ Target.Row i → report_bits b ≡ bits_test (meant r) (allowed.of_type (type_at t i)) x
+module _ (t : List ℕ) (r : Rule) (g : Option Target) (x : List ℕ) where
+  pub test-row : (h : Target) (i : ℕ) (b : Option TestNumbers) → g ≡ Some h → h ≡ Target.Row i → report_bits b ≡ bits_test (meant r) (allowed.of_type (type_at t i)) x
       → report_bits b ≡ bits_any (meant r) (target_of t g) x
-  test-row i b q e = e ∙ ap (λ (y : Target). bits_any (meant r) (target_of t y) x) (sym q)
+  test-row h i b w q e = e ∙ ap (λ (y : Option Target). bits_any (meant r) (target_of t y) x) (sym (w ∙ ap Some q))
 
-  pub test-count : read_by_target (meant r) ≡ true → g ≡ Target.Count → None ≡ bits_any (meant r) (target_of t g) x
+  pub test-count : read_by_target (meant r) ≡ true → (h : Target) → g ≡ Some h → h ≡ Target.Count → None ≡ bits_any (meant r) (target_of t g) x
   unfolding bits_test
-  test-count bits q = sym (ap (λ (y : Target). bits_any (meant r) (target_of t y) x) q ∙ rw (bits_no_count (meant r) bits))
+  test-count bits h w q = sym (ap (λ (y : Option Target). bits_any (meant r) (target_of t y) x) (w ∙ ap Some q) ∙ rw (bits_no_count (meant r) bits))
 
-  pub test-nothing : g ≡ Target.No → None ≡ bits_any (meant r) (target_of t g) x
-  test-nothing q = ap (λ (y : Target). bits_any (meant r) (target_of t y) x) (sym q)
+  pub test-nothing : g ≡ None → None ≡ bits_any (meant r) (target_of t g) x
+  test-nothing q = ap (λ (y : Option Target). bits_any (meant r) (target_of t y) x) (sym q)
 
 -- ---- what is asserted there
 agree-none : (r : rule.Rule) (x : List ℕ) (o : Option Asserted) → Agree r x None o → o ≡ None
@@ -124,10 +126,10 @@ no_default t w ok r bits d a b x [] row j here one led =
         ∙ subst (λ (y : Ty). suits r (allowed.of_type y) ≡ true) f.is_basic_type s))
 
 -- where a reference leads somewhere, its identifiers are planned
-pub lands_some : (t : List ℕ) (g : Target) (h : allowed.Target) → target_of t g ≡ Some h → Lands g
-lands_some t (Target.Row i) h e = tt
-lands_some t Target.Count h e = tt
-lands_some t Target.No h e = none-some h e
+pub lands_some : (t : List ℕ) (g : Option Target) (h : allowed.Target) → target_of t g ≡ Some h → Lands g
+lands_some t (Some (Target.Row i)) h e = tt
+lands_some t (Some Target.Count) h e = tt
+lands_some t None h e = none-some h e
 
 -- the target where the test is
 abbrev pub Tested : rule.Rule → Option (List ℕ) → Ty → List ℕ → Test → Type 0
@@ -150,26 +152,26 @@ tested-there r component ty x test e = go (identifiers component) refl e
 -- ---- the returns
 module _ (t w v f : List ℕ) (p : Parts) (r : Rule) (x : List ℕ) (known : rule_of known_rules (item_of f p).rule ≡ Some (meant r))
     (bits : read_by_target (meant r) ≡ true)
-    (value : x ≡ (item_of f p).value) (g : Target) (leads : target_of t g ≡ leads_by (component_of f p.component) (type_at t 0))
-    (b : BitsTest) (told : report_bits b ≡ bits_any (meant r) (target_of t g) x) where
+    (value : x ≡ (item_of f p).value) (g : Option Target) (leads : target_of t g ≡ leads_by (component_of f p.component) (type_at t 0))
+    (b : Option TestNumbers) (told : report_bits b ≡ bits_any (meant r) (target_of t g) x) where
   pub there : report_bits b ≡ bits_any (meant r) (leads_by (component_of f p.component) (type_at t 0)) x
   there = told ∙ ap (λ (o : Option allowed.Target). bits_any (meant r) o x) leads
 
-  pub bits-undefined : (budget n : ℕ) → n ≤ budget → b ≡ BitsTest.No
-      → Judged.Of Verdict.Undefined n ≡ charged budget n (stored_outcome (type_at t 0) v (item_of f p))
+  pub bits-undefined : (budget n : ℕ) → n ≤ budget → b ≡ None
+      → Ok (judged Verdict.Undefined n) ≡ charged budget n (stored_outcome (type_at t 0) v (item_of f p))
   bits-undefined budget n within q =
       undefined-then (type_at t 0) (item_of f p) v budget n within (asked-none (type_at t 0) (item_of f p) (λ is e h a.
       rule_for-known known_rules h (item_of f p).rule (item_of f p).value (meant r) known
       ∙ ap (λ (y : List ℕ). if_for h y (meant r)) (sym value)
       ∙ asserts-none (meant r) bits h x (sym (rw (e, a) at there) ∙ ap report_bits q)))
 
-  module _ (k m : ℕ) (is : b ≡ BitsTest.Of k m) where
-    pub led-there : Tested (meant r) (component_of f p.component) (type_at t 0) x (test_of k m)
-    led-there = tested-there (meant r) (component_of f p.component) (type_at t 0) x (test_of k m) (sym there ∙ ap report_bits is)
+  module _ (test : TestNumbers) (is : b ≡ Some test) where
+    pub led-there : Tested (meant r) (component_of f p.component) (type_at t 0) x (report_test test)
+    led-there = tested-there (meant r) (component_of f p.component) (type_at t 0) x (report_test test) (sym there ∙ ap report_bits is)
 
     pub asserted-there : (suits (meant r) led-there.2 ≡ true)
-        × ((a : Asserted) × (if_for led-there.2 x (meant r) ≡ Some (comparison (meant r) a)) × Accepting (meant r) x (test_of k m) a)
-    asserted-there = asserts_some (meant r) bits led-there.2 x (test_of k m) led-there.4
+        × ((a : Asserted) × (if_for led-there.2 x (meant r) ≡ Some (comparison (meant r) a)) × Accepting (meant r) x (report_test test) a)
+    asserted-there = asserts_some (meant r) bits led-there.2 x (report_test test) led-there.4
 
     module _ (ready : Ready t w v f) (first q : List ℕ) (planned : PlannedFor t first x p.defaults (component_of f p.component) g)
         (steps : SameSteps first q) where
@@ -209,25 +211,25 @@ module _ (t w v f : List ℕ) (p : Parts) (r : Rule) (x : List ℕ) (known : rul
               asserted-there.1.1,
             )
 
-        outcome-there : testing (λ h. passes (task.testing (test_of k m) budget) x (component h)) 0
+        outcome-there : testing (λ h. passes (task.testing (report_test test) budget) x (component h)) 0
             (named p.defaults led-there.0 stored.0) ≡ stored_outcome (type_at t 0) v (item_of f p)
         unfolding stored_outcome outcome
         outcome-there =
-            bits-tests (meant r) bits x (test_of k m) asserted-there.1.0 asserted-there.1.2 budget v ready.short p.defaults led-there.0
+            bits-tests (meant r) bits x (report_test test) asserted-there.1.0 asserted-there.1.2 budget v ready.short p.defaults led-there.0
             (type_at t 0) led-there.2 stored.0 0
             (fine_first t w ready.worded ready.admits) stored.1 led-there.3 asserted-there.0
             ∙ ap (outcome_of stored.0 (item_of f p)) (sym asked-there)
             ∙ ap (λ (o : Option Value). outcome_for (type_at t 0) o (item_of f p)) (sym stored.1)
 
-        pub bits-tested : (s : State) (j : Judged) → task_of q ≡ task.testing (test_of k m) budget → Tests t q x v n s → j ≡ ended s
+        pub bits-tested : (s : State) (j : Result Judged Fault) → task_of q ≡ task.testing (report_test test) budget → Tests t q x v n s → j ≡ ended s
             → j ≡ charged budget n (stored_outcome (type_at t 0) v (item_of f p))
         unfolding Tests bits-asks ran_to
         bits-tested s j task-is told e =
             let z : s ≡ ran_to (task_of q) x n (named p.defaults led-there.0 stored.0) = told bits-asks (λ l. not_listing (sym task-is ∙ l)) in
             e
             ∙ ap ended (z ∙ ap (λ (y : Task). ran_to y x n (named p.defaults led-there.0 stored.0)) task-is)
-            ∙ tested-ends budget n (passes (task.testing (test_of k m) budget) x) (named p.defaults led-there.0 stored.0) within
+            ∙ tested-ends budget n (passes (task.testing (report_test test) budget) x) (named p.defaults led-there.0 stored.0) within
             ∙ ap (charged budget n) outcome-there
           where
-            not_listing : task.testing (test_of k m) budget ≡ task.listing → ⊥
+            not_listing : task.testing (report_test test) budget ≡ task.listing → ⊥
             not_listing l = absurd (let y : ◌≡◌ {A = ℕ} 0 1 = cc in omega arith)

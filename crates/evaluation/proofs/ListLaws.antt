@@ -1,4 +1,5 @@
 -- A list judged filter by filter, from left to right, within a budget.
+use Rattle.std.specs.Prelude.{Ok, Err}
 use mathlib.Core.Path.{◌≡◌, refl, sym, ap, ◌∙◌}
 use mathlib.Core.Bool.{Bool, true, false, false≢true}
 use Prim.Native.Nat.{ℕ, ◌≤◌, ◌<◌, ◌+◌}
@@ -9,9 +10,9 @@ use Rattle.octets.specs.Pick.{pick}
 use Rattle.filter.specs.Filter.{Join, and, or}
 use Rattle.evaluation.specs.Truth.{Truth, TRUE, FALSE, UNDEFINED, opposite}
 use Rattle.evaluation.specs.Reading.{Outcome, settled, of_none, stops, with_rest, added, and_then, inverted}
-use Rattle.evaluation.specs.Inner.Work.{verdict_of, opposed, charged, Ended, ends, over, placed, judged_if, inverse, unsure, judged_rest, goes_on, behind, is_undefined, stops_at, joined_by, none_of, at_end}
+use Rattle.evaluation.specs.Inner.Work.{verdict_of, judged, opposed, charged, Ended, ends, over, placed, judged_if, inverse, unsure, judged_rest, goes_on, behind, is_undefined, stops_at, joined_by, none_of, at_end}
 use Rattle.evaluation.specs.declared.Verdict.{Verdict}
-use Rattle.evaluation.specs.declared.Judged.{Judged}
+use Rattle.evaluation.specs.declared.Fault.{Fault}
 use Rattle.evaluation.specs.declared.Progress.{Progress}
 
 -- ---- tests made before are added
@@ -22,7 +23,7 @@ charged-shifted : (budget k n : ℕ) (o : Outcome) → charged budget k (shifted
 unfolding charged
 charged-shifted budget k n (settled t i) = let e : k + (n + i) ≡ k + n + i = omega arith in rw e
 
-charged-over : (budget n : ℕ) (o : Outcome) → budget < n → charged budget n o ≡ Judged.Over
+charged-over : (budget n : ℕ) (o : Outcome) → budget < n → charged budget n o ≡ Err Fault.Over
 unfolding charged
 charged-over budget n (settled t i) h = let l : budget < n + i = omega arith in rw (lt-leb (n + i) budget l)
 
@@ -132,14 +133,14 @@ module _ (j : Join) (budget k z : ℕ) where
       go false q false e = unsure-on t n r
 
   -- over the budget
-  over-one : (t : Truth) (n : ℕ) → budget < k + n → charged budget k (settled t n) ≡ Judged.Over
+  over-one : (t : Truth) (n : ℕ) → budget < k + n → charged budget k (settled t n) ≡ Err Fault.Over
   unfolding charged
   over-one t n h = rw (lt-leb (k + n) budget h)
 
-  over-rest : (t : Truth) (n : ℕ) (r : Outcome) → budget < k + n → charged budget k (added j t n r) ≡ Judged.Over
+  over-rest : (t : Truth) (n : ℕ) (r : Outcome) → budget < k + n → charged budget k (added j t n r) ≡ Err Fault.Over
   over-rest t n r h = ap (charged budget k) (added-onward j t n r) ∙ charged-shifted budget k n (onward j t r) ∙ charged-over budget (k + n) (onward j t r) h
 
-  over-unsure : (t : Truth) (n : ℕ) (r : Outcome) → budget < k + n → charged budget k (unsure j (added j t n r)) ≡ Judged.Over
+  over-unsure : (t : Truth) (n : ℕ) (r : Outcome) → budget < k + n → charged budget k (unsure j (added j t n r)) ≡ Err Fault.Over
   over-unsure t n r h = ap (charged budget k) (ap (unsure j) (added-onward j t n r) ∙ unsure-shifted j n (onward j t r)) ∙ charged-shifted budget k n (unsure j (onward j t r)) ∙ charged-over budget (k + n) (unsure j (onward j t r)) h
 
   plain_over : (t : Truth) (n : ℕ) (r : Outcome) → budget < k + n → placed z (charged budget k (and_then j (settled t n) r)) ≡ over
@@ -152,7 +153,7 @@ module _ (j : Join) (budget k z : ℕ) where
   unsure-over : (t : Truth) (n : ℕ) (r : Outcome) → budget < k + n → placed z (charged budget k (unsure j (and_then j (settled t n) r))) ≡ over
   unsure-over t n r h = go (stops j t)
     where
-      unsure-one : (u : Truth) → charged budget k (unsure j (settled u n)) ≡ Judged.Over
+      unsure-one : (u : Truth) → charged budget k (unsure j (settled u n)) ≡ Err Fault.Over
       unsure-one u = over-one (with_rest j UNDEFINED u) n h
 
       go : (b : Bool) → placed z (charged budget k (unsure j (pick b (settled t n) (added j t n r)))) ≡ over
@@ -168,7 +169,7 @@ first_plain : (j : Join) (budget k : ℕ) (o : Outcome) (q : ℕ) → FirstSays 
 unfolding charged
 first_plain j budget k (settled t n) q = go (leb (k + n) budget) refl
   where
-    go : (b : Bool) → leb (k + n) budget ≡ b → FirstSays j Progress.Plain budget k (settled t n) q (placed q (pick b (Judged.Of (verdict_of t) (k + n)) Judged.Over))
+    go : (b : Bool) → leb (k + n) budget ≡ b → FirstSays j Progress.Plain budget k (settled t n) q (placed q (pick b (Ok (judged (verdict_of t) (k + n))) (Err Fault.Over)))
     go true e = (refl, leb-true (k + n) budget e, λ r z. plain-first j budget k z t n r (leb-true (k + n) budget e))
     go false e = λ r z. plain_over j budget k z t n r (leb-false (k + n) budget e)
 
@@ -176,7 +177,7 @@ first-unsure : (j : Join) (budget k : ℕ) (o : Outcome) (q : ℕ) → FirstSays
 unfolding charged
 first-unsure j budget k (settled t n) q = go (leb (k + n) budget) refl
   where
-    go : (b : Bool) → leb (k + n) budget ≡ b → FirstSays j Progress.Unsure budget k (settled t n) q (placed q (pick b (Judged.Of (verdict_of t) (k + n)) Judged.Over))
+    go : (b : Bool) → leb (k + n) budget ≡ b → FirstSays j Progress.Unsure budget k (settled t n) q (placed q (pick b (Ok (judged (verdict_of t) (k + n))) (Err Fault.Over)))
     go true e = (refl, leb-true (k + n) budget e, λ r z. unsure-first j budget k z t n r (leb-true (k + n) budget e))
     go false e = λ r z. unsure-over j budget k z t n r (leb-false (k + n) budget e)
 
@@ -220,6 +221,6 @@ unfolding charged
 inverse_judged false budget n o after = refl
 inverse_judged true budget n (settled t k) after = go (leb (n + k) budget)
   where
-    go : (b : Bool) → inverse (placed after (pick b (Judged.Of (verdict_of t) (n + k)) Judged.Over)) ≡ placed after (pick b (Judged.Of (verdict_of (opposite t)) (n + k)) Judged.Over)
+    go : (b : Bool) → inverse (placed after (pick b (Ok (judged (verdict_of t) (n + k))) (Err Fault.Over))) ≡ placed after (pick b (Ok (judged (verdict_of (opposite t)) (n + k))) (Err Fault.Over))
     go true = ap (λ (u : Verdict). ends u (n + k) after) (opposed-same t)
     go false = refl

@@ -1,4 +1,5 @@
 -- The tests of a walk within a budget: how the walk ends is what `testing` says of the values that it reaches.
+use Rattle.std.specs.Prelude.{Ok, Err}
 use mathlib.Core.Path.{◌≡◌, refl, ap, ◌∙◌}
 use mathlib.Core.Bool.{Bool, true, false}
 use mathlib.Core.List.{List, [], ◌∷◌}
@@ -14,15 +15,15 @@ use Rattle.walk.specs.declared.State.{State}
 use Rattle.evaluation.specs.Truth.{Truth, TRUE, FALSE}
 use Rattle.evaluation.specs.Reading.{settled}
 use Rattle.evaluation.specs.Assertion.{testing}
-use Rattle.evaluation.specs.Inner.Work.{verdict_of, ended, charged}
-use Rattle.evaluation.specs.declared.Judged.{Judged}
+use Rattle.evaluation.specs.Inner.Work.{verdict_of, judged, ended, charged}
+use Rattle.evaluation.specs.declared.Fault.{Fault}
 
 module _ (budget n : ℕ) where
-  within-budget : (t : Truth) (k : ℕ) → n + k ≤ budget → Judged.Of (verdict_of t) (n + k) ≡ charged budget n (settled t k)
+  within-budget : (t : Truth) (k : ℕ) → n + k ≤ budget → Ok (judged (verdict_of t) (n + k)) ≡ charged budget n (settled t k)
   unfolding charged
   within-budget t k h = rw (le-leb (n + k) budget h)
 
-  over-budget : (t : Truth) (k : ℕ) → budget < n + k → Judged.Over ≡ charged budget n (settled t k)
+  over-budget : (t : Truth) (k : ℕ) → budget < n + k → Err Fault.Over ≡ charged budget n (settled t k)
   unfolding charged
   over-budget t k h = rw (lt-leb (n + k) budget h)
 
@@ -32,12 +33,12 @@ module _ (budget n : ℕ) where
     held h = f (component h)
 
     -- more tests than the budget
-    testing-over : (k : ℕ) (hs : List Held) → budget < n + k → Judged.Over ≡ charged budget n (testing held k hs)
+    testing-over : (k : ℕ) (hs : List Held) → budget < n + k → Err Fault.Over ≡ charged budget n (testing held k hs)
     unfolding testing
     testing-over k [] h = over-budget FALSE k h
     testing-over k (x ∷ hs) h = go (held x) (testing-over (k + 1) hs (omega arith))
       where
-        go : (b : Bool) → Judged.Over ≡ charged budget n (testing held (k + 1) hs) → Judged.Over ≡ charged budget n (pick b (settled TRUE (k + 1)) (testing held (k + 1) hs))
+        go : (b : Bool) → Err Fault.Over ≡ charged budget n (testing held (k + 1) hs) → Err Fault.Over ≡ charged budget n (pick b (settled TRUE (k + 1)) (testing held (k + 1) hs))
         go true e = over-budget TRUE (k + 1) (omega arith)
         go false e = e
 
@@ -52,7 +53,7 @@ module _ (budget n : ℕ) where
 
         go : (u : Bool) → ltb (n + k) budget ≡ u → (b : Bool) → (n + (k + 1) ≤ budget → ended (tested_to budget f (n + k + 1) hs) ≡ charged budget n (testing held (k + 1) hs))
             → ended (pick u (pick b (State.Accepted (n + k + 1)) (tested_to budget f (n + k + 1) hs)) State.Over) ≡ charged budget n (pick b (settled TRUE (k + 1)) (testing held (k + 1) hs))
-        go true q true e = ap (λ (y : ℕ). Judged.Of (verdict_of TRUE) y) more ∙ within-budget TRUE (k + 1) (let l = ltb-true (n + k) budget q in omega arith)
+        go true q true e = ap (λ (y : ℕ). Ok (judged (verdict_of TRUE) y)) more ∙ within-budget TRUE (k + 1) (let l = ltb-true (n + k) budget q in omega arith)
         go true q false e = e (let l = ltb-true (n + k) budget q in omega arith)
         go false q true e = over-budget TRUE (k + 1) (let l = ltb-false (n + k) budget q in omega arith)
         go false q false e = testing-over (k + 1) hs (let l = ltb-false (n + k) budget q in omega arith)

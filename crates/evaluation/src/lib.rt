@@ -12,6 +12,7 @@ ghost use Rattle.rules.specs.Rule.{rule_of, known_rules};
 ghost use Rattle.rules.specs.Inner.Answers.{meant, read_by_target, conforms};
 ghost use Rattle.plan.specs.Inner.Test.{report_bits};
 ghost use Rattle.plan.specs.Inner.Task.{task_of};
+ghost use Rattle.plan.specs.Inner.Operand as operands;
 ghost use Rattle.plan.specs.Inner.Operand.{operand_of};
 ghost use Rattle.assertion.specs.Assertion.{assertion_at};
 ghost use Rattle.assertion.specs.Inner.Places.{component_of, item_of};
@@ -21,11 +22,11 @@ ghost use Rattle.filter.specs.Paper.{filter_limits};
 ghost use Rattle.filter.specs.Inner.Answers.{filters_at, report_join};
 ghost use Rattle.evaluation.specs.Inner.Work as work;
 
-use assertion::{Assertion, Component, Parts};
+use assertion::{Parts, Quotes};
 use filter::{Filter, Head, Join, Tail};
-use plan::BitsTest;
+use plan::TestNumbers;
 use reference::Target;
-use rules::{Named, Rule};
+use rules::Rule;
 use walk::State;
 
 #[derive(Clone, Copy)]
@@ -35,27 +36,34 @@ pub enum Verdict {
     Undefined,
 }
 
-// A truth after so many tests; or more tests than the budget.
+// A truth, and the tests made when it is found.
 #[derive(Clone, Copy)]
-pub enum Judged {
-    Of(Verdict, usize),
-    Over,
+pub struct Judged {
+    pub verdict: Verdict,
+    pub tests: usize,
 }
 
-// The same with the place after the filter and the items left of those allowed; or a text that is no filter within the limits.
-#[derive(Clone, Copy)]
-pub enum Judging {
-    At(Verdict, usize, usize, usize),
-    Over,
-    Bad,
+impl Judged {
+    fn of(verdict: Verdict, tests: usize) -> Self
+        ensures { result ≡ work.judged verdict tests }
+    {
+        Self { verdict, tests }
+    }
 }
 
-// The filter of a whole text: a truth after so many tests; more tests than the budget; or a text that is no filter.
-#[derive(Clone, Copy)]
-pub enum Evaluated {
-    Of(Verdict, usize),
+// Why there is no truth: more tests are needed than the budget allows, or the text is no filter within the limits.
+#[derive(Clone, Copy, Debug, PartialEq, Eq)]
+pub enum Fault {
     Over,
     Malformed,
+}
+
+// A filter where it stands in a text: its truth with the tests made, the place after it, and the items left of those allowed.
+#[derive(Clone, Copy)]
+pub struct Judging {
+    pub judged: Judged,
+    pub after: usize,
+    pub items: usize,
 }
 
 // What is left at a place of a filter text: the depth and the items; and whether what stands there is judged or passed over.
@@ -73,13 +81,6 @@ pub struct Tests {
     pub budget: usize,
 }
 
-// One filter of a list: the list so far, the tests made, the next one's place and the items left; or the list's end.
-#[derive(Clone, Copy)]
-pub enum Turn {
-    Goes(Progress, usize, usize, usize),
-    Ends(Judging),
-}
-
 // The filters of a list so far: none stopped it nor was Undefined; none stopped it and one was Undefined; one stopped it; or the list is passed over.
 #[derive(Clone, Copy)]
 pub enum Progress {
@@ -91,29 +92,39 @@ pub enum Progress {
 
 // ---- one assertion
 // Whether a rule is for what a reference leads to.
-fn suits_target(rule: Rule, t: &[u8], w: &[u64; 256], target: Target) -> bool
+fn suits_target(rule: Rule, t: &[u8], w: &[u64; 256], target: Option<Target>) -> bool
     requires worded { Worded t.now w.now }
     requires here { reference.row_within (table_rows t.now) target ≡ true }
     ensures { result ≡ work.suits_any (meant rule) (work.target_of t.now target) }
 {
+    let Some(target) = target else {
+        return false;
+    };
     match target {
         Target::Row(i) => rules::suits(rule, t, w, i),
         Target::Count => rules::suits_count(rule),
-        Target::No => false,
     }
 }
 
 // The test of a rule of bits with a value text on what a reference leads to.
-fn bits_test(rule: Rule, t: &[u8], w: &[u64; 256], target: Target, x: &[u8]) -> BitsTest
+fn bits_test(
+    rule: Rule,
+    t: &[u8],
+    w: &[u64; 256],
+    target: Option<Target>,
+    x: &[u8],
+) -> Option<TestNumbers>
     requires worded { Worded t.now w.now }
     requires here { reference.row_within (table_rows t.now) target ≡ true }
     requires bits { read_by_target (meant rule) ≡ true }
     ensures { report_bits result ≡ work.bits_any (meant rule) (work.target_of t.now target) x.now }
 {
+    let Some(target) = target else {
+        return None;
+    };
     match target {
         Target::Row(i) => plan::bits_test_at(rule, t, w, i, x),
-        Target::Count => BitsTest::No,
-        Target::No => BitsTest::No,
+        Target::Count => None,
     }
 }
 
@@ -123,36 +134,34 @@ fn resolve_component(
     w: &[u64; 256],
     q: &mut [usize; 72],
     f: &[u8],
-    component: Component,
+    component: Option<Quotes>,
     x: &[u8],
     defaults: bool,
-) -> Target
+) -> Option<Target>
     requires worded { Worded t.now w.now }
     requires admitted { admitted table_limits t.now ≡ true }
-    requires room { length q.old ≡ 72 }
     ensures leads { work.target_of t.now result ≡ work.leads_by (component_of f.now component) (type_at t.now 0) }
     ensures within { reference.row_within (table_rows t.now) result ≡ true }
     ensures planned { work.PlannedFor t.now q.new x.now defaults (component_of f.now component) result }
     ensures task { task_of q.new ≡ task_of q.old }
-    ensures room { length q.new ≡ 72 }
 {
     match component {
-        Component::Missing => plan::resolve(t, w, q, false, f, x, defaults),
-        Component::Quoted(a, b) => {
-            let r = assertion::within_quotes(f, a, b);
+        None => plan::resolve(t, w, q, false, f, x, defaults),
+        Some(quotes) => {
+            let r = assertion::within_quotes(f, quotes.open, quotes.close);
             plan::resolve(t, w, q, true, r, x, defaults)
         }
     }
 }
 
 // What the end of a walk says of an assertion.
-fn ended(state: State) -> Judged
+fn ended(state: State) -> Result<Judged, Fault>
     ensures { result ≡ work.ended state }
 {
     match state {
-        State::Going(k) => Judged::Of(Verdict::False, k),
-        State::Accepted(k) => Judged::Of(Verdict::True, k),
-        State::Over => Judged::Over,
+        State::Going(k) => Ok(Judged::of(Verdict::False, k)),
+        State::Accepted(k) => Ok(Judged::of(Verdict::True, k)),
+        State::Over => Err(Fault::Over),
     }
 }
 
@@ -166,7 +175,7 @@ fn judge_operand(
     rule: Rule,
     x: &[u8],
     tests: Tests,
-) -> Judged
+) -> Result<Judged, Fault>
     requires ready { work.Ready t.now w.now v.now f.now }
     requires known { rule_of known_rules (item_of f.now p).rule ≡ Some (meant rule) }
     requires plain { read_by_target (meant rule) ≡ false }
@@ -181,9 +190,38 @@ fn judge_operand(
     let component = p.component;
     let target = resolve_component(t, w, &mut q, f, component, x, p.defaults);
     if !suits_target(rule, t, w, target) {
-        return Judged::Of(Verdict::Undefined, tests.made);
+        return Ok(Judged::of(Verdict::Undefined, tests.made));
     }
     ended(walk::test(t, w, &q, v, x, tests.made))
+}
+
+// An assertion whose operand doesn't stand in the text: it is written here, from the part of the value text that it is made of. Apart from others, since a call
+// clears the memory.
+fn judge_written(
+    t: &[u8],
+    w: &[u64; 256],
+    v: &[u8],
+    f: &[u8],
+    p: Parts,
+    rule: Rule,
+    part: &[u8],
+    tests: Tests,
+) -> Result<Judged, Fault>
+    requires ready { work.Ready t.now w.now v.now f.now }
+    requires known { rule_of known_rules (item_of f.now p).rule ≡ Some (meant rule) }
+    requires plain { read_by_target (meant rule) ≡ false }
+    requires conforming { conforms (meant rule) (item_of f.now p).value ≡ true }
+    requires part { operands.Part (meant rule) (item_of f.now p).value part.now }
+    requires short { length part.now ≤ 2048 }
+    requires other { operands.stands (meant rule) part.now ≡ false }
+    requires within { tests.made ≤ tests.budget }
+    ensures { result
+        ≡ work.charged tests.budget tests.made (work.stored_outcome (type_at t.now 0) v.now (item_of f.now p)) }
+{
+    let text = octets::between(f, p.value, p.value_end);
+    let mut memory = [0u8; 5120];
+    let n = plan::write_operand(rule, text, part, &mut memory);
+    judge_operand(t, w, v, f, p, rule, octets::part(&memory, 0, n), tests)
 }
 
 // An assertion with a rule and a value text that conforms: its operand is made here, in memory where it doesn't stand in the text.
@@ -196,7 +234,7 @@ fn judge_conforming(
     rule: Rule,
     text: &[u8],
     tests: Tests,
-) -> Judged
+) -> Result<Judged, Fault>
     requires ready { work.Ready t.now w.now v.now f.now }
     requires known { rule_of known_rules (item_of f.now p).rule ≡ Some (meant rule) }
     requires plain { read_by_target (meant rule) ≡ false }
@@ -210,9 +248,7 @@ fn judge_conforming(
     if plan::is_operand(rule, part) {
         return judge_operand(t, w, v, f, p, rule, part, tests);
     }
-    let mut memory = [0u8; 5120];
-    let n = plan::write_operand(rule, text, part, &mut memory);
-    judge_operand(t, w, v, f, p, rule, octets::part(&memory, 0, n), tests)
+    judge_written(t, w, v, f, p, rule, part, tests)
 }
 
 // An assertion with a rule of bits: its value text is read by what the reference leads to, where bits may have names.
@@ -225,7 +261,7 @@ fn judge_bits(
     rule: Rule,
     text: &[u8],
     tests: Tests,
-) -> Judged
+) -> Result<Judged, Fault>
     requires ready { work.Ready t.now w.now v.now f.now }
     requires known { rule_of known_rules (item_of f.now p).rule ≡ Some (meant rule) }
     requires bits { read_by_target (meant rule) ≡ true }
@@ -237,10 +273,10 @@ fn judge_bits(
     let mut q = [0usize; 72];
     let component = p.component;
     let target = resolve_component(t, w, &mut q, f, component, text, p.defaults);
-    let BitsTest::Of(comparison, number) = bits_test(rule, t, w, target, text) else {
-        return Judged::Of(Verdict::Undefined, tests.made);
+    let Some(test) = bits_test(rule, t, w, target, text) else {
+        return Ok(Judged::of(Verdict::Undefined, tests.made));
     };
-    plan::set_test(&mut q, comparison, number, tests.budget);
+    plan::set_test(&mut q, test, tests.budget);
     ended(walk::test(t, w, &q, v, text, tests.made))
 }
 
@@ -253,7 +289,7 @@ fn judge_ruled(
     p: Parts,
     rule: Rule,
     tests: Tests,
-) -> Judged
+) -> Result<Judged, Fault>
     requires ready { work.Ready t.now w.now v.now f.now }
     requires known { rule_of known_rules (item_of f.now p).rule ≡ Some (meant rule) }
     requires within { tests.made ≤ tests.budget }
@@ -265,34 +301,32 @@ fn judge_ruled(
         return judge_bits(t, w, v, f, p, rule, text, tests);
     }
     if !rules::conforms(rule, text) {
-        return Judged::Of(Verdict::Undefined, tests.made);
+        return Ok(Judged::of(Verdict::Undefined, tests.made));
     }
     judge_conforming(t, w, v, f, p, rule, text, tests)
 }
 
 // An assertion of the filter text f by the places of its parts.
-fn judge_parts(t: &[u8], w: &[u64; 256], v: &[u8], f: &[u8], p: Parts, tests: Tests) -> Judged
+fn judge_parts(
+    t: &[u8],
+    w: &[u64; 256],
+    v: &[u8],
+    f: &[u8],
+    p: Parts,
+    tests: Tests,
+) -> Result<Judged, Fault>
     requires ready { work.Ready t.now w.now v.now f.now }
     requires within { tests.made ≤ tests.budget }
     ensures { result
         ≡ work.charged tests.budget tests.made (work.stored_outcome (type_at t.now 0) v.now (item_of f.now p)) }
 {
-    let Named::Known(rule) = rules::rule_of(octets::between(f, p.rule, p.rule_end)) else {
-        return Judged::Of(Verdict::Undefined, tests.made);
+    let Some(rule) = rules::rule_of(octets::between(f, p.rule, p.rule_end)) else {
+        return Ok(Judged::of(Verdict::Undefined, tests.made));
     };
     judge_ruled(t, w, v, f, p, rule, tests)
 }
 
 // ---- truths
-fn placed(w: Judged, after: usize, left: usize) -> Judging
-    ensures { result ≡ work.placed_at after left w }
-{
-    match w {
-        Judged::Of(u, k) => Judging::At(u, k, after, left),
-        Judged::Over => Judging::Over,
-    }
-}
-
 fn opposite(u: Verdict) -> Verdict
     ensures { result ≡ work.opposed u }
 {
@@ -303,14 +337,12 @@ fn opposite(u: Verdict) -> Verdict
     }
 }
 
-fn inverted(w: Judging) -> Judging
-    ensures { result ≡ work.inverse_of w }
+// A filter under `not:`, by the filter there.
+fn inverted(inner: Judging) -> Judging
+    ensures { result ≡ work.inverse_of inner }
 {
-    match w {
-        Judging::At(u, k, after, left) => Judging::At(opposite(u), k, after, left),
-        Judging::Over => Judging::Over,
-        Judging::Bad => Judging::Bad,
-    }
+    let judged = Judged::of(opposite(inner.judged.verdict), inner.judged.tests);
+    Judging { judged, ..inner }
 }
 
 // ---- the filters of a list
@@ -328,12 +360,7 @@ fn begin(live: bool) -> Progress
 fn goes_on(p: Progress) -> bool
     ensures { result ≡ work.goes_on p }
 {
-    match p {
-        Progress::Plain => true,
-        Progress::Unsure => true,
-        Progress::Stopped => false,
-        Progress::Passed => false,
-    }
+    matches!(p, Progress::Plain | Progress::Unsure)
 }
 
 // A list behind a filter that did not stop it.
@@ -349,11 +376,7 @@ fn behind(p: Progress, undefined: bool) -> Progress
 fn is_false(u: Verdict) -> bool
     ensures { result ≡ work.is_falsity u }
 {
-    match u {
-        Verdict::True => false,
-        Verdict::False => true,
-        Verdict::Undefined => false,
-    }
+    matches!(u, Verdict::False)
 }
 
 // Whether a list stops at a filter of this truth.
@@ -369,11 +392,7 @@ fn stops(join: Join, u: Verdict) -> bool
 fn is_undefined(u: Verdict) -> bool
     ensures { result ≡ work.is_undefined u }
 {
-    match u {
-        Verdict::True => false,
-        Verdict::False => false,
-        Verdict::Undefined => true,
-    }
+    matches!(u, Verdict::Undefined)
 }
 
 // A list with one filter more.
@@ -421,52 +440,45 @@ fn judge_assertion(
     at: usize,
     left: Left,
     tests: Tests,
-) -> Judging
+) -> Result<Judging, Fault>
     requires ready { work.Ready t.now w.now v.now f.now }
     requires within { tests.made ≤ tests.budget }
     ensures { work.Judges (work.stored_outcome (type_at t.now 0) v.now) 1 left.items left.live
         tests.budget tests.made (parsing.made item (assertion_at f.now at)) result }
 {
     if left.items == 0 {
-        return Judging::Bad;
+        return Err(Fault::Malformed);
     }
-    let Assertion::Good(parts) = assertion::read_assertion(f, at) else {
-        return Judging::Bad;
+    let Some(parts) = assertion::read_assertion(f, at) else {
+        return Err(Fault::Malformed);
     };
     let after = parts.after;
     let items = left.items - 1;
     if !left.live {
-        return Judging::At(Verdict::Undefined, tests.made, after, items);
+        let judged = Judged::of(Verdict::Undefined, tests.made);
+        return Ok(Judging {
+            judged,
+            after,
+            items,
+        });
     }
-    placed(judge_parts(t, w, v, f, parts, tests), after, items)
+    let judged = judge_parts(t, w, v, f, parts, tests)?;
+    Ok(Judging {
+        judged,
+        after,
+        items,
+    })
 }
 
-// An empty list.
-fn empty_list(join: Join, live: bool, n: usize, after: usize, left: usize) -> Judging
-    ensures { result ≡ Judging.At (work.at_end (report_join join) (work.begun live)) n after left }
+// A list that ends before a place, with so many tests made and so many items left.
+fn list_end(join: Join, progress: Progress, tests: usize, after: usize, items: usize) -> Judging
+    ensures { result ≡ work.judging (work.at_end (report_join join) progress) tests after items }
 {
-    Judging::At(at_end(join, begin(live)), n, after, left)
-}
-
-// What follows a filter of a list that ends before q, after k tests; p is the list so far.
-fn follow(f: &[u8], join: Join, p: Progress, k: usize, q: usize, left: usize) -> Turn
-    ensures { result ≡ work.turned_by (report_join join) p k left (parsing.tail_at f.now q) }
-{
-    match filter::read_tail(f, q) {
-        Tail::Another(a) => Turn::Goes(p, k, a, left),
-        Tail::Closed(a) => Turn::Ends(Judging::At(at_end(join, p), k, a, left)),
-        Tail::NoTail => Turn::Ends(Judging::Bad),
-    }
-}
-
-// What follows a filter of a list that was judged; p is the list before it.
-fn next_turn(f: &[u8], join: Join, p: Progress, w: Judging) -> Turn
-    ensures { result ≡ work.turned f.now (report_join join) p w }
-{
-    match w {
-        Judging::At(u, k, q, left) => follow(f, join, joined(join, p, u), k, q, left),
-        Judging::Over => Turn::Ends(Judging::Over),
-        Judging::Bad => Turn::Ends(Judging::Bad),
+    let judged = Judged::of(at_end(join, progress), tests);
+    Judging {
+        judged,
+        after,
+        items,
     }
 }
 
@@ -480,7 +492,7 @@ fn judge_filter(
     at: usize,
     left: Left,
     tests: Tests,
-) -> Judging
+) -> Result<Judging, Fault>
     requires ready { work.Ready t.now w.now v.now f.now }
     requires within { tests.made ≤ tests.budget }
     ensures { work.Judges (work.stored_outcome (type_at t.now 0) v.now) left.depth left.items left.live
@@ -489,7 +501,7 @@ fn judge_filter(
     let items = left.items;
     let live = left.live;
     if left.depth == 0 {
-        return Judging::Bad;
+        return Err(Fault::Malformed);
     }
     let inner = Left {
         depth: left.depth - 1,
@@ -497,11 +509,14 @@ fn judge_filter(
         live,
     };
     match filter::read_head(f, at) {
-        Head::Assertion(p) => judge_assertion(t, w, v, f, p, inner, tests),
-        Head::EmptyList(join, p) => empty_list(join, live, tests.made, p, items),
-        Head::OpenList(join, p) => judge_list(t, w, v, f, p, inner, join, tests),
-        Head::Negation(p) => inverted(judge_filter(t, w, v, f, p, inner, tests)),
-        Head::NoHead => Judging::Bad,
+        Some(Head::Assertion(p)) => judge_assertion(t, w, v, f, p, inner, tests),
+        Some(Head::EmptyList(join, p)) => Ok(list_end(join, begin(live), tests.made, p, items)),
+        Some(Head::OpenList(join, p)) => judge_list(t, w, v, f, p, inner, join, tests),
+        Some(Head::Negation(p)) => {
+            let under = judge_filter(t, w, v, f, p, inner, tests)?;
+            Ok(inverted(under))
+        }
+        None => Err(Fault::Malformed),
     }
 }
 
@@ -516,7 +531,7 @@ fn judge_list(
     left: Left,
     join: Join,
     tests: Tests,
-) -> Judging
+) -> Result<Judging, Fault>
     requires ready { work.Ready t.now w.now v.now f.now }
     requires within { tests.made ≤ tests.budget }
     ensures { work.JudgesIn (work.stored_outcome (type_at t.now 0) v.now) (report_join join) (work.begun left.live)
@@ -524,47 +539,42 @@ fn judge_list(
 {
     let depth = left.depth;
     let budget = tests.budget;
-    let mut i = at;
+    let mut place = at;
     let mut items = left.items;
     let mut made = tests.made;
-    let mut p = begin(left.live);
+    let mut progress = begin(left.live);
+    // A cursor: each filter says where the next one starts.
     loop {
-        let live = goes_on(p);
+        let live = goes_on(progress);
         let here = Left { depth, items, live };
-        let first = judge_filter(t, w, v, f, i, here, Tests { made, budget });
-        match next_turn(f, join, p, first) {
-            Turn::Goes(next, k, a, rest) => {
-                p = next;
-                made = k;
-                i = a;
-                items = rest;
-            }
-            Turn::Ends(end) => return end,
+        let first = judge_filter(t, w, v, f, place, here, Tests { made, budget })?;
+        progress = joined(join, progress, first.judged.verdict);
+        made = first.judged.tests;
+        items = first.items;
+        match filter::read_tail(f, first.after) {
+            Some(Tail::Another(next)) => place = next,
+            Some(Tail::Closed(after)) => return Ok(list_end(join, progress, made, after, items)),
+            None => return Err(Fault::Malformed),
         }
     }
 }
 
 // The filter of a whole text.
-pub fn judge(t: &[u8], w: &[u64; 256], v: &[u8], f: &[u8], budget: usize) -> Evaluated
+pub fn judge(t: &[u8], w: &[u64; 256], v: &[u8], f: &[u8], budget: usize) -> Result<Judged, Fault>
     requires ready { work.Ready t.now w.now v.now f.now }
     ensures { work.Evaluates (work.stored_outcome (type_at t.now 0) v.now) budget (parsing.parse filter_limits f.now) result }
 {
     if !octets::utf8(f) {
-        return Evaluated::Malformed;
+        return Err(Fault::Malformed);
     }
     let left = Left {
         depth: Filter::MAX_DEPTH,
         items: Filter::MAX_ITEMS,
         live: true,
     };
-    match judge_filter(t, w, v, f, 0, left, Tests { made: 0, budget }) {
-        Judging::At(u, k, after, _) => {
-            if after != f.len() {
-                return Evaluated::Malformed;
-            }
-            Evaluated::Of(u, k)
-        }
-        Judging::Over => Evaluated::Over,
-        Judging::Bad => Evaluated::Malformed,
+    let whole = judge_filter(t, w, v, f, 0, left, Tests { made: 0, budget })?;
+    if whole.after != f.len() {
+        return Err(Fault::Malformed);
     }
+    Ok(whole.judged)
 }

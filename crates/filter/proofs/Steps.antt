@@ -12,13 +12,9 @@ use Rattle.octets.specs.Pick.{pick, both, bind}
 use Rattle.octets.specs.Octets.{octet, bytes}
 use Rattle.octets.specs.Text.{skip}
 use Rattle.octets.specs.Utf8.{utf8}
-use Rattle.octets.specs.Inner.Answers.{report_place}
-use Rattle.octets.specs.declared.Place.{Place}
-use Rattle.octets.proofs.Laws.{octet-past}
 use Rattle.assertion.specs.Spaces.{mark_at}
 use Rattle.assertion.specs.Assertion.{Read, assertion_at}
 use Rattle.assertion.specs.Inner.Places.{word_at, report_assertion}
-use Rattle.assertion.specs.declared.Assertion.{Assertion}
 use Rattle.assertion.specs.declared.Parts.{Parts}
 use Rattle.assertion.proofs.Laws.{at_place, at_none, word_there, word_not}
 use Rattle.filter.specs.Filter as filter
@@ -27,122 +23,112 @@ use Rattle.filter.specs.Parse.{in_braces, head_at, tail_at, made, by_tail, filte
 use Rattle.filter.specs.Inner.Answers.{filters_at}
 use Rattle.filter.specs.Limits.{Limits}
 use Rattle.filter.specs.Paper.{filter_limits}
-use Rattle.filter.specs.Inner.Answers.{report_join, report_head, report_tail, bounded, bounded_in, items_of}
+use Rattle.filter.specs.Inner.Answers.{report_join, report_head, report_tail, rest_of, bounded, bounded_in, items_of}
 use Rattle.filter.proofs.Progress.{TailOn, tail_on}
 use Rattle.filter.proofs.Laws.{filters_step, filter-further, filter-by, filters_by}
 use Rattle.filter.proofs.Bounds.{bounded-none, bounded_item, bounded-empty, bounded-list, bounded-negation, bounded_of, bad-first, bounded-more, bounded-last}
 use Rattle.filter.specs.declared.Join.{Join}
 use Rattle.filter.specs.declared.Head.{Head}
 use Rattle.filter.specs.declared.Tail.{Tail}
-use Rattle.filter.specs.declared.Span.{Span}
+use Rattle.filter.specs.declared.Rest.{Rest}
 
 -- ---- heads
-past_not : (s : List ℕ) (p : ℕ) → length s ≤ p → octet s p ≡ 125 → ⊥
-past_not s p h e = let z : 0 ≡ octet s p = octet-past s p h in omega arith
-
-module _ (s : List ℕ) (at : ℕ) (j : Join) (r : Place) (e : report_place r ≡ mark_at 123 s at) where
-  pub list-none : r ≡ Place.Nowhere → no_head ≡ in_braces s (report_join j) (mark_at 123 s at)
+module _ (s : List ℕ) (at : ℕ) (j : Join) (r : Option ℕ) (e : r ≡ mark_at 123 s at) where
+  pub list-none : r ≡ None → no_head ≡ in_braces s (report_join j) (mark_at 123 s at)
   list-none q = rw (at_none r e q)
 
-  module _ (p : ℕ) (q : r ≡ Place.At p) where
-    pub list-past : length s ≤ p → open_list (report_join j) p ≡ in_braces s (report_join j) (mark_at 123 s at)
-    list-past h = rw (at_place r e p q, ne_eqb _ _ (past_not s p h))
+  module _ (p o : ℕ) (q : r ≡ Some p) (read : o ≡ octet s p) where
+    pub list-opens : (o ≡ 125 → ⊥) → open_list (report_join j) p ≡ in_braces s (report_join j) (mark_at 123 s at)
+    list-opens n = rw (at_place r e p q, ← read, ne_eqb _ _ n)
 
-    pub list-opens : (octet s p ≡ 125 → ⊥) → open_list (report_join j) p ≡ in_braces s (report_join j) (mark_at 123 s at)
-    list-opens n = rw (at_place r e p q, ne_eqb _ _ n)
+    pub list_closes : o ≡ 125 → empty_list (report_join j) (p + 1) ≡ in_braces s (report_join j) (mark_at 123 s at)
+    list_closes n = rw (at_place r e p q, ← read, eq-eqb _ _ n)
 
-    pub list_closes : octet s p ≡ 125 → empty_list (report_join j) (p + 1) ≡ in_braces s (report_join j) (mark_at 123 s at)
-    list_closes n = rw (at_place r e p q, eq-eqb _ _ n)
-
-module _ (s : List ℕ) (at : ℕ) (a : Place) (ea : report_place a ≡ word_at (bytes "item:") s at) where
-  pub head_item : (p : ℕ) → a ≡ Place.At p → assertion p ≡ head_at s at
+module _ (s : List ℕ) (at : ℕ) (a : Option ℕ) (ea : a ≡ word_at (bytes "item:") s at) where
+  pub head_item : (p : ℕ) → a ≡ Some p → assertion p ≡ head_at s at
   unfolding head_at
   head_item p q = let z = word_there (bytes "item:") s at a ea p q in rw (z.0, z.1)
 
-  module _ (na : a ≡ Place.Nowhere) (b : Place) (eb : report_place b ≡ word_at (bytes "and:") s at) where
-    pub head_and : (p : ℕ) (h : Head) → b ≡ Place.At p → report_head h ≡ in_braces s filter.and (mark_at 123 s p) → report_head h ≡ head_at s at
+  module _ (na : a ≡ None) (b : Option ℕ) (eb : b ≡ word_at (bytes "and:") s at) where
+    pub head_and : (p : ℕ) (h : Option Head) → b ≡ Some p → report_head h ≡ in_braces s filter.and (mark_at 123 s p) → report_head h ≡ head_at s at
     unfolding head_at
     head_and p h q f = let z = word_there (bytes "and:") s at b eb p q in rw (word_not (bytes "item:") s at a ea na, z.0, z.1) f
 
-    module _ (nb : b ≡ Place.Nowhere) (c : Place) (ec : report_place c ≡ word_at (bytes "or:") s at) where
-      pub head-or : (p : ℕ) (h : Head) → c ≡ Place.At p → report_head h ≡ in_braces s filter.or (mark_at 123 s p) → report_head h ≡ head_at s at
+    module _ (nb : b ≡ None) (c : Option ℕ) (ec : c ≡ word_at (bytes "or:") s at) where
+      pub head-or : (p : ℕ) (h : Option Head) → c ≡ Some p → report_head h ≡ in_braces s filter.or (mark_at 123 s p) → report_head h ≡ head_at s at
       unfolding head_at
       head-or p h q f =
           let z = word_there (bytes "or:") s at c ec p q in
           rw (word_not (bytes "item:") s at a ea na, word_not (bytes "and:") s at b eb nb, z.0, z.1) f
 
-      module _ (nc : c ≡ Place.Nowhere) (d : Place) (ed : report_place d ≡ word_at (bytes "not:") s at) where
-        pub head_not : (p : ℕ) → d ≡ Place.At p → negation p ≡ head_at s at
+      module _ (nc : c ≡ None) (d : Option ℕ) (ed : d ≡ word_at (bytes "not:") s at) where
+        pub head_not : (p : ℕ) → d ≡ Some p → negation p ≡ head_at s at
         unfolding head_at
         head_not p q =
             let z = word_there (bytes "not:") s at d ed p q in
             rw (word_not (bytes "item:") s at a ea na, word_not (bytes "and:") s at b eb nb, word_not (bytes "or:") s at c ec nc, z.0, z.1)
 
-        pub head_none : d ≡ Place.Nowhere → no_head ≡ head_at s at
+        pub head_none : d ≡ None → no_head ≡ head_at s at
         unfolding head_at
         head_none q = rw (word_not (bytes "item:") s at a ea na, word_not (bytes "and:") s at b eb nb, word_not (bytes "or:") s at c ec nc, word_not (bytes "not:") s at d ed q)
 
 -- ---- tails
-module _ (s : List ℕ) (at : ℕ) (r : Place) (e : report_place r ≡ mark_at 44 s at) where
-  pub tail_another : (p : ℕ) → r ≡ Place.At p → another p ≡ tail_at s at
+module _ (s : List ℕ) (at : ℕ) (r : Option ℕ) (e : r ≡ mark_at 44 s at) where
+  pub tail_another : (p : ℕ) → r ≡ Some p → another p ≡ tail_at s at
   unfolding tail_at
   tail_another p q = rw (at_place r e p q)
 
-  module _ (q : r ≡ Place.Nowhere) (p : ℕ) (f : p ≡ skip s at) where
-    pub tail_past : length s ≤ p → no_tail ≡ tail_at s at
+  module _ (q : r ≡ None) (p o : ℕ) (f : p ≡ skip s at) (read : o ≡ octet s p) where
+    pub tail_other : (o ≡ 125 → ⊥) → no_tail ≡ tail_at s at
     unfolding tail_at
-    tail_past h = rw (at_none r e q, ← f, ne_eqb _ _ (past_not s p h))
+    tail_other n = rw (at_none r e q, ← f, ← read, ne_eqb _ _ n)
 
-    pub tail_other : (octet s p ≡ 125 → ⊥) → no_tail ≡ tail_at s at
+    pub tail_closed : o ≡ 125 → closed (p + 1) ≡ tail_at s at
     unfolding tail_at
-    tail_other n = rw (at_none r e q, ← f, ne_eqb _ _ n)
-
-    pub tail_closed : octet s p ≡ 125 → closed (p + 1) ≡ tail_at s at
-    unfolding tail_at
-    tail_closed n = rw (at_none r e q, ← f, eq-eqb _ _ n)
+    tail_closed n = rw (at_none r e q, ← f, ← read, eq-eqb _ _ n)
 
 -- ---- items
-pub item_full : (s : List ℕ) (at room : ℕ) → room ≡ 0 → Span.Bad ≡ bounded 1 room (made item (assertion_at s at))
+pub item_full : (s : List ℕ) (at room : ℕ) → room ≡ 0 → None ≡ bounded 1 room (made item (assertion_at s at))
 unfolding bounded depth items
 item_full s at room e = go (assertion_at s at)
   where
-    go : (x : Option (Read filter.Item)) → Span.Bad ≡ bounded 1 room (made item x)
+    go : (x : Option (Read filter.Item)) → None ≡ bounded 1 room (made item x)
     go None = refl
     go (Some i) = rw e
 
-module _ (s : List ℕ) (at room : ℕ) (n : room ≡ 0 → ⊥) (a : Assertion) (e : report_assertion s a ≡ assertion_at s at) where
-  pub item_bad : a ≡ Assertion.Bad → Span.Bad ≡ bounded 1 room (made item (assertion_at s at))
+module _ (s : List ℕ) (at room : ℕ) (n : room ≡ 0 → ⊥) (a : Option Parts) (e : report_assertion s a ≡ assertion_at s at) where
+  pub item_bad : a ≡ None → None ≡ bounded 1 room (made item (assertion_at s at))
   unfolding bounded
   item_bad q = let z : assertion_at s at ≡ None = sym e ∙ ap (report_assertion s) q in rw z
 
-  pub item_is : (p : Parts) → a ≡ Assertion.Good p → Span.Of p.after (room - 1) ≡ bounded 1 room (made item (assertion_at s at))
+  pub item_is : (p : Parts) → a ≡ Some p → Some (rest_of p.after (room - 1)) ≡ bounded 1 room (made item (assertion_at s at))
   unfolding bounded depth items
   item_is p q =
-      let z : assertion_at s at ≡ report_assertion s (Assertion.Good p) = sym e ∙ ap (report_assertion s) q in
+      let z : assertion_at s at ≡ report_assertion s (Some p) = sym e ∙ ap (report_assertion s) q in
       let h : 1 ≤ room = omega arith in
       rw (z, le-leb 1 room h)
 
 -- ---- a filter, by its head
-pub filter_shallow : (s : List ℕ) (at d room : ℕ) → d ≡ 0 → Span.Bad ≡ bounded d room (filter_at s at)
+pub filter_shallow : (s : List ℕ) (at d room : ℕ) → d ≡ 0 → None ≡ bounded d room (filter_at s at)
 filter_shallow s at d room e = bounded-none d room (filter_at s at) e
 
-module _ (s : List ℕ) (at d room : ℕ) (n : d ≡ 0 → ⊥) (h : Head) (e : report_head h ≡ head_at s at) where
+module _ (s : List ℕ) (at d room : ℕ) (n : d ≡ 0 → ⊥) (h : Option Head) (e : report_head h ≡ head_at s at) where
   positive : 0 < d
   positive = omega arith
 
-  pub filter_item : (p : ℕ) (r : Span) → h ≡ Head.Assertion p → r ≡ bounded 1 room (made item (assertion_at s p)) → r ≡ bounded d room (filter_at s at)
+  pub filter_item : (p : ℕ) (r : Option Rest) → h ≡ Some (Head.Assertion p) → r ≡ bounded 1 room (made item (assertion_at s p)) → r ≡ bounded d room (filter_at s at)
   filter_item p r q f = f ∙ bounded_item d room positive (assertion_at s p) ∙ ap (bounded d room) (sym (filter-by s at (sym e ∙ ap report_head q)))
 
-  pub filter-empty : (j : Join) (p : ℕ) → h ≡ Head.EmptyList j p → Span.Of p room ≡ bounded d room (filter_at s at)
+  pub filter-empty : (j : Join) (p : ℕ) → h ≡ Some (Head.EmptyList j p) → Some (rest_of p room) ≡ bounded d room (filter_at s at)
   filter-empty j p q = bounded-empty d room positive (report_join j) p ∙ ap (bounded d room) (sym (filter-by s at (sym e ∙ ap report_head q)))
 
-  pub filter-list : (j : Join) (p : ℕ) (r : Span) → h ≡ Head.OpenList j p → r ≡ bounded_in (d - 1) room (filters_at s p) → r ≡ bounded d room (filter_at s at)
+  pub filter-list : (j : Join) (p : ℕ) (r : Option Rest) → h ≡ Some (Head.OpenList j p) → r ≡ bounded_in (d - 1) room (filters_at s p) → r ≡ bounded d room (filter_at s at)
   filter-list j p r q f = f ∙ bounded-list d room positive (report_join j) (filters_at s p) ∙ ap (bounded d room) (sym (filter-by s at (sym e ∙ ap report_head q)))
 
-  pub filter-negation : (p : ℕ) (r : Span) → h ≡ Head.Negation p → r ≡ bounded (d - 1) room (filter_at s p) → r ≡ bounded d room (filter_at s at)
+  pub filter-negation : (p : ℕ) (r : Option Rest) → h ≡ Some (Head.Negation p) → r ≡ bounded (d - 1) room (filter_at s p) → r ≡ bounded d room (filter_at s at)
   filter-negation p r q f = f ∙ bounded-negation d room positive (filter_at s p) ∙ ap (bounded d room) (sym (filter-by s at (sym e ∙ ap report_head q)))
 
-  pub filter_none : h ≡ Head.NoHead → Span.Bad ≡ bounded d room (filter_at s at)
+  pub filter_none : h ≡ None → None ≡ bounded d room (filter_at s at)
   unfolding bounded
   filter_none q = ap (bounded d room) (sym (filter-by s at (sym e ∙ ap report_head q)))
 
@@ -150,13 +136,13 @@ module _ (s : List ℕ) (at d room : ℕ) (n : d ≡ 0 → ⊥) (h : Head) (e : 
 abbrev pub Listed : List ℕ → ℕ → ℕ → ℕ → ℕ → ℕ → Type 0
 Listed s at d room i left = bounded_in d left (filters_at s i) ≡ bounded_in d room (filters_at s at)
 
-module _ (s : List ℕ) (at d room i left : ℕ) (inv : Listed s at d room i left) (x : Span) (e : x ≡ bounded d left (filter_at s i)) where
-  pub list_stop : x ≡ Span.Bad → Span.Bad ≡ bounded_in d room (filters_at s at)
+module _ (s : List ℕ) (at d room i left : ℕ) (inv : Listed s at d room i left) (x : Option Rest) (e : x ≡ bounded d left (filter_at s i)) where
+  pub list_stop : x ≡ None → None ≡ bounded_in d room (filters_at s at)
   list_stop q = bad-first d left s (filters_at s) (filter_at s i) (sym q ∙ e) ∙ ap (bounded_in d left) (sym (filters_step s i)) ∙ inv
 
-  module _ (q rest : ℕ) (o : x ≡ Span.Of q rest) (t : Tail) (g : report_tail t ≡ tail_at s q) where
-    first : (f : Read (Filter Item)) × ((filter_at s i ≡ Some f) × (((depth f.is ≤ d) × (length (items f.is) ≤ left)) × ((q ≡ f.after) × (rest ≡ left - length (items f.is)))))
-    first = bounded_of d left (filter_at s i) q rest (sym o ∙ e)
+  module _ (q : Rest) (o : x ≡ Some q) (t : Option Tail) (g : report_tail t ≡ tail_at s q.after) where
+    first : (f : Read (Filter Item)) × ((filter_at s i ≡ Some f) × (((depth f.is ≤ d) × (length (items f.is) ≤ left)) × ((q.after ≡ f.after) × (q.left ≡ left - length (items f.is)))))
+    first = bounded_of d left (filter_at s i) q (sym o ∙ e)
 
     follows : tail_at s first.0.after ≡ report_tail t
     follows = sym (ap (tail_at s) first.1.1.1.0) ∙ sym g
@@ -164,42 +150,42 @@ module _ (s : List ℕ) (at d room i left : ℕ) (inv : Listed s at d room i lef
     rest-is : filters_at s i ≡ by_tail (filters_at s) first.0.is (report_tail t)
     rest-is = filters_by s i first.0 first.1.0 follows
 
-    pub list_again : (p : ℕ) → t ≡ Tail.Another p → Listed s at d room p rest
+    pub list_again : (p : ℕ) → t ≡ Some (Tail.Another p) → Listed s at d room p q.left
     list_again p k =
         ap (λ (m : ℕ). bounded_in d m (filters_at s p)) first.1.1.1.1
         ∙ bounded-more d left first.0.is first.1.1.0.0 first.1.1.0.1 (filters_at s p)
-        ∙ ap (bounded_in d left) (sym (rest-is ∙ ap (λ (m : Tail). by_tail (filters_at s) first.0.is (report_tail m)) k))
+        ∙ ap (bounded_in d left) (sym (rest-is ∙ ap (λ (m : Option Tail). by_tail (filters_at s) first.0.is (report_tail m)) k))
         ∙ inv
 
-    pub list_falls : (p : ℕ) → t ≡ Tail.Another p → length s - p < length s - i
+    pub list_falls : (p : ℕ) → t ≡ Some (Tail.Another p) → length s - p < length s - i
     list_falls p k =
         let f = filter-further s i first.0 first.1.0 in
-        let z : q ≡ first.0.after = first.1.1.1.0 in
-        let l : TailOn (length s) q (another p) = subst (TailOn (length s) q) (sym g ∙ ap report_tail k) (tail_on s q) in
+        let z : q.after ≡ first.0.after = first.1.1.1.0 in
+        let l : TailOn (length s) q.after (another p) = subst (TailOn (length s) q.after) (sym g ∙ ap report_tail k) (tail_on s q.after) in
         omega arith
 
-    pub list-ends : (p : ℕ) → t ≡ Tail.Closed p → Span.Of p rest ≡ bounded_in d room (filters_at s at)
+    pub list-ends : (p : ℕ) → t ≡ Some (Tail.Closed p) → Some (rest_of p q.left) ≡ bounded_in d room (filters_at s at)
     list-ends p k =
-        ap (Span.Of p) first.1.1.1.1
+        ap (λ (x : ℕ). Some (rest_of p x)) first.1.1.1.1
         ∙ bounded-last d left first.0.is first.1.1.0.0 first.1.1.0.1 p
-        ∙ ap (bounded_in d left) (sym (rest-is ∙ ap (λ (m : Tail). by_tail (filters_at s) first.0.is (report_tail m)) k))
+        ∙ ap (bounded_in d left) (sym (rest-is ∙ ap (λ (m : Option Tail). by_tail (filters_at s) first.0.is (report_tail m)) k))
         ∙ inv
 
-    pub list_lost : t ≡ Tail.NoTail → Span.Bad ≡ bounded_in d room (filters_at s at)
+    pub list_lost : t ≡ None → None ≡ bounded_in d room (filters_at s at)
     unfolding bounded_in
-    list_lost k = ap (bounded_in d left) (sym (rest-is ∙ ap (λ (m : Tail). by_tail (filters_at s) first.0.is (report_tail m)) k)) ∙ inv
+    list_lost k = ap (bounded_in d left) (sym (rest-is ∙ ap (λ (m : Option Tail). by_tail (filters_at s) first.0.is (report_tail m)) k)) ∙ inv
 
 -- ---- the whole text
 -- of a filter that was read at the start of a text, what is one of the whole text and within the limits
 abbrev of_whole : List ℕ → Limits → Option (Read (Filter Item)) → Option (Filter Item)
 of_whole s l x = bind (bind x (if_whole s)) (within_limits l.depth l.items)
 
-whole-bad : (s : List ℕ) (l : Limits) (x : Option (Read (Filter Item))) → Span.Bad ≡ bounded l.depth l.items x → None ≡ items_of (of_whole s l x)
+whole-bad : (s : List ℕ) (l : Limits) (x : Option (Read (Filter Item))) → None ≡ bounded l.depth l.items x → None ≡ items_of (of_whole s l x)
 unfolding bounded
 whole-bad s l None e = refl
 whole-bad s l (Some r) e = whole (eqb r.after (length s))
   where
-    fits : (a b : Bool) → Span.Bad ≡ pick (both a b) (Span.Of r.after (l.items - length (items r.is))) Span.Bad → None ≡ items_of (pick (both a b) (Some r.is) None)
+    fits : (a b : Bool) → None ≡ pick {A = Option Rest} (both a b) (Some (rest_of r.after (l.items - length (items r.is)))) None → None ≡ items_of (pick (both a b) (Some r.is) None)
     fits true true e = let z : ◌≡◌ {A = ℕ} 0 1 = cc in absurd (omega arith)
     fits true false e = refl
     fits false b e = refl
@@ -208,10 +194,10 @@ whole-bad s l (Some r) e = whole (eqb r.after (length s))
     whole true = fits (leb (depth r.is) l.depth) (leb (length (items r.is)) l.items) e
     whole false = refl
 
-pub read_left : (d room : ℕ) (x : Option (Read (Filter Item))) (y : Span) (end left : ℕ) → y ≡ bounded d room x → y ≡ Span.Of end left → left ≤ room
-read_left d room x y end left e q =
-    let f = bounded_of d room x end left (sym q ∙ e) in
-    let z : left ≡ room - length (items f.0.is) = f.1.1.1.1 in
+pub read_left : (d room : ℕ) (x : Option (Read (Filter Item))) (y : Option Rest) (q : Rest) → y ≡ bounded d room x → y ≡ Some q → q.left ≤ room
+read_left d room x y q e h =
+    let f = bounded_of d room x q (sym h ∙ e) in
+    let z : q.left ≡ room - length (items f.0.is) = f.1.1.1.1 in
     omega arith
 
 module _ (s : List ℕ) (u : Bool) (valid : u ≡ utf8 s) where
@@ -219,25 +205,25 @@ module _ (s : List ℕ) (u : Bool) (valid : u ≡ utf8 s) where
   unfolding parse_within whole
   read-other h = rw (sym valid ∙ not-true u h)
 
-  module _ (h : not u ≡ false) (x : Span) (e : x ≡ bounded filter_limits.depth filter_limits.items (filter_at s 0)) where
+  module _ (h : not u ≡ false) (x : Option Rest) (e : x ≡ bounded filter_limits.depth filter_limits.items (filter_at s 0)) where
     parsed : parse filter_limits s ≡ of_whole s filter_limits (filter_at s 0)
     unfolding parse_within whole
     parsed = rw (sym valid ∙ not-false u h)
 
-    pub read-bad : x ≡ Span.Bad → None ≡ items_of (parse filter_limits s)
+    pub read-bad : x ≡ None → None ≡ items_of (parse filter_limits s)
     read-bad q = whole-bad s filter_limits (filter_at s 0) (sym q ∙ e) ∙ ap items_of (sym parsed)
 
-    module _ (end left : ℕ) (q : x ≡ Span.Of end left) where
-      found : (f : Read (Filter Item)) × ((filter_at s 0 ≡ Some f) × (((depth f.is ≤ filter_limits.depth) × (length (items f.is) ≤ filter_limits.items)) × ((end ≡ f.after) × (left ≡ filter_limits.items - length (items f.is)))))
-      found = bounded_of filter_limits.depth filter_limits.items (filter_at s 0) end left (sym q ∙ e)
+    module _ (q : Rest) (o : x ≡ Some q) where
+      found : (f : Read (Filter Item)) × ((filter_at s 0 ≡ Some f) × (((depth f.is ≤ filter_limits.depth) × (length (items f.is) ≤ filter_limits.items)) × ((q.after ≡ f.after) × (q.left ≡ filter_limits.items - length (items f.is)))))
+      found = bounded_of filter_limits.depth filter_limits.items (filter_at s 0) q (sym o ∙ e)
 
-      pub read_trailing : (end ≡ length s → ⊥) → None ≡ items_of (parse filter_limits s)
-      read_trailing n = rw (parsed, found.1.0, ← found.1.1.1.0, ne_eqb end (length s) n)
+      pub read_trailing : (q.after ≡ length s → ⊥) → None ≡ items_of (parse filter_limits s)
+      read_trailing n = rw (parsed, found.1.0, ← found.1.1.1.0, ne_eqb q.after (length s) n)
 
-      pub read_whole : (k : ℕ) → end ≡ length s → k ≡ filter_limits.items - left → Some k ≡ items_of (parse filter_limits s)
+      pub read_whole : (k : ℕ) → q.after ≡ length s → k ≡ filter_limits.items - q.left → Some k ≡ items_of (parse filter_limits s)
       read_whole k w g =
           let f = found.0.is in
           let a : length (items f) ≤ filter_limits.items = found.1.1.0.1 in
-          let z : left ≡ filter_limits.items - length (items f) = found.1.1.1.1 in
+          let z : q.left ≡ filter_limits.items - length (items f) = found.1.1.1.1 in
           let c : k ≡ length (items f) = omega arith in
-          rw (parsed, found.1.0, ← found.1.1.1.0, eq-eqb end (length s) w, le-leb (depth f) filter_limits.depth found.1.1.0.0, le-leb (length (items f)) filter_limits.items a, c)
+          rw (parsed, found.1.0, ← found.1.1.1.0, eq-eqb q.after (length s) w, le-leb (depth f) filter_limits.depth found.1.1.0.0, le-leb (length (items f)) filter_limits.items a, c)

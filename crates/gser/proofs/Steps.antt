@@ -7,11 +7,11 @@ use native.Mathlib.Omega.{arith}
 use borrow.Author.Tests.{eq-eqb, ne_eqb, lt-ltb, le-ltb, ltb-true, ltb-false}
 use lib.Dec.{ltb, eqb, leb-suc-suc}
 use lib.ListN.{length, take, drop}
-use lib.Seq.{take-length, length-take-le, drop-drop}
+use lib.Seq.{length-take-le, drop-drop}
 use Rattle.octets.specs.Pick.{pick, both}
 use Rattle.octets.specs.Octets.{octet, part}
 use Rattle.octets.proofs.Laws.{never, rest-cons, rest-none, rest-length}
-use Rattle.gser.specs.Listed.{after_spaces, before_spaces, inside, on_first, parted}
+use Rattle.gser.specs.Listed.{after_spaces, before_spaces, on_first, parted}
 use Rattle.gser.specs.Inner.Parts.{parted_behind}
 
 -- ---- without the spaces after a text
@@ -38,11 +38,8 @@ pub record Ending (s : List ℕ) (n : ℕ) : Type 0 where
   pub within : n ≤ length s
   pub so_far : before_spaces (take n s) ≡ before_spaces s
 
-pub ending-start : (s : List ℕ) → Ending s (length s)
-ending-start s = record { within = omega arith; so_far = ap before_spaces (take-length s) }
-
 module _ (s : List ℕ) (n : ℕ) (inv : Ending s n) where
-  pub ending-none : (r : List ℕ) → n ≤ 0 → r ≡ part s 0 0 → r ≡ before_spaces s
+  pub ending-none : (r : List ℕ) → n ≤ 0 → r ≡ take 0 s → r ≡ before_spaces s
   unfolding before_spaces
   ending-none r h e = let z : 0 ≡ n = omega arith in e ∙ ap (λ (k : ℕ). before_spaces (take k s)) z ∙ inv.so_far
 
@@ -50,25 +47,18 @@ module _ (s : List ℕ) (n : ℕ) (inv : Ending s n) where
     back : suc (n - 1) ≡ n
     back = omega arith
 
-    pub ending-found : (r : List ℕ) → (octet s (n - 1) ≡ 32 → ⊥) → r ≡ part s 0 n → r ≡ before_spaces s
+    one : n - 1 + 1 ≡ n
+    one = omega arith
+
+    pub ending-found : (r : List ℕ) → (octet s (n - 1) ≡ 32 → ⊥) → r ≡ take (n - 1 + 1) s → r ≡ before_spaces s
     ending-found r d e =
         let whole : before_spaces (take n s) ≡ take n s = rw back at (last-other s (n - 1) (omega arith) d) in
-        e ∙ sym whole ∙ inv.so_far
+        e ∙ ap (λ (k : ℕ). take k s) one ∙ sym whole ∙ inv.so_far
 
     pub ending-on : octet s (n - 1) ≡ 32 → Ending s (n - 1)
     ending-on d =
         let less : before_spaces (take n s) ≡ before_spaces (take (n - 1) s) = rw back at (last-space s (n - 1) (omega arith) d) in
         record { within = omega arith; so_far = sym less ∙ inv.so_far }
-
--- ---- between the braces
-module _ (t r : List ℕ) where
-  pub inside-none : length t ≤ 2 → r ≡ part t 1 0 → r ≡ inside t
-  unfolding inside before_spaces
-  inside-none h e = let z : 0 ≡ length t - 2 = omega arith in e ∙ ap (λ (n : ℕ). before_spaces (part t 1 n)) z
-
-  pub inside_is : (p : List ℕ) → p ≡ part t 1 (length t - 2) → r ≡ before_spaces p → r ≡ inside t
-  unfolding inside
-  inside_is p e q = q ∙ ap before_spaces e
 
 -- ---- the text before a comma
 -- the number of octets before the first comma
@@ -103,9 +93,6 @@ pub record Parting (s : List ℕ) (at i : ℕ) : Type 0 where
   pub within : i ≤ length s
   pub so_far : i + to_comma (drop i s) ≡ at + to_comma (drop at s)
 
-pub parting_start : (s : List ℕ) (at : ℕ) → at ≤ length s → Parting s at at
-parting_start s at h = record { after = omega arith; within = h; so_far = refl }
-
 module _ (s : List ℕ) (at i : ℕ) (inv : Parting s at i) where
   found : to_comma (drop i s) ≡ 0 → parted (drop at s) ≡ part s at (i - at) ∷ parted_behind s i
   unfolding parted_behind
@@ -118,9 +105,11 @@ module _ (s : List ℕ) (at i : ℕ) (inv : Parting s at i) where
       let rest : drop (suc (i - at)) (drop at s) ≡ drop (i + 1) s = drop-drop (suc (i - at)) at s ∙ ap (λ (k : ℕ). drop k s) next in
       whole ∙ ap₂ (λ (u : Bool) (l : List ℕ). part s at (i - at) ∷ pick u (parted l) []) more rest
 
-  pub parting_ends : length s ≤ i → parted (drop at s) ≡ part s at (i - at) ∷ parted_behind s i
+  pub parting_ends : length s ≤ i → parted (drop at s) ≡ part s at (length s - at) ∷ parted_behind s (length s)
   unfolding to_comma
-  parting_ends h = found (ap to_comma (rest-none s i h))
+  parting_ends h =
+      let z : i ≡ length s = omega arith in
+      found (ap to_comma (rest-none s i h)) ∙ ap (λ (k : ℕ). part s at (k - at) ∷ parted_behind s k) z
 
   module _ (h : i < length s) where
     pub parting_found : octet s i ≡ 44 → parted (drop at s) ≡ part s at (i - at) ∷ parted_behind s i
@@ -139,16 +128,14 @@ pub record Skipping (s : List ℕ) (at end i : ℕ) : Type 0 where
   pub before-end : i ≤ end
   pub so_far : after_spaces (part s i (end - i)) ≡ after_spaces (part s at (end - at))
 
-pub skipping_start : (s : List ℕ) (at end : ℕ) → at ≤ end → Skipping s at end at
-skipping_start s at end h = record { after = omega arith; before-end = h; so_far = refl }
-
 module _ (s : List ℕ) (at end i : ℕ) (inv : Skipping s at end i) where
-  pub skipping_ends : end ≤ i → part s i (end - i) ≡ after_spaces (part s at (end - at))
+  pub skipping_ends : end ≤ i → part s end (end - end) ≡ after_spaces (part s at (end - at))
   unfolding after_spaces
   skipping_ends h =
       let z : end - i ≡ 0 = omega arith in
+      let y : end - end ≡ 0 = omega arith in
       let none : part s i (end - i) ≡ [] = ap (part s i) z in
-      none ∙ sym (ap after_spaces none) ∙ inv.so_far
+      ap (part s end) y ∙ sym (ap after_spaces none) ∙ inv.so_far
 
   module _ (fits : end ≤ length s) (h : i < end) where
     front : part s i (end - i) ≡ octet s i ∷ part s (i + 1) (end - (i + 1))

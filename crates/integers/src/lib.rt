@@ -2,6 +2,7 @@
 #![tactic(auto)]
 
 ghost use Rattle.std.specs.Prelude.{◌≡◌, true, ◌≤◌, ◌<◌, length, drop, ltb, leb};
+ghost use Rattle.std.specs.Ordering.{is_eq, is_lt};
 ghost use Rattle.octets.specs.Pick.{both, no};
 ghost use Rattle.octets.specs.Octets.{octet, same, bytes};
 ghost use Rattle.octets.specs.Text.{is_number};
@@ -10,13 +11,13 @@ ghost use Rattle.integers.specs.Asserted as asserted;
 ghost use Rattle.integers.specs.Inner.Answers as answers;
 ghost use Rattle.integers.specs.Inner.Bounds as bounds;
 
-use octets::Size;
+use std::cmp::Ordering;
 
 // An asserted integer: its sign and size.
 #[derive(Clone, Copy)]
 pub struct Asked {
     pub minus: bool,
-    pub size: Size,
+    pub size: Option<u64>,
 }
 
 // An asserted integer among those that can be stored: at one, lifted; or below or above all of them.
@@ -37,35 +38,30 @@ fn after_first(t: &[u8]) -> &[u8]
 fn is_negative(t: &[u8]) -> bool
     ensures { result ≡ both (is_number (drop 1 t.now)) (no (same t.now (bytes "-0"))) }
 {
-    if !octets::is_number(after_first(t)) {
-        return false;
-    }
-    !octets::same(t, b"-0")
+    octets::is_number(after_first(t)) && !octets::same(t, b"-0")
 }
 
 // Whether a value text conforms: decimal digits without leading zeros, perhaps a minus before them, and not `-0`.
+#[tactic(auto, unfolding(crate::specs::Asserted::is_integer))]
 pub fn is_integer(t: &[u8]) -> bool
     ensures { result ≡ asserted.is_integer t.now }
 {
-    if octets::octet(t, 0) == 45 {
-        return is_negative(t);
+    if octets::octet(t, 0) == b'-' {
+        is_negative(t)
+    } else {
+        octets::is_number(t)
     }
-    octets::is_number(t)
 }
 
 // What a value text asserts.
+#[tactic(auto, unfolding(crate::specs::Asserted::asserted_integer))]
 fn read_asserted(t: &[u8]) -> Asked
     ensures { result ≡ answers.held_of (asserted.asserted_integer t.now) }
 {
-    if octets::octet(t, 0) == 45 {
-        return Asked {
-            minus: true,
-            size: octets::decimal(after_first(t)),
-        };
-    }
+    let minus = octets::octet(t, 0) == b'-';
     Asked {
-        minus: false,
-        size: octets::decimal(t),
+        minus,
+        size: octets::decimal(if minus { after_first(t) } else { t }),
     }
 }
 
@@ -103,28 +99,22 @@ pub fn lift_count(n: u64) -> u64
 }
 
 // ---- an asserted integer among those that can be stored
-fn minus_bound(size: Size) -> Bound
+fn minus_bound(size: Option<u64>) -> Bound
     ensures { result ≡ bounds.minus_bound_of size }
 {
-    let Size::Of(n) = size else {
-        return Bound::Under;
-    };
-    if 9223372036854775808 < n {
-        return Bound::Under;
+    match size {
+        Some(n) if n <= 9223372036854775808 => Bound::At(9223372036854775808 - n),
+        _ => Bound::Under,
     }
-    Bound::At(9223372036854775808 - n)
 }
 
-fn plus_bound(size: Size) -> Bound
+fn plus_bound(size: Option<u64>) -> Bound
     ensures { result ≡ bounds.plus_bound_of size }
 {
-    let Size::Of(n) = size else {
-        return Bound::Over;
-    };
-    if n < 9223372036854775808 {
-        return Bound::At(9223372036854775808 + n);
+    match size {
+        Some(n) if n < 9223372036854775808 => Bound::At(9223372036854775808 + n),
+        _ => Bound::Over,
     }
-    Bound::Over
 }
 
 // What a value text asserts, as a bound.
@@ -132,76 +122,51 @@ pub fn bound_of(t: &[u8]) -> Bound
     ensures { result ≡ bounds.bound_of (asserted.asserted_integer t.now) }
 {
     let a = read_asserted(t);
-    let size = a.size;
     if a.minus {
-        return minus_bound(size);
+        minus_bound(a.size)
+    } else {
+        plus_bound(a.size)
     }
-    plus_bound(size)
 }
 
 // ---- a stored integer against a bound
-fn is_at(n: u64, bound: Bound) -> bool
-    ensures { result ≡ bounds.same_bound n bound }
+fn order(n: u64, bound: Bound) -> Ordering
+    ensures same { is_eq result ≡ bounds.same_bound n bound }
+    ensures less { is_lt result ≡ bounds.less_bound n bound }
 {
     match bound {
-        Bound::At(m) => n == m,
-        Bound::Under => false,
-        Bound::Over => false,
-    }
-}
-
-fn is_before(n: u64, bound: Bound) -> bool
-    ensures { result ≡ bounds.less_bound n bound }
-{
-    match bound {
-        Bound::At(m) => n < m,
-        Bound::Under => false,
-        Bound::Over => true,
+        Bound::At(m) => n.cmp(&m),
+        Bound::Under => Ordering::Greater,
+        Bound::Over => Ordering::Less,
     }
 }
 
 // Contents of an INTEGER, of one to eight octets; of others the answer is false.
+#[tactic(auto, unfolding(crate::specs::Inner::Bounds::short_fits))]
 pub fn same_contents(c: &[u8], bound: Bound) -> bool
     ensures value { result ≡ both (bounds.is_short c.now) (bounds.same_bound (bounds.lifted (integer_of c.now)) bound) }
     ensures fits { bounds.short_fits c.now ≡ true }
 {
-    if c.len() == 0 {
-        return false;
-    }
-    if 8 < c.len() {
-        return false;
-    }
-    is_at(lift(c), bound)
+    matches!(c.len(), 1..=8) && order(lift(c), bound).is_eq()
 }
 
+#[tactic(auto, unfolding(crate::specs::Inner::Bounds::short_fits))]
 pub fn less_contents(c: &[u8], bound: Bound) -> bool
     ensures value { result ≡ both (bounds.is_short c.now) (bounds.less_bound (bounds.lifted (integer_of c.now)) bound) }
     ensures fits { bounds.short_fits c.now ≡ true }
 {
-    if c.len() == 0 {
-        return false;
-    }
-    if 8 < c.len() {
-        return false;
-    }
-    is_before(lift(c), bound)
+    matches!(c.len(), 1..=8) && order(lift(c), bound).is_lt()
 }
 
 // A count; of 2^63 and above the answer is false.
 pub fn same_count(n: u64, bound: Bound) -> bool
     ensures { result ≡ both (ltb n 9223372036854775808) (bounds.same_bound (bounds.lifted (plus n)) bound) }
 {
-    if 9223372036854775808 <= n {
-        return false;
-    }
-    is_at(lift_count(n), bound)
+    n < 9223372036854775808 && order(lift_count(n), bound).is_eq()
 }
 
 pub fn less_count(n: u64, bound: Bound) -> bool
     ensures { result ≡ both (ltb n 9223372036854775808) (bounds.less_bound (bounds.lifted (plus n)) bound) }
 {
-    if 9223372036854775808 <= n {
-        return false;
-    }
-    is_before(lift_count(n), bound)
+    n < 9223372036854775808 && order(lift_count(n), bound).is_lt()
 }

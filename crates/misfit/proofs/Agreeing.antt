@@ -10,7 +10,6 @@ use lib.Dec.{leb, eqb}
 use Rattle.octets.specs.Pick.{pick, either}
 use Rattle.octets.specs.Octets.{same}
 use Rattle.der.specs.Header.{header_at}
-use Rattle.der.specs.declared.Header.{Header}
 use Rattle.types.specs.Types.{Tagging, untagged, Presence, mandatory, optional, default, Member, Ty, Members}
 use Rattle.types.specs.Begins.{is_mandatory}
 use Rattle.value.specs.Value.{Spot, spot_at, spot_of, Value, leaf, fields, elements, Fields, Values}
@@ -219,7 +218,7 @@ module _ (defaults : Bool) (is : List Id) (v : List ℕ) (f : Ty → Opened → 
 
   -- what one identifier names in a value that is decoded and opened at a place
   step-decoded : (i : Id) {ty : Ty} {g : Tagging} {at end : ℕ} {x : Value} {last : ℕ} → Decodes v ty g at end x last
-      → (o : Opened) (octet : ℕ) → header_at v at end ≡ Header.Found octet o.start o.span → at ≡ o.place → last ≡ after o → o.place ≡ (spot_of x).place
+      → (o : Opened) (octet : ℕ) → header_at v at end ≡ Some (octet, o.start, o.span) → at ≡ o.place → last ≡ after o → o.place ≡ (spot_of x).place
       → in_value defaults i is ty v o f ≡ laid (held defaults is (step defaults i (value x)))
   step-decoded i (is_basic_type {k = k} {s = s} b l) o octet h at_place at-end place = leaf_names i k s
   step-decoded i (is-sequence {ms = ms} {after = last} {s = s} {fs = fs} b w) o octet h at_place at-end place =

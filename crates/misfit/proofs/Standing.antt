@@ -7,9 +7,7 @@ use Prim.Native.Nat.{ℕ, ◌+◌}
 use borrow.Author.Tests.{eq-eqb}
 use lib.Dec.{eqb}
 use Rattle.der.specs.Header.{header_at, inside_at, opened}
-use Rattle.der.specs.declared.Header.{Header}
-use Rattle.der.specs.declared.Inside.{Inside}
-use Rattle.der.proofs.Laws.{inside_view}
+use Rattle.der.proofs.Laws.{inside_view, some_triple_parts}
 use Rattle.types.specs.Types.{Tagging, explicit, Ty}
 use Rattle.value.specs.Value.{Spot, spot_of, Value}
 use Rattle.value.proofs.Views.{in_bare, in_explicit}
@@ -23,27 +21,27 @@ pub record Stands (ty : Ty) (v : List ℕ) (o : Opened) (x : Value) : Type 0 whe
   pub end : ℕ
   pub decodes : Decodes v ty tagging o.place end x (after o)
   pub octet : ℕ
-  pub header : header_at v o.place end ≡ Header.Found octet o.start o.span
+  pub header : header_at v o.place end ≡ Some (octet, o.start, o.span)
   pub spot : opened_spot v o ≡ spot_of x
 
 -- the contents of one header start at one place, and have one length
 module _ {v : List ℕ} {o at end start n : ℕ} {s : Spot} {last : ℕ} (b : Behind v o at end start n s last)
-    {u from m : ℕ} (h : header_at v at end ≡ Header.Found u from m) where
-  same-header : ◌≡◌ {A = Header} (Header.Found o start n) (Header.Found u from m)
+    {u from m : ℕ} (h : header_at v at end ≡ Some (u, from, m)) where
+  same-header : ◌≡◌ {A = Option (ℕ × ℕ × ℕ)} (Some (o, start, n)) (Some (u, from, m))
   same-header = sym (inside_view o v at end start n b.header) ∙ h
 
   pub same_start : start ≡ from
-  same_start = let e = same-header in cc
+  same_start = (some_triple_parts o u start from n m same-header).1
 
   pub same_span : n ≡ m
-  same_span = let e = same-header in cc
+  same_span = (some_triple_parts o u start from n m same-header).2
 
-  same-inside : inside_at o v at end ≡ Inside.Of from m
-  same-inside = b.header ∙ ap₂ Inside.Of same_start same_span
+  same-inside : inside_at o v at end ≡ Some (from, m)
+  same-inside = b.header ∙ ap₂ (λ (i k : ℕ). Some (i, k)) same_start same_span
 
 -- the header of a decoded value
 own-opened : {ty : Ty} {g : Tagging} {v : List ℕ} {at end : ℕ} {x : Value} {last : ℕ} → Decodes v ty g at end x last → {octet start n : ℕ}
-    → header_at v at end ≡ Header.Found octet start n → own_header ty g v at end ≡ Inside.Of start n
+    → header_at v at end ≡ Some (octet, start, n) → own_header ty g v at end ≡ Some (start, n)
 unfolding own_header
 own-opened (is_basic_type b l) h = same-inside b h
 own-opened (is-sequence b w) h = same-inside b h
@@ -62,7 +60,7 @@ open_inner {ty = ty} {g = g} {v = v} {at = at} {end = end} {x = x} d =
     let o : Opened = record { place = at; start = w.start; span = w.n } in
     let e : after o ≡ _ = w.behind.ends in (
       o,
-      ap (λ (i : Inside). opened i (opened_as at)) (own-opened d h),
+      ap (λ (i : Option (ℕ × ℕ)). opened i (opened_as at)) (own-opened d h),
       record { tagging = g; end = end; decodes = subst (Decodes v ty g at end x) (sym e) d; octet = w.octet; header = h; spot = w.behind.spot },
       e,
     )

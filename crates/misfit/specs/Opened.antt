@@ -1,4 +1,5 @@
 -- Headers on the way along a reference: a value's own header, behind its member's explicit wrapper where there is one.
+use Rattle.std.specs.Prelude.{None}
 use Rattle.std.specs.Prelude.{ℕ, ◌+◌, List}
 use Rattle.std.specs.Prelude.{Option, Some}
 use Rattle.octets.specs.Pick.{pick}
@@ -6,7 +7,6 @@ use Rattle.octets.specs.Octets.{octet}
 use Rattle.der.specs.Kind as kind
 use Rattle.der.specs.Tag.{tag_of}
 use Rattle.der.specs.Header.{header_at, inside_at, any_tag, opened}
-use Rattle.der.specs.declared.Inside.{Inside}
 use Rattle.types.specs.Types.{Tagging, Ty, basic, sequence, choice, list_of}
 use Rattle.types.specs.Begins.{begins}
 use Rattle.value.specs.Value.{Spot, spot_at}
@@ -27,10 +27,10 @@ after o = o.start + o.span
 
 -- the header of a value of a type, inside its wrapper. That of a CHOICE is its alternative's: it has a tag that the CHOICE can begin with; whether
 -- its constructed bit is the alternative's shows where the alternative is opened
-unfoldable pub own_header : Ty → Tagging → List ℕ → ℕ → ℕ → Inside
+unfoldable pub own_header : Ty → Tagging → List ℕ → ℕ → ℕ → Option (ℕ × ℕ)
 own_header (basic k names) g v at end = inside_at (tag_octet g k) v at end
 own_header (sequence ms) g v at end = inside_at (tag_octet g kind.sequence) v at end
-own_header (choice ms) g v at end = pick (begins (choice ms) (tag_of (octet v at))) (any_tag (header_at v at end)) Inside.Misfit
+own_header (choice ms) g v at end = pick (begins (choice ms) (tag_of (octet v at))) (any_tag (header_at v at end)) None
 own_header (list_of k ty) g v at end = inside_at (tag_octet g k) v at end
 
 abbrev pub opened_as : ℕ → ℕ → ℕ → Option Opened

@@ -15,7 +15,6 @@ use Rattle.der.specs.Tag.{universal_text, universal, own_octet}
 use Rattle.der.specs.Header.{inside_at, opened}
 use Rattle.der.specs.Names as stored-names
 use Rattle.der.specs.Names.{Element, element_at, elements_from, elements_of, pair_of, name_of}
-use Rattle.der.specs.declared.Inside.{Inside}
 use Rattle.der.proofs.Laws.{inside-long, inside-within}
 use Rattle.der.proofs.NameLaws.{elements_next}
 use Rattle.names.specs.Compared.{Compared, same_pair, stored, stored_rdn, stored_name, without}
@@ -44,7 +43,7 @@ nothing true = refl
 nothing false = refl
 
 -- nothing opens: no element is left
-pub none_left : (m o : ℕ) (c : List ℕ) (at : ℕ) → inside_at o c at (length c) ≡ Inside.Misfit → how_many m o c at ≡ 0
+pub none_left : (m o : ℕ) (c : List ℕ) (at : ℕ) → inside_at o c at (length c) ≡ None → how_many m o c at ≡ 0
 unfolding elements_from
 none_left zero o c at e = nothing (leb (length c) at)
 none_left (suc m) o c at e = rw e (nothing (leb (length c) at))
@@ -55,7 +54,7 @@ first_of b (Some es) h = refl
 
 -- the element at a place, and those behind it: i of n lie before it
 pub next_element : (most o : ℕ) (c : List ℕ) (n i at start len : ℕ) → i < n → n ≤ most → i + how_many (most - i) o c at ≡ n
-    → inside_at o c at (length c) ≡ Inside.Of start len
+    → inside_at o c at (length c) ≡ Some (start, len)
     → elements_of (elements_from (most - i) o c at) ≡ element_at c at start len ∷ elements_of (elements_from (most - (i + 1)) o c (start + len))
 next_element most o c n i at start len h l k e = unfolded ∙ first_of (element_at c at start len) (elements_from (most - (i + 1)) o c (start + len)) some_left
   where
@@ -80,11 +79,11 @@ few_elements (suc m) o c at = go (leb (length c) at) (inside_at o c at (length c
     long b None h = omega arith
     long b (Some es) h = omega arith
 
-    go : (u : Bool) (i : Inside) → ((p : ℕ) → how_many m o c p ≤ m)
+    go : (u : Bool) (i : Option (ℕ × ℕ)) → ((p : ℕ) → how_many m o c p ≤ m)
         → length (elements_of (pick u (Some []) (opened i (λ start n. consed (element_at c at start n) (elements_from m o c (start + n)))))) ≤ suc m
     go true i f = omega arith
-    go false Inside.Misfit f = omega arith
-    go false (Inside.Of start n) f = long (element_at c at start n) (elements_from m o c (start + n)) (f (start + n))
+    go false None f = omega arith
+    go false (Some (start, n)) f = long (element_at c at start n) (elements_from m o c (start + n)) (f (start + n))
 
 -- ---- marks
 pub none-marked : (l : List Compared) → unused l 0 ≡ l

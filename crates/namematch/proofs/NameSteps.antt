@@ -1,4 +1,5 @@
 -- Stored names against the operand, RDN by RDN.
+use Rattle.std.specs.Prelude.{Option, Some, None}
 use mathlib.Core.Path.{◌≡◌, refl, sym, ap, ap₂, ◌∙◌}
 use mathlib.Core.Bool.{Bool, true, false, not}
 use mathlib.Core.List.{List, [], ◌∷◌, map}
@@ -13,7 +14,6 @@ use Rattle.octets.specs.Octets.{octet, part}
 use Rattle.octets.proofs.Laws.{never}
 use Rattle.der.specs.Header.{inside_at}
 use Rattle.der.specs.Names.{Element, element_at, elements_from, elements_of}
-use Rattle.der.specs.declared.Inside.{Inside}
 use Rattle.names.specs.Compared.{Compared, stored_rdn, stored_name, same_rdn, same_name}
 use Rattle.names.specs.Inner.Operand.{type_start, start_back, rdn_back, rdn_start, rdns_back, operand_name}
 use Rattle.namematch.specs.Inner.Names.{behind, rdn_at, operand_at, rdn_count, rdn_of, same_from}
@@ -21,7 +21,7 @@ use Rattle.namematch.proofs.Laws.{name_elements, none_left, next_element, few_el
 use Rattle.namematch.proofs.Steps.{always, no_length}
 
 -- ---- places
-at_next : (c : List ℕ) (i start len : ℕ) → inside_at 49 c (rdn_at c i) (length c) ≡ Inside.Of start len → rdn_at c (i + 1) ≡ start + len
+at_next : (c : List ℕ) (i start len : ℕ) → inside_at 49 c (rdn_at c i) (length c) ≡ Some (start, len) → rdn_at c (i + 1) ≡ start + len
 unfolding rdn_at
 at_next c i start len e = ap (rdn_at c) (add-one i) ∙ ap behind e
 
@@ -51,10 +51,10 @@ module _ (c : List ℕ) where
   left i = elements_of (elements_from (16 - i) 49 c (rdn_at c i))
 
   module _ (i : ℕ) (h : i < rdn_count c) (known : i + length (left i) ≡ rdn_count c) where
-    no-misfit : inside_at 49 c (rdn_at c i) (length c) ≡ Inside.Misfit → ⊥
+    no-misfit : inside_at 49 c (rdn_at c i) (length c) ≡ None → ⊥
     no-misfit e = let z = none_left (16 - i) 49 c (rdn_at c i) e in omega arith
 
-    left_next : (start len : ℕ) → inside_at 49 c (rdn_at c i) (length c) ≡ Inside.Of start len → left i ≡ element_at c (rdn_at c i) start len ∷ left (i + 1)
+    left_next : (start len : ℕ) → inside_at 49 c (rdn_at c i) (length c) ≡ Some (start, len) → left i ≡ element_at c (rdn_at c i) start len ∷ left (i + 1)
     left_next start len e =
         next_element 16 49 c (rdn_count c) i (rdn_at c i) start len h few known e
         ∙ ap (λ (p : ℕ). element_at c (rdn_at c i) start len ∷ elements_of (elements_from (16 - (i + 1)) 49 c p)) (sym (at_next c i start len e))
@@ -62,9 +62,9 @@ module _ (c : List ℕ) where
     more_left : i + 1 + length (left (i + 1)) ≡ rdn_count c
     more_left = go (inside_at 49 c (rdn_at c i) (length c)) refl
       where
-        go : (v : Inside) → inside_at 49 c (rdn_at c i) (length c) ≡ v → i + 1 + length (left (i + 1)) ≡ rdn_count c
-        go Inside.Misfit e = absurd (no-misfit e)
-        go (Inside.Of start len) e = let q : length (left i) ≡ suc (length (left (i + 1))) = ap length (left_next start len e) in omega arith
+        go : (v : Option (ℕ × ℕ)) → inside_at 49 c (rdn_at c i) (length c) ≡ v → i + 1 + length (left (i + 1)) ≡ rdn_count c
+        go None e = absurd (no-misfit e)
+        go (Some (start, len)) e = let q : length (left i) ≡ suc (length (left (i + 1))) = ap length (left_next start len e) in omega arith
 
   left-count : (i : ℕ) → i ≤ rdn_count c → i + length (left i) ≡ rdn_count c
   unfolding rdn_at
@@ -90,7 +90,7 @@ module _ (c : List ℕ) where
         go (a ∷ l) k = refl
 
     -- one RDN of both
-    from_next : (i start len : ℕ) → i < rdn_count c → (operand_at x i ≡ 0 → ⊥) → inside_at 49 c (rdn_at c i) (length c) ≡ Inside.Of start len
+    from_next : (i start len : ℕ) → i < rdn_count c → (operand_at x i ≡ 0 → ⊥) → inside_at 49 c (rdn_at c i) (length c) ≡ Some (start, len)
         → same_from c x i ≡ both (same_rdn (stored_rdn (part c start len)) (rdn_back x (operand_at x i))) (same_from c x (i + 1))
     unfolding same_from same_name rdns_back
     from_next i start len h d e =
@@ -117,10 +117,10 @@ module _ (c : List ℕ) where
     from_false : (i : ℕ) → i < rdn_count c → same_from c x (i + 1) ≡ false → same_from c x i ≡ false
     from_false i h f = go (eqb (operand_at x i) 0) refl (inside_at 49 c (rdn_at c i) (length c)) refl
       where
-        go : (u : Bool) → eqb (operand_at x i) 0 ≡ u → (v : Inside) → inside_at 49 c (rdn_at c i) (length c) ≡ v → same_from c x i ≡ false
+        go : (u : Bool) → eqb (operand_at x i) 0 ≡ u → (v : Option (ℕ × ℕ)) → inside_at 49 c (rdn_at c i) (length c) ≡ v → same_from c x i ≡ false
         go true q v e = from-none i h (eqb-true (operand_at x i) 0 q)
-        go false q Inside.Misfit e = absurd (no-misfit i h (left-count i (omega arith)) e)
-        go false q (Inside.Of start len) e =
+        go false q None e = absurd (no-misfit i h (left-count i (omega arith)) e)
+        go false q (Some (start, len)) e =
             from_next i start len h (eqb-false (operand_at x i) 0 q) e
             ∙ ap (both (same_rdn (stored_rdn (part c start len)) (rdn_back x (operand_at x i)))) f
             ∙ never (same_rdn (stored_rdn (part c start len)) (rdn_back x (operand_at x i)))
@@ -139,16 +139,16 @@ unfolding rdn_at operand_at
 placed-start c x = record { here = refl; there = refl }
 
 module _ (c x : List ℕ) (at end i : ℕ) (s : Placed c x at end i) where
-  opens : (v : Inside) → v ≡ inside_at 49 c at (length c) → (w : Inside) → v ≡ w → inside_at 49 c (rdn_at c i) (length c) ≡ w
+  opens : (v : Option (ℕ × ℕ)) → v ≡ inside_at 49 c at (length c) → (w : Option (ℕ × ℕ)) → v ≡ w → inside_at 49 c (rdn_at c i) (length c) ≡ w
   opens v read w e = ap (λ (p : ℕ). inside_at 49 c p (length c)) (sym s.here) ∙ sym read ∙ e
 
   some_there : (end ≡ 0 → ⊥) → operand_at x i ≡ 0 → ⊥
   some_there d e = d (s.there ∙ e)
 
-  placed_next : (v : Inside) (start len m : ℕ) → v ≡ inside_at 49 c at (length c) → v ≡ Inside.Of start len → m ≡ rdn_start x end
+  placed_next : (v : Option (ℕ × ℕ)) (start len m : ℕ) → v ≡ inside_at 49 c at (length c) → v ≡ Some (start, len) → m ≡ rdn_start x end
       → Placed c x (start + len) m (i + 1)
   placed_next v start len m read e g = record {
-    here = sym (at_next c i start len (opens v read (Inside.Of start len) e));
+    here = sym (at_next c i start len (opens v read (Some (start, len)) e));
     there = g ∙ ap (rdn_start x) s.there ∙ sym (operand_next x i);
   }
 
@@ -172,13 +172,13 @@ module _ (c x : List ℕ) (n place reached i : ℕ) (s : Reaching c x n place re
       let k : n - 1 - i + i ≡ n - 1 = omega arith in
       sym (from-none c x (n - 1) (omega arith) (ap (operand_at x) (sym k) ∙ none-behind x i (n - 1 - i) (sym s.placed.there ∙ e)))
 
-  module _ (v : Inside) (read : v ≡ inside_at 49 c place (length c)) where
-    pub reach-misfit : v ≡ Inside.Misfit → false ≡ same_from c x (n - 1)
+  module _ (v : Option (ℕ × ℕ)) (read : v ≡ inside_at 49 c place (length c)) where
+    pub reach-misfit : v ≡ None → false ≡ same_from c x (n - 1)
     reach-misfit e =
         let w = within in
-        absurd (no-misfit c i within (left-count c i (omega arith)) (opens c x place reached i s.placed v read Inside.Misfit e))
+        absurd (no-misfit c i within (left-count c i (omega arith)) (opens c x place reached i s.placed v read None e))
 
-    module _ (start len : ℕ) (e : v ≡ Inside.Of start len) where
+    module _ (start len : ℕ) (e : v ≡ Some (start, len)) where
       pub reach-more : (last m : ℕ) → last ≡ n - 1 → i < last → m ≡ rdn_start x reached → Reaching c x n (start + len) m (i + 1)
       reach-more last m k h g = record {
         short = omega arith;
@@ -202,7 +202,7 @@ module _ (c x : List ℕ) (n place reached i : ℕ) (s : Reaching c x n place re
         splits =
             ap (same_from c x) is_last
             ∙ from_next c x i start len within (some_there c x place reached i s.placed d)
-            (opens c x place reached i s.placed v read (Inside.Of start len) e)
+            (opens c x place reached i s.placed v read (Some (start, len)) e)
             ∙ ap₂ (λ (y : ℕ) (u : Bool). both (same_rdn (stored_rdn (part c start len)) (rdn_back x y)) u) (sym s.placed.there) ends
 
         pub reach-fewer : (m ≡ 0 → ⊥) → false ≡ same_from c x (n - 1)
@@ -233,18 +233,18 @@ module _ (c x : List ℕ) (k at end i : ℕ) (s : Before c x k at end i) (h : i 
   pub before-none : end ≡ 0 → false ≡ same_name (stored_name c) (operand_name x)
   before-none e = sym (from-none c x i (omega arith) (sym s.placed.there ∙ e)) ∙ s.so_far
 
-  module _ (v : Inside) (read : v ≡ inside_at 49 c at (length c)) where
-    pub before-misfit : v ≡ Inside.Misfit → false ≡ same_name (stored_name c) (operand_name x)
-    before-misfit e = absurd (no-misfit c i (omega arith) (left-count c i (omega arith)) (opens c x at end i s.placed v read Inside.Misfit e))
+  module _ (v : Option (ℕ × ℕ)) (read : v ≡ inside_at 49 c at (length c)) where
+    pub before-misfit : v ≡ None → false ≡ same_name (stored_name c) (operand_name x)
+    before-misfit e = absurd (no-misfit c i (omega arith) (left-count c i (omega arith)) (opens c x at end i s.placed v read None e))
 
-    module _ (start len : ℕ) (e : v ≡ Inside.Of start len) (d : end ≡ 0 → ⊥) (p : List ℕ) (q : p ≡ part c start len) (u : Bool)
+    module _ (start len : ℕ) (e : v ≡ Some (start, len)) (d : end ≡ 0 → ⊥) (p : List ℕ) (q : p ≡ part c start len) (u : Bool)
         (told : u ≡ same_rdn (stored_rdn p) (rdn_back x end)) where
       by-rdn : both u (same_from c x (i + 1)) ≡ same_name (stored_name c) (operand_name x)
       by-rdn =
           ap (λ (y : Bool). both y (same_from c x (i + 1)))
           (told ∙ ap₂ (λ (y : List ℕ) (z : ℕ). same_rdn (stored_rdn y) (rdn_back x z)) q s.placed.there)
           ∙ sym (from_next c x i start len (omega arith) (some_there c x at end i s.placed d)
-          (opens c x at end i s.placed v read (Inside.Of start len) e))
+          (opens c x at end i s.placed v read (Some (start, len)) e))
           ∙ s.so_far
 
       pub before-other : not u ≡ true → false ≡ same_name (stored_name c) (operand_name x)
@@ -264,11 +264,11 @@ module _ (c x : List ℕ) (n : ℕ) (counted : n ≡ rdn_count c) where
   name-empty e = sym (from_end c x 0 (sym e ∙ counted)) ∙ whole c x
 
   module _ (u : Bool) (told : u ≡ same_from c x (n - 1)) where
-    pub name-other : not u ≡ true → false ≡ same_name (stored_name c) (operand_name x)
-    name-other f = sym (all-differ c x (n - 1) (omega arith) (sym told ∙ not-true u f))
+    pub name-other : u ≡ false → u ≡ same_name (stored_name c) (operand_name x)
+    name-other f = f ∙ sym (all-differ c x (n - 1) (omega arith) (sym told ∙ f))
 
-    pub name-last : not u ≡ false → same_from c x (n - 1) ≡ true
-    name-last f = sym told ∙ not-false u f
+    pub name-last : u ≡ true → same_from c x (n - 1) ≡ true
+    name-last f = sym told ∙ f
 
   pub name-within : n - 1 ≤ rdn_count c
   name-within = omega arith

@@ -1,34 +1,25 @@
 -- Stored names against the operand: one lemma for each return and each turn of a loop.
 use mathlib.Core.Path.{◌≡◌, refl, sym, ap, ap₂, ◌∙◌, subst}
-use mathlib.Core.Bool.{Bool, true, false, not}
+use mathlib.Core.Bool.{Bool, true, false}
 use Rattle.std.specs.Prelude.{Option, None, Some}
 use mathlib.Core.List.{List, [], ◌∷◌, map}
 use Prim.Native.Nat.{ℕ, suc, ◌≤◌, ◌<◌, ◌+◌, ◌-◌, ◌*◌, ◌/◌, ◌%◌, ◌^◌}
 use native.Mathlib.Omega.{arith}
 use native.Mathlib.Numerals.{add-one}
 use native.Mathlib.Nat.{mul-add, pow-suc, pow-le-pow_right}
-use borrow.Author.Tests.{eq-eqb, ne_eqb, not-true, not-false}
 use lib.ListN.{length, length-map}
 use Rattle.octets.specs.Pick.{pick, both, consed}
-use Rattle.octets.specs.Octets.{octet, two, part, same}
-use Rattle.octets.specs.Inner.Answers.{between}
-use Rattle.octets.proofs.Laws.{never}
+use Rattle.octets.specs.Octets.{part}
 use Rattle.der.specs.Header.{inside_at}
-use Rattle.der.specs.Meaning.{arcs_of}
-use Rattle.der.specs.Dotted.{dotted_arcs}
 use Rattle.der.specs.Names.{Element, element_at, elements_from, elements_of, pair_of}
-use Rattle.der.specs.declared.Inside.{Inside}
 use Rattle.der.proofs.Laws.{inside-long}
 use Rattle.der.proofs.NameLaws.{elements_end, elements_full, elements_misfit, elements_next}
-use Rattle.strings.specs.Prepared.{prepared}
-use Rattle.strings.specs.Inner.Comparing.{folded}
-use Rattle.names.specs.Compared.{Compared, same_pair, stored, stored_rdn, without, others, same_rdn}
-use Rattle.names.specs.Inner.Operand.{type_start, text_start, attribute_back, attributes_back, start_back, rdn_back, rdn_start}
+use Rattle.names.specs.Compared.{Compared, stored, stored_rdn, without, others, same_rdn}
+use Rattle.names.specs.Inner.Operand.{type_start, attribute_back, attributes_back, start_back}
 use Rattle.names.proofs.Matching.{other_length, without-length}
-use Rattle.namematch.specs.Inner.Marks.{unused, same_unused, behind, marked, report, Near}
-use Rattle.namematch.specs.declared.Marks.{Marks}
+use Rattle.namematch.specs.Inner.Marks.{unused, same_unused, behind, marked, Near}
 use Rattle.namematch.proofs.Laws.{pair_in, rdn_elements, none_left, next_element, few_elements}
-use Rattle.namematch.proofs.Laws.{none-marked, taken, without-marked, above, spread, above-start, above-behind, attributes_length}
+use Rattle.namematch.proofs.Laws.{none-marked, taken, without-marked, above, spread, above-behind, attributes_length}
 
 pub always : (x : Bool) → both x true ≡ x
 always true = refl
@@ -43,18 +34,9 @@ pub record Counting (tag most : ℕ) (c : List ℕ) (n at : ℕ) : Type 0 where
   pub few : n ≤ most
   pub so_far : counted n (elements_from (most - n) tag c at) ≡ length (elements_of (elements_from most tag c 0))
 
-counted_start : (o : Option (List Element)) → counted 0 o ≡ length (elements_of o)
-counted_start None = refl
-counted_start (Some es) = omega arith
-
 counted_next : (n : ℕ) (b : Element) (o : Option (List Element)) → counted n (consed b o) ≡ counted (n + 1) o
 counted_next n b None = refl
 counted_next n b (Some es) = omega arith
-
-pub count-start : (tag most : ℕ) (c : List ℕ) → Counting tag most c 0 0
-count-start tag most c =
-    let e : most - 0 ≡ most = omega arith in
-    record { few = omega arith; so_far = ap (λ (m : ℕ). counted 0 (elements_from m tag c 0)) e ∙ counted_start (elements_from most tag c 0) }
 
 module _ (tag most : ℕ) (c : List ℕ) (n at : ℕ) (s : Counting tag most c n at) where
   pub count-done : length c ≤ at → n ≡ length (elements_of (elements_from most tag c 0))
@@ -68,14 +50,14 @@ module _ (tag most : ℕ) (c : List ℕ) (n at : ℕ) (s : Counting tag most c n
         let z : most - n ≡ 0 = omega arith in
         sym (ap (λ (m : ℕ). counted n (elements_from m tag c at)) z ∙ ap (counted n) (elements_full tag c at h)) ∙ s.so_far
 
-    module _ (d : n < most) (i : Inside) (read : i ≡ inside_at tag c at (length c)) where
+    module _ (d : n < most) (i : Option (ℕ × ℕ)) (read : i ≡ inside_at tag c at (length c)) where
       step : elements_from (most - n) tag c at ≡ elements_from (suc (most - (n + 1))) tag c at
       step = let e : most - n ≡ suc (most - (n + 1)) = omega arith in ap (λ (m : ℕ). elements_from m tag c at) e
 
-      pub count-misfit : i ≡ Inside.Misfit → 0 ≡ length (elements_of (elements_from most tag c 0))
+      pub count-misfit : i ≡ None → 0 ≡ length (elements_of (elements_from most tag c 0))
       count-misfit e = sym (ap (counted n) (step ∙ elements_misfit tag c at h (most - (n + 1)) (sym read ∙ e))) ∙ s.so_far
 
-      module _ (start len : ℕ) (e : i ≡ Inside.Of start len) where
+      module _ (start len : ℕ) (e : i ≡ Some (start, len)) where
         pub count_falls : length c - (start + len) < length c - at
         count_falls = omega (arith, inside-long tag c at (length c) start len (sym read ∙ e))
 
@@ -87,60 +69,17 @@ module _ (tag most : ℕ) (c : List ℕ) (n at : ℕ) (s : Counting tag most c n
         }
 
 -- ---- the operand
-pub two-before : (x : List ℕ) (end k i a b r : ℕ) → i ≡ end - k → a ≡ octet x i → b ≡ octet x (i + 1) → r ≡ a * 256 + b → r ≡ two x (end - k)
-two-before x end k i a b r e p q f = f ∙ ap₂ (λ (y z : ℕ). y * 256 + z) p q ∙ ap (two x) e
-
-pub one-before : (x : List ℕ) (end i a r : ℕ) → i ≡ end - 1 → a ≡ octet x i → r ≡ a → r ≡ octet x (end - 1)
-one-before x end i a r e p f = f ∙ p ∙ ap (octet x) e
-
-module _ (n : ℕ) (x : List ℕ) (end left start : ℕ) (inv : start_back left x start ≡ start_back n x end) where
-  pub back_done : left ≤ 0 → start ≡ start_back n x end
+-- i of n attributes are behind
+module _ (n : ℕ) (x : List ℕ) (end i start : ℕ) (inv : start_back (n - i) x start ≡ start_back n x end) where
+  pub back_done : n ≤ i → start ≡ start_back n x end
   unfolding start_back
-  back_done h = let z : left ≡ 0 = omega arith in sym (ap (λ (k : ℕ). start_back k x start) z) ∙ inv
+  back_done h = let z : n - i ≡ 0 = omega arith in sym (ap (λ (k : ℕ). start_back k x start) z) ∙ inv
 
-  pub back_more : (p : ℕ) → 0 < left → p ≡ type_start x start → start_back (left - 1) x p ≡ start_back n x end
+  pub back_more : (p : ℕ) → i < n → p ≡ type_start x start → start_back (n - (i + 1)) x p ≡ start_back n x end
   unfolding start_back
   back_more p h e =
-      let z : left ≡ suc (left - 1) = omega arith in
-      ap (start_back (left - 1) x) e ∙ sym (ap (λ (k : ℕ). start_back k x start) z) ∙ inv
-
-pub start_told : (x : List ℕ) (end n i r : ℕ) → n ≡ octet x (end - 1) → i ≡ end - 1 → r ≡ start_back n x i → r ≡ rdn_start x end
-start_told x end n i r e f g = g ∙ ap₂ (λ (y z : ℕ). start_back y x z) e f
-
--- ---- pairs
-pub types_told : (c x : List ℕ) (a b p q : ℕ) (s t : List ℕ) (r : Bool) → t ≡ between x p q → s ≡ between c a b → r ≡ same (arcs_of s) (dotted_arcs t)
-    → r ≡ same (arcs_of (between c a b)) (dotted_arcs (between x p q))
-types_told c x a b p q s t r e f g = g ∙ ap₂ (λ (y z : List ℕ). same (arcs_of y) (dotted_arcs z)) f e
-
-pub values_told : (c x : List ℕ) (a b p q : ℕ) (s t : List ℕ) (r : Bool) → s ≡ between c a b → t ≡ between x p q → r ≡ same (prepared true s) (folded true t)
-    → r ≡ same (prepared true (between c a b)) (folded true (between x p q))
-values_told c x a b p q s t r e f g = g ∙ ap₂ (λ (y z : List ℕ). same (prepared true y) (folded true z)) e f
-
-module _ (c x : List ℕ) (end d e q f : ℕ) (u : Bool) (value : between c d e ≡ (pair_of c).value) (from : q ≡ text_start x end) (to : f ≡ end - 4)
-    (told : u ≡ same (prepared true (between c d e)) (folded true (between x q f))) where
-  values : u ≡ same (prepared true (pair_of c).value) (folded true (between x (text_start x end) (end - 4)))
-  values =
-      told
-      ∙ ap (λ (y : List ℕ). same (prepared true y) (folded true (between x q f))) value
-      ∙ ap₂ (λ (y z : ℕ). same (prepared true (pair_of c).value) (folded true (between x y z))) from to
-
-  pub pair-other : not u ≡ true → false ≡ same_pair (stored (pair_of c)) (attribute_back x end)
-  pair-other h = rw (sym values ∙ not-true u h) (sym (never (same (arcs_of (pair_of c).type) (dotted_arcs (between x (type_start x end) (text_start x end))))))
-
-  pub pair_is : (a b p : ℕ) (r : Bool) → between c a b ≡ (pair_of c).type → p ≡ type_start x end → not u ≡ false
-      → r ≡ same (arcs_of (between c a b)) (dotted_arcs (between x p q)) → r ≡ same_pair (stored (pair_of c)) (attribute_back x end)
-  pair_is a b p r type first h g =
-      g
-      ∙ ap (λ (y : List ℕ). same (arcs_of y) (dotted_arcs (between x p q))) type
-      ∙ ap₂ (λ (y z : ℕ). same (arcs_of (pair_of c).type) (dotted_arcs (between x y z))) first from
-      ∙ rw (sym values ∙ not-false u h) (sym (always (same (arcs_of (pair_of c).type) (dotted_arcs (between x (type_start x end) (text_start x end))))))
-
-module _ (a b : Compared) (m : ℕ) where
-  pub used_is : (m % 2 ≡ 0 → ⊥) → false ≡ same_unused a b m
-  used_is d = rw (ne_eqb (m % 2) 0 d)
-
-  pub unused-is : (r : Bool) → m % 2 ≡ 0 → r ≡ same_pair a b → r ≡ same_unused a b m
-  unused-is r e f = rw (eq-eqb (m % 2) 0 e) f
+      let z : n - i ≡ suc (n - (i + 1)) = omega arith in
+      ap (start_back (n - (i + 1)) x) e ∙ sym (ap (λ (k : ℕ). start_back k x start) z) ∙ inv
 
 -- ---- an attribute for a pair: j attributes lie before, none of them unused and the same
 pub record Using (a : Compared) (x : List ℕ) (end n used place rest weight j : ℕ) : Type 0 where
@@ -149,17 +88,6 @@ pub record Using (a : Compared) (x : List ℕ) (end n used place rest weight j :
   pub low : ℕ
   pub whole : low + weight * rest ≡ used
   pub so_far : above low weight (marked a (attributes_back (n - j) x place) rest) ≡ marked a (attributes_back n x end) used
-
-pub use_start : (a : Compared) (x : List ℕ) (end n used : ℕ) → Using a x end n used end used 1 0
-use_start a x end n used =
-    let e : n - 0 ≡ n = omega arith in
-    record {
-      few = omega arith;
-      power = refl;
-      low = 0;
-      whole = omega arith;
-      so_far = above-start (marked a (attributes_back (n - 0) x end) used) ∙ ap (λ (k : ℕ). marked a (attributes_back k x end) used) e;
-    }
 
 module _ (a : Compared) (x : List ℕ) (end n used place rest weight j : ℕ) (s : Using a x end n used place rest weight j) where
   pub use_none : n ≤ j → None ≡ marked a (attributes_back n x end) used
@@ -178,12 +106,6 @@ module _ (a : Compared) (x : List ℕ) (end n used place rest weight j : ℕ) (s
 
     pub use_near : n ≤ 4 → used + weight ≤ used + 8
     use_near l = let w = weight-low l in omega arith
-
-    pub use_fits : n ≤ 4 → used ≤ 24 → used + weight < 18446744073709551616
-    use_fits l m = let w = weight-low l in omega arith
-
-    pub weight-fits : n ≤ 4 → weight * 2 < 18446744073709551616
-    weight-fits l = let w = weight-low l in omega arith
 
     module _ (u : Bool) (told : u ≡ same_unused a (attribute_back x place) rest) where
       first : above s.low weight (pick u (Some (rest + 1)) (behind (rest % 2) (marked a (attributes_back (n - (j + 1)) x (type_start x place)) (rest / 2))))
@@ -279,31 +201,31 @@ module _ (c x : List ℕ) (end n at used i : ℕ) (s : Matching c x end n at use
     pub match_low : used ≤ 24
     match_low = let a = s.low in let b = s.most in omega arith
 
-    module _ (v : Inside) (read : v ≡ inside_at 48 c at (length c)) where
-      pub match_misfit : v ≡ Inside.Misfit → false ≡ same_rdn (stored_rdn c) (attributes_back n x end)
+    module _ (v : Option (ℕ × ℕ)) (read : v ≡ inside_at 48 c at (length c)) where
+      pub match_misfit : v ≡ None → false ≡ same_rdn (stored_rdn c) (attributes_back n x end)
       match_misfit e = let z = none_left (4 - i) 48 c at (sym read ∙ e) in let q = s.pairs-left in absurd (omega arith)
 
-      module _ (start len : ℕ) (e : v ≡ Inside.Of start len) where
+      module _ (start len : ℕ) (e : v ≡ Some (start, len)) where
         next : pairs_left c i at ≡ element_at c at start len ∷ pairs_left c (i + 1) (start + len)
         next = next_element 4 48 c n i at start len h s.most s.pairs-left (sym read ∙ e)
 
-        module _ (p : List ℕ) (q : p ≡ part c start len) (r : Marks) (told : report r ≡ marked (stored (pair_of p)) (attributes_back n x end) used) where
-          taking : taken (unused (attributes_back n x end)) (report r) ≡ without (stored (pair_of (part c start len))) (unused (attributes_back n x end) used)
+        module _ (p : List ℕ) (q : p ≡ part c start len) (r : Option ℕ) (told : r ≡ marked (stored (pair_of p)) (attributes_back n x end) used) where
+          taking : taken (unused (attributes_back n x end)) r ≡ without (stored (pair_of (part c start len))) (unused (attributes_back n x end) used)
           taking =
               ap (taken (unused (attributes_back n x end))) (told ∙ ap (λ (y : List ℕ). marked (stored (pair_of y)) (attributes_back n x end) used) q)
               ∙ sym (without-marked (stored (pair_of (part c start len))) (attributes_back n x end) used)
 
-          others-of : others (λ l. same_rdn (map pair_in (pairs_left c (i + 1) (start + len))) l) (taken (unused (attributes_back n x end)) (report r))
+          others-of : others (λ l. same_rdn (map pair_in (pairs_left c (i + 1) (start + len))) l) (taken (unused (attributes_back n x end)) r)
               ≡ same_rdn (stored_rdn c) (attributes_back n x end)
           unfolding same_rdn
           others-of =
               ap (λ (o : Option (List Compared)). others (λ l. same_rdn (map pair_in (pairs_left c (i + 1) (start + len))) l) o) taking
               ∙ sym (ap (λ (l : List Element). same_rdn (map pair_in l) (unused (attributes_back n x end) used)) next) ∙ s.so_far
 
-          pub match_none : r ≡ Marks.No → false ≡ same_rdn (stored_rdn c) (attributes_back n x end)
+          pub match_none : r ≡ None → false ≡ same_rdn (stored_rdn c) (attributes_back n x end)
           match_none f = rw f at others-of
 
-          pub match_more : (m : ℕ) → r ≡ Marks.Of m → Near used r → Matching c x end n (start + len) m (i + 1)
+          pub match_more : (m : ℕ) → r ≡ Some m → Near used r → Matching c x end n (start + len) m (i + 1)
           match_more m f g =
               let a = s.low in
               let near : m ≤ used + 8 = subst (Near used) f g in
@@ -321,7 +243,3 @@ module _ (c x : List ℕ) (end n at used i : ℕ) (s : Matching c x end n at use
                 attributes_left = omega arith;
                 so_far = rw f at others-of;
               }
-
-pub rdn_back-is : (c x : List ℕ) (end n i : ℕ) (r : Bool) → n ≡ octet x (end - 1) → i ≡ end - 1 → r ≡ same_rdn (stored_rdn c) (attributes_back n x i)
-    → r ≡ same_rdn (stored_rdn c) (rdn_back x end)
-rdn_back-is c x end n i r e f g = g ∙ ap₂ (λ (y z : ℕ). same_rdn (stored_rdn c) (attributes_back y x z)) e f

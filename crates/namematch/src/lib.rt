@@ -15,7 +15,7 @@ ghost use Rattle.names.specs.Inner.Operand as operand;
 ghost use Rattle.namematch.specs.Inner.Marks as marks;
 ghost use Rattle.namematch.specs.Inner.Names as places;
 
-use der::{Inside, Name, PairParts};
+use der::{Name, PairParts};
 
 // Where an attribute of the operand lies: its type up to its value, and where its value ends.
 #[derive(Clone, Copy)]
@@ -23,13 +23,6 @@ struct AttributeParts {
     type_start: usize,
     text_start: usize,
     text_end: usize,
-}
-
-// The marks of the used attributes with one more; or no unused attribute is the same.
-#[derive(Clone, Copy)]
-enum Marks {
-    Of(usize),
-    No,
 }
 
 // ---- stored elements
@@ -40,11 +33,12 @@ fn count(tag: usize, most: usize, c: &[u8]) -> usize
 {
     let mut n: usize = 0;
     let mut at: usize = 0;
+    // A cursor: each element says where the next one starts.
     while at < c.len() {
         if most <= n {
             return 0;
         }
-        let Inside::Of(start, len) = der::open_within(tag, c, at, c.len()) else {
+        let Some((start, len)) = der::open_within(tag, c, at, c.len()) else {
             return 0;
         };
         n += 1;
@@ -54,22 +48,12 @@ fn count(tag: usize, most: usize, c: &[u8]) -> usize
 }
 
 // ---- the operand, from an end on backwards
-// a - b, 0 where b is larger.
-fn less(a: usize, b: usize) -> usize
-    ensures { result ≡ a - b }
-{
-    if a <= b {
-        return 0;
-    }
-    a - b
-}
-
 // The length in the two octets that start k octets before an end.
 fn length_before(x: &[u8], end: usize, k: usize) -> usize
     requires { 1 < k }
     ensures { result ≡ two x.now (end - k) }
 {
-    let i = less(end, k);
+    let i = end.saturating_sub(k);
     octets::wide_two(octets::octet(x, i), octets::octet(x, i + 1))
 }
 
@@ -79,9 +63,9 @@ fn attribute_parts(x: &[u8], end: usize) -> AttributeParts
     ensures text_from { result.text_start ≡ operand.text_start x.now end }
     ensures text_to { result.text_end ≡ end - 4 }
 {
-    let text_end = less(end, 4);
-    let text_start = less(text_end, length_before(x, end, 2));
-    let type_start = less(text_start, length_before(x, end, 4));
+    let text_end = end.saturating_sub(4);
+    let text_start = text_end.saturating_sub(length_before(x, end, 2));
+    let type_start = text_start.saturating_sub(length_before(x, end, 4));
     AttributeParts {
         type_start,
         text_start,
@@ -93,11 +77,9 @@ fn attribute_parts(x: &[u8], end: usize) -> AttributeParts
 fn start_back(n: usize, x: &[u8], end: usize) -> usize
     ensures { result ≡ operand.start_back n x.now end }
 {
-    let mut left = n;
     let mut start = end;
-    while 0 < left {
+    for _ in 0..n {
         start = attribute_parts(x, start).type_start;
-        left -= 1;
     }
     start
 }
@@ -106,7 +88,7 @@ fn start_back(n: usize, x: &[u8], end: usize) -> usize
 fn attribute_count(x: &[u8], end: usize) -> usize
     ensures { result ≡ octet x.now (end - 1) }
 {
-    octets::wide(octets::octet(x, less(end, 1)))
+    usize::from(octets::octet(x, end.saturating_sub(1)))
 }
 
 // ---- pairs
@@ -139,45 +121,39 @@ fn same_pair(c: &[u8], x: &[u8], end: usize) -> bool
 {
     let p = der::pair_parts(c);
     let a = attribute_parts(x, end);
-    if !same_value(c, p, x, a) {
-        return false;
-    }
-    same_type(c, p, x, a)
+    same_value(c, p, x, a) && same_type(c, p, x, a)
 }
 
 // The same, where the attribute isn't marked as used: the last bit of `rest` is its mark.
+#[tactic(auto, using(octets::proofs::Tests::tests))]
 fn same_unused(c: &[u8], x: &[u8], end: usize, rest: usize) -> bool
     ensures { result ≡ marks.same_unused (compared.stored (names.pair_of c.now)) (operand.attribute_back x.now end) rest }
 {
-    if rest % 2 != 0 {
-        return false;
-    }
-    same_pair(c, x, end)
+    rest % 2 == 0 && same_pair(c, x, end)
 }
 
 // ---- RDNs
-// The marks with that of the first unused attribute that a stored pair is the same as, of n attributes that end at a place. Bit j marks the j-th from the end.
-fn use_attribute(c: &[u8], x: &[u8], end: usize, n: usize, used: usize) -> Marks
+// The marks with that of the first unused attribute that a stored pair is the same as, of n attributes that end at a place; none where none is. Bit j marks the
+// j-th from the end.
+fn use_attribute(c: &[u8], x: &[u8], end: usize, n: usize, used: usize) -> Option<usize>
     requires few { n ≤ 4 }
     requires low { used ≤ 24 }
-    ensures marked { marks.report result ≡ marks.marked (compared.stored (names.pair_of c.now))
+    ensures marked { result ≡ marks.marked (compared.stored (names.pair_of c.now))
         (operand.attributes_back n x.now end) used }
     ensures near { marks.Near used result }
 {
     let mut place = end;
     let mut rest = used;
     let mut weight = 1;
-    let mut j = 0;
-    while j < n {
+    for _ in 0..n {
         if same_unused(c, x, place, rest) {
-            return Marks::Of(used + weight);
+            return Some(used + weight);
         }
         place = attribute_parts(x, place).type_start;
-        rest = rest / 2;
-        weight = weight * 2;
-        j += 1;
+        rest /= 2;
+        weight *= 2;
     }
-    Marks::No
+    None
 }
 
 // Whether the pairs of a stored RDN and n attributes that end at a place are the same, one to one.
@@ -189,17 +165,15 @@ fn same_rdn(c: &[u8], x: &[u8], end: usize, n: usize) -> bool
     }
     let mut at = 0;
     let mut used = 0;
-    let mut i = 0;
-    while i < n {
-        let Inside::Of(start, len) = der::open_within(Name::PAIR_TAG, c, at, c.len()) else {
+    for _ in 0..n {
+        let Some((start, len)) = der::open_within(Name::PAIR_TAG, c, at, c.len()) else {
             return false;
         };
-        let Marks::Of(more) = use_attribute(octets::part(c, start, len), x, end, n, used) else {
+        let Some(more) = use_attribute(octets::part(c, start, len), x, end, n, used) else {
             return false;
         };
         used = more;
         at = start + len;
-        i += 1;
     }
     true
 }
@@ -208,14 +182,14 @@ fn same_rdn(c: &[u8], x: &[u8], end: usize, n: usize) -> bool
 fn same_rdn_back(c: &[u8], x: &[u8], end: usize) -> bool
     ensures { result ≡ compared.same_rdn (compared.stored_rdn c.now) (operand.rdn_back x.now end) }
 {
-    same_rdn(c, x, less(end, 1), attribute_count(x, end))
+    same_rdn(c, x, end.saturating_sub(1), attribute_count(x, end))
 }
 
 // Where the RDN that ends at a place starts.
 fn rdn_start(x: &[u8], end: usize) -> usize
     ensures { result ≡ operand.rdn_start x.now end }
 {
-    start_back(attribute_count(x, end), x, less(end, 1))
+    start_back(attribute_count(x, end), x, end.saturating_sub(1))
 }
 
 // ---- names
@@ -228,22 +202,20 @@ fn same_last(c: &[u8], x: &[u8], n: usize) -> bool
     let last = n - 1;
     let mut place = 0;
     let mut reached = x.len();
-    let mut i = 0;
-    while i < last {
+    for _ in 0..last {
         if reached == 0 {
             return false;
         }
-        let Inside::Of(start, len) = der::open_within(Name::RDN_TAG, c, place, c.len()) else {
+        let Some((start, len)) = der::open_within(Name::RDN_TAG, c, place, c.len()) else {
             return false;
         };
         reached = rdn_start(x, reached);
         place = start + len;
-        i += 1;
     }
     if reached == 0 {
         return false;
     }
-    let Inside::Of(from, size) = der::open_within(Name::RDN_TAG, c, place, c.len()) else {
+    let Some((from, size)) = der::open_within(Name::RDN_TAG, c, place, c.len()) else {
         return false;
     };
     if rdn_start(x, reached) != 0 {
@@ -260,12 +232,11 @@ fn same_before(c: &[u8], x: &[u8], k: usize) -> bool
 {
     let mut at = 0;
     let mut end = x.len();
-    let mut i = 0;
-    while i < k {
+    for _ in 0..k {
         if end == 0 {
             return false;
         }
-        let Inside::Of(start, len) = der::open_within(Name::RDN_TAG, c, at, c.len()) else {
+        let Some((start, len)) = der::open_within(Name::RDN_TAG, c, at, c.len()) else {
             return false;
         };
         if !same_rdn_back(octets::part(c, start, len), x, end) {
@@ -273,7 +244,6 @@ fn same_before(c: &[u8], x: &[u8], k: usize) -> bool
         }
         end = rdn_start(x, end);
         at = start + len;
-        i += 1;
     }
     true
 }
@@ -292,10 +262,7 @@ pub fn same_name(c: &[u8], x: &[u8]) -> bool
 {
     let n = count(Name::RDN_TAG, Name::MAX_RDNS, c);
     if n == 0 {
-        return x.len() == 0;
+        return x.is_empty();
     }
-    if !same_last(c, x, n) {
-        return false;
-    }
-    same_before(c, x, n - 1)
+    same_last(c, x, n) && same_before(c, x, n - 1)
 }

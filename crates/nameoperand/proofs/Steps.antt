@@ -1,69 +1,17 @@
 -- Writing an operand: one lemma for each need, its premises as the code has them.
-use mathlib.Core.Path.{◌≡◌, refl, sym, ap, ap₂, ◌∙◌}
+use mathlib.Core.Path.{◌≡◌, sym, ap, ap₂, ◌∙◌}
 use mathlib.Core.Bool.{true}
-use mathlib.Core.List.{List, [], ◌∷◌, ◌++◌, append_assoc, append-nil}
+use mathlib.Core.List.{List, [], ◌∷◌, ◌++◌, append_assoc}
 use Prim.Native.Nat.{ℕ, suc, ◌≤◌, ◌<◌, ◌+◌, ◌-◌, ◌*◌, ◌/◌, ◌%◌}
 use native.Mathlib.Omega.{arith}
 use native.Mathlib.Numerals.{add-one}
 use lib.ListN.{length, take, drop, set, length-set}
 use lib.Seq.{take-suc-set, length-take-le}
-use Rattle.octets.specs.Octets.{octet}
 use Rattle.octets.specs.Inner.Answers.{between}
-use Rattle.octets.proofs.Laws.{rest-cons, rest-length}
+use Rattle.octets.proofs.Laws.{rest-length}
 use Rattle.strings.specs.Prepared.{prepared}
 use Rattle.strings.specs.Inner.Escaped.{unescaped}
 use Rattle.names.specs.Inner.Operand.{two_octets, attribute_octets}
-
--- ---- copying: octets stand in the memory up to `at`, those from place i on are to come
-pub record Copying (p : List ℕ) (from to n : ℕ) (m₀ : List ℕ) (i at : ℕ) (m : List ℕ) : Type 0 where
-  pub long : length m ≡ 5120
-  pub begun : from ≤ i
-  pub within : i ≤ to
-  pub place : at ≡ n + (i - from)
-  pub start : take at m ++ between p i to ≡ take n m₀ ++ between p from to
-
-pub copy_start : (p : List ℕ) (from to n : ℕ) (m : List ℕ) → length m ≡ 5120 → from ≤ to → Copying p from to n m from n m
-copy_start p from to n m l o = record { long = l; begun = omega arith; within = o; place = omega arith; start = refl }
-
-between_first : (p : List ℕ) (i to : ℕ) → i < to → to ≤ length p → between p i to ≡ octet p i ∷ between p (i + 1) to
-between_first p i to h w = go
-  where
-    go : between p i to ≡ octet p i ∷ between p (i + 1) to
-    go = ap (λ (l : List ℕ). take (to - i) l) (rest-cons p i (omega arith)) ∙ ap (λ (k : ℕ). take k (octet p i ∷ drop (i + 1) p)) more
-      where
-        more : to - i ≡ suc (to - (i + 1))
-        more = omega arith
-
-module _ (p : List ℕ) (from to n : ℕ) (m₀ : List ℕ) (i at : ℕ) (m : List ℕ) (v : Copying p from to n m₀ i at m) where
-  pub copy_long : length m ≡ 5120
-  copy_long = v.long
-
-  pub copy_done : to ≤ i → take at m ≡ take n m₀ ++ between p from to
-  copy_done h = sym (append-nil (take at m)) ∙ ap (λ (l : List ℕ). take at m ++ l) (sym none) ∙ v.start
-    where
-      none : between p i to ≡ []
-      none = let z : to - i ≡ 0 = omega arith in ap (λ (k : ℕ). take k (drop i p)) z
-
-  pub copy_place : to ≤ i → at ≡ n + (to - from)
-  copy_place h = omega (arith, v.place, v.within)
-
-  module _ (h : i < to) (short : n + (to - from) ≤ 5120) where
-    pub copy_room : at < 5120
-    copy_room = omega (arith, v.place, v.begun)
-
-    pub copy_fits : at + 1 < 18446744073709551616
-    copy_fits = omega (arith, copy_room)
-
-    pub copy_more : to ≤ length p → Copying p from to n m₀ (i + 1) (at + 1) (set m at (octet p i))
-    copy_more w = record {
-      long = length-set m at (octet p i) ∙ v.long;
-      begun = omega (arith, v.begun);
-      within = omega arith;
-      place = omega (arith, v.place, v.begun);
-      start =
-          rw (add-one at, take-suc-set m at (octet p i) (omega (arith, copy_room, v.long)), append_assoc (take at m) (octet p i ∷ []) (between p (i + 1) to))
-          (ap (λ (l : List ℕ). take at m ++ l) (sym (between_first p i to h w)) ∙ v.start);
-    }
 
 -- ---- a number in two octets
 pub two-written : (m : List ℕ) (n k : ℕ) → length m ≡ 5120 → n + 2 ≤ 5120

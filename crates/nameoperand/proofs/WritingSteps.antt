@@ -28,7 +28,6 @@ use Rattle.names.specs.Rfc4514.{type_from, if_ended, alone, relative_distinguish
 use Rattle.names.specs.Inner.Reading.{letters_at, report_attribute, Rising, AttributePlaces}
 use Rattle.names.specs.Inner.Operand.{attribute_octets, attributes_octets, rdn_octets, name_octets, or_none}
 use Rattle.names.specs.declared.Attribute.{Attribute}
-use Rattle.names.specs.declared.AttributeAt.{AttributeAt}
 use Rattle.names.proofs.Laws.{characters-cons}
 use Rattle.names.proofs.NameSteps.{before-is, behind-is}
 use Rattle.nameoperand.specs.Inner.Writing.{RdnWritten}
@@ -85,16 +84,15 @@ type-dotted ls a rest = go (type_from ls)
         tested true q false f = absurd (none-some _ f)
         tested false q v f = absurd (none-some _ f)
 
-pub type-long : (p : List ℕ) (at : ℕ) (r : AttributeAt) (a : Attribute)
+pub type-long : (p : List ℕ) (at : ℕ) (r : Option Attribute) (a : Attribute)
     → report_attribute p at r ≡ attribute_from (letters_at p at) → AttributePlaces at (length p) r
-    → r ≡ AttributeAt.Of a → at + 3 ≤ a.equals
-type-long p at AttributeAt.No a told places e = absurd (let z : ◌≡◌ {A = ℕ} 0 1 = cc in omega arith)
-type-long p at (AttributeAt.Of b) a told places e =
-    let same : b ≡ a = cc in
-    let long = dotted-long (between p at b.equals) (sym (dotted-pieces (between p at b.equals))
-    ∙ type-dotted (letters_at p at) (record { type = between p at b.equals; value = unescaped (between p (b.equals + 1) b.end) })
-    (letters_at p b.end) (sym told)) in
-    omega (arith, long, between-length p at b.equals (omega (arith, places.before, places.up_to)), places.from, ap (λ (x : Attribute). x.equals) same)
+    → r ≡ Some a → at + 3 ≤ a.equals
+type-long p at r a told places e =
+    let rises : Rising at (length p) a = subst (AttributePlaces at (length p)) e places in
+    let long = dotted-long (between p at a.equals) (sym (dotted-pieces (between p at a.equals))
+    ∙ type-dotted (letters_at p at) (record { type = between p at a.equals; value = unescaped (between p (a.equals + 1) a.end) })
+    (letters_at p a.end) (sym (rw e at told))) in
+    omega (arith, long, between-length p at a.equals (omega (arith, rises.before, rises.up_to)), rises.from)
 
 -- ---- one attribute more
 abbrev read_as : {A : Type 0} → A → List rfc.Letter → Option (Read A)
@@ -172,7 +170,7 @@ writing_start p first from m l b h = go (rdn_from most_pairs (letters_at p first
       number = omega arith;
     }
 
-module _ (p : List ℕ) (first from : ℕ) (m₀ : List ℕ) (at n count : ℕ) (m : List ℕ) (v : Writing p first from m₀ at n count m) (r : AttributeAt)
+module _ (p : List ℕ) (first from : ℕ) (m₀ : List ℕ) (at n count : ℕ) (m : List ℕ) (v : Writing p first from m₀ at n count m) (r : Option Attribute)
     (told : report_attribute p at r ≡ attribute_from (letters_at p at)) where
   abbrev most : ℕ
   most = most_pairs - (count + 1)
@@ -184,7 +182,7 @@ module _ (p : List ℕ) (first from : ℕ) (m₀ : List ℕ) (at n count : ℕ) 
   read-on = ap (λ (k : ℕ). rdn_from k (letters_at p at)) (sym left_is) ∙ v.read
 
   -- an attribute is there
-  pub writing_none : (x : Written) → r ≡ AttributeAt.No → RdnWritten p first from m₀ x m
+  pub writing_none : (x : Written) → r ≡ None → RdnWritten p first from m₀ x m
   unfolding rdn_from
   writing_none x e = absurd (none-some _ (ap (λ (o : Option (Read rfc.Attribute)). bind o (λ a.
       pick (is_before 43 a.rest) (with_first a.got (rdn_from most (behind a.rest))) (Some (record { got = a.got ∷ []; rest = a.rest }))))
@@ -199,7 +197,7 @@ module _ (p : List ℕ) (first from : ℕ) (m₀ : List ℕ) (at n count : ℕ) 
   pub count_fits : count + 1 < 18446744073709551616
   count_fits = omega (arith, v.few)
 
-  module _ (a : Attribute) (e : r ≡ AttributeAt.Of a) where
+  module _ (a : Attribute) (e : r ≡ Some a) where
     abbrev this : rfc.Attribute
     this = record { type = between p at a.equals; value = unescaped (between p (a.equals + 1) a.end) }
 
@@ -208,11 +206,7 @@ module _ (p : List ℕ) (first from : ℕ) (m₀ : List ℕ) (at n count : ℕ) 
 
     module _ (places : AttributePlaces at (length p) r) where
       rising : Rising at (length p) a
-      rising = go r e places
-        where
-          go : (x : AttributeAt) → x ≡ AttributeAt.Of a → AttributePlaces at (length p) x → Rising at (length p) a
-          go AttributeAt.No q w = absurd (let z : ◌≡◌ {A = ℕ} 0 1 = cc in omega arith)
-          go (AttributeAt.Of b) q w = let z : b ≡ a = cc in subst (Rising at (length p)) z w
+      rising = subst (AttributePlaces at (length p)) e places
 
       pub value-behind : a.equals < a.end
       value-behind = rising.before

@@ -13,37 +13,27 @@ ghost use Rattle.names.specs.Inner.Reading.{letters_at};
 ghost use Rattle.names.specs.Inner.Operand as operand;
 ghost use Rattle.nameoperand.specs.Inner.Writing as writing;
 
-use names::AttributeAt;
 use strings::Form;
 
 // Copies octets behind those that stand in memory up to a place, and answers the place after them.
 fn copy(p: &[u8], from: usize, to: usize, n: usize, memory: &mut [u8; 5120]) -> usize
-    requires room { length memory.old ≡ 5120 }
     requires ordered { from ≤ to }
     requires within { to ≤ length p.now }
     requires short { n + (to - from) ≤ 5120 }
     ensures written { part memory.new 0 result ≡ part memory.old 0 n ++ between p.now from to }
     ensures place { result ≡ n + (to - from) }
-    ensures room { length memory.new ≡ 5120 }
 {
-    let mut i = from;
-    let mut at = n;
-    while i < to {
-        memory[at] = p[i];
-        i += 1;
-        at += 1;
-    }
-    at
+    let end = n + (to - from);
+    memory[n..end].copy_from_slice(&p[from..to]);
+    end
 }
 
 // Writes a number in two octets, and answers the place after them.
 fn put_two(k: usize, n: usize, memory: &mut [u8; 5120]) -> usize
-    requires room { length memory.old ≡ 5120 }
     requires small { k < 65536 }
     requires short { n + 2 ≤ 5120 }
     ensures written { part memory.new 0 result ≡ part memory.old 0 n ++ operand.two_octets k }
     ensures place { result ≡ n + 2 }
-    ensures room { length memory.new ≡ 5120 }
 {
     memory[n] = (k / 256) as u8;
     memory[n + 1] = (k % 256) as u8;
@@ -52,13 +42,11 @@ fn put_two(k: usize, n: usize, memory: &mut [u8; 5120]) -> usize
 
 // Writes two numbers so, one behind the other.
 fn put_lengths(a: usize, b: usize, n: usize, memory: &mut [u8; 5120]) -> usize
-    requires room { length memory.old ≡ 5120 }
     requires first { a < 65536 }
     requires second { b < 65536 }
     requires short { n + 4 ≤ 5120 }
     ensures written { part memory.new 0 result ≡ part memory.old 0 n ++ (operand.two_octets a ++ operand.two_octets b) }
     ensures place { result ≡ n + 4 }
-    ensures room { length memory.new ≡ 5120 }
 {
     let next = put_two(a, n, memory);
     put_two(b, next, memory)
@@ -73,7 +61,6 @@ fn write_attribute(
     n: usize,
     memory: &mut [u8; 5120],
 ) -> usize
-    requires room { length memory.old ≡ 5120 }
     requires dotted { at + 3 ≤ equals }
     requires valued { equals < end }
     requires within { end ≤ length p.now }
@@ -82,7 +69,6 @@ fn write_attribute(
     ensures written { part memory.new 0 result ≡ part memory.old 0 n
         ++ operand.attribute_octets (record { type = between p.now at equals; value = unescaped (between p.now (equals + 1) end) }) }
     ensures most { 2 * result + 6 ≤ 5 * end }
-    ensures room { length memory.new ≡ 5120 }
 {
     let text = copy(p, at, equals, n, memory);
     let value = octets::between(p, equals + 1, end);
@@ -99,12 +85,10 @@ pub struct Written {
 
 // Writes the number of an RDN's attributes behind them.
 fn put_count(count: usize, n: usize, memory: &mut [u8; 5120]) -> usize
-    requires room { length memory.old ≡ 5120 }
     requires small { count < 256 }
     requires short { n < 5120 }
     ensures written { part memory.new 0 result ≡ part memory.old 0 n ++ (count ∷ []) }
     ensures place { result ≡ n + 1 }
-    ensures room { length memory.new ≡ 5120 }
 {
     memory[n] = count as u8;
     n + 1
@@ -112,7 +96,6 @@ fn put_count(count: usize, n: usize, memory: &mut [u8; 5120]) -> usize
 
 // Writes the RDN that starts at a place of a text behind what stands in memory.
 fn write_from(p: &[u8], first: usize, from: usize, memory: &mut [u8; 5120]) -> Written
-    requires room { length memory.old ≡ 5120 }
     requires short { length p.now ≤ 2048 }
     requires behind { 2 * from ≤ 5 * first }
     requires read { is_some (rfc.rdn_from most_pairs (letters_at p.now first)) ≡ true }
@@ -121,14 +104,12 @@ fn write_from(p: &[u8], first: usize, from: usize, memory: &mut [u8; 5120]) -> W
     let mut at = first;
     let mut n = from;
     let mut count = 0;
-    loop {
-        let AttributeAt::Of(a) = names::attribute_at(p, at) else {
-            return Written { end: at, place: n };
-        };
+    // A cursor: each attribute says where the next one starts.
+    while let Some(a) = names::attribute_at(p, at) {
         let end = a.end;
         n = write_attribute(p, at, a.equals, end, n, memory);
         count += 1;
-        if octets::octet(p, end) != 43 {
+        if octets::octet(p, end) != b'+' {
             return Written {
                 end,
                 place: put_count(count, n, memory),
@@ -136,15 +117,14 @@ fn write_from(p: &[u8], first: usize, from: usize, memory: &mut [u8; 5120]) -> W
         }
         at = end + 1;
     }
+    Written { end: at, place: n }
 }
 
 // Writes the operand of an RDN that stands between quotes, and answers its length.
 pub fn write_rdn(p: &[u8], memory: &mut [u8; 5120]) -> usize
-    requires room { length memory.old ≡ 5120 }
     requires short { length p.now ≤ 2048 }
     requires read { is_some (rfc.relative_distinguished_name (undoubled p.now)) ≡ true }
-    ensures written { part memory.new 0 result ≡ operand.rdn_octets (operand.or_none (rfc.relative_distinguished_name (undoubled p.now))) }
-    ensures room { length memory.new ≡ 5120 }
+    ensures { part memory.new 0 result ≡ operand.rdn_octets (operand.or_none (rfc.relative_distinguished_name (undoubled p.now))) }
 {
     let written = write_from(p, 0, 0, memory);
     written.place
@@ -152,22 +132,21 @@ pub fn write_rdn(p: &[u8], memory: &mut [u8; 5120]) -> usize
 
 // Writes the operand of a name that stands between quotes, and answers its length.
 pub fn write_name(p: &[u8], memory: &mut [u8; 5120]) -> usize
-    requires room { length memory.old ≡ 5120 }
     requires short { length p.now ≤ 2048 }
     requires read { is_some (rfc.distinguished_name (undoubled p.now)) ≡ true }
-    ensures written { part memory.new 0 result ≡ operand.name_octets (operand.or_none (rfc.distinguished_name (undoubled p.now))) }
-    ensures room { length memory.new ≡ 5120 }
+    ensures { part memory.new 0 result ≡ operand.name_octets (operand.or_none (rfc.distinguished_name (undoubled p.now))) }
 {
-    if p.len() == 0 {
+    if p.is_empty() {
         return 0;
     }
     let mut at = 0;
     let mut n = 0;
+    // A cursor: each RDN says where the next one starts.
     loop {
         let written = write_from(p, at, n, memory);
         let end = written.end;
         n = written.place;
-        if octets::octet(p, end) != 44 {
+        if octets::octet(p, end) != b',' {
             return n;
         }
         at = end + 1;

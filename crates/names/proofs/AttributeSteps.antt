@@ -12,7 +12,6 @@ use Rattle.octets.specs.Pick.{pick, both, either, bind}
 use Rattle.octets.specs.Octets.{octet, every}
 use Rattle.octets.specs.Text.{is_digit, is_number, pieces, onto_first}
 use Rattle.octets.specs.Inner.Answers.{between}
-use Rattle.octets.specs.declared.Place.{Place}
 use Rattle.octets.proofs.Laws.{both_true}
 use Rattle.octets.proofs.TextLaws.{every-nil}
 use Rattle.der.specs.Dotted.{every_number, is_dotted, rooted, dotted_arcs}
@@ -20,8 +19,6 @@ use Rattle.names.specs.Rfc4514 as rfc
 use Rattle.names.specs.Rfc4514.{Read, bare, escaped, wrong, up_to_end, from_end, is_string, with_first, type_from, with_value, attribute_from}
 use Rattle.names.specs.Inner.Reading.{letters_at, next_place, read, value_octets, value_from, report_value, UpTo, ValuePlaces}
 use Rattle.names.specs.Inner.Reading.{is_type_octet, plain_type, report_type, Before, TypePlaces, report_attribute, Rising}
-use Rattle.names.specs.declared.ValueEnd.{ValueEnd}
-use Rattle.names.specs.declared.AttributeAt.{AttributeAt}
 use Rattle.names.proofs.Laws.{between_cons, between_none}
 use Rattle.names.proofs.LetterSteps.{letter-end, letters-plain, letters_cases}
 
@@ -114,25 +111,22 @@ module _ (b : ℕ) (e : is_type_octet b ≡ true) where
 -- ---- the loop: it is at place i, and the type starts at place at
 pub record Typed (p : List ℕ) (at i : ℕ) : Type 0 where
   pub from : at ≤ i
-  pub on : (r : Place) → TypePlaces i (length p) r → report_type p i r ≡ plain_type (type_from (letters_at p i))
+  pub on : (r : Option ℕ) → TypePlaces i (length p) r → report_type p i r ≡ plain_type (type_from (letters_at p i))
       → report_type p at r ≡ plain_type (type_from (letters_at p at))
 
-pub typed-start : (p : List ℕ) (at : ℕ) → Typed p at at
-typed-start p at = record { from = omega arith; on = λ r b e. e }
-
 module _ (p : List ℕ) (at i : ℕ) (inv : Typed p at i) where
-  typeless : plain_type (type_from (letters_at p i)) ≡ None → report_type p at Place.Nowhere ≡ plain_type (type_from (letters_at p at))
-  typeless e = inv.on Place.Nowhere tt (sym e)
+  typeless : plain_type (type_from (letters_at p i)) ≡ None → report_type p at None ≡ plain_type (type_from (letters_at p at))
+  typeless e = inv.on None tt (sym e)
 
-  pub type-over : length p ≤ i → report_type p at Place.Nowhere ≡ plain_type (type_from (letters_at p at))
+  pub type-over : length p ≤ i → report_type p at None ≡ plain_type (type_from (letters_at p at))
   type-over h = typeless (ap (λ (ls : List rfc.Letter). plain_type (type_from ls)) (sym (letter-end p i h)) ∙ ap plain_type type-nil)
 
   module _ (h : i < length p) where
-    pub type-places : TypePlaces at (length p) (Place.At i)
+    pub type-places : TypePlaces at (length p) (Some i)
     type-places = record { from = inv.from; before = h }
 
-    pub type-found : octet p i ≡ 61 → report_type p at (Place.At i) ≡ plain_type (type_from (letters_at p at))
-    type-found e = inv.on (Place.At i) (record { from = omega arith; before = h }) (rw (between_none p i) (sym here))
+    pub type-found : octet p i ≡ 61 → report_type p at (Some i) ≡ plain_type (type_from (letters_at p at))
+    type-found e = inv.on (Some i) (record { from = omega arith; before = h }) (rw (between_none p i) (sym here))
       where
         empty : (ls : List rfc.Letter) → plain_type (read [] ls) ≡ read [] ls
         empty ls = rw (every-nil is_type_octet)
@@ -144,7 +138,7 @@ module _ (p : List ℕ) (at i : ℕ) (inv : Typed p at i) where
             ∙ ap plain_type (type_equals (letters_at p (i + 1))) ∙ empty (letters_at p (i + 1))
 
     module _ (n : octet p i ≡ 61 → ⊥) (u : Bool) (asked : u ≡ is_type_octet (octet p i)) where
-      pub type-none : not u ≡ true → report_type p at Place.Nowhere ≡ plain_type (type_from (letters_at p at))
+      pub type-none : not u ≡ true → report_type p at None ≡ plain_type (type_from (letters_at p at))
       type-none e =
           typeless (letters_cases p i (λ (ls : List rfc.Letter). plain_type (type_from ls) ≡ None) (λ _. ap plain_type type-nil)
           (λ _ _. ap plain_type type-wrong) (λ _ _ c ls. ap plain_type (type-escaped c ls))
@@ -157,13 +151,13 @@ module _ (p : List ℕ) (at i : ℕ) (inv : Typed p at i) where
           plain : is_type_octet (octet p i) ≡ true
           plain = sym asked ∙ not-false u e
 
-          lower : (r : Place) → TypePlaces (i + 1) (length p) r → TypePlaces i (length p) r
-          lower Place.Nowhere b = tt
-          lower (Place.At k) b = let f = b.from in record { from = omega arith; before = b.before }
+          lower : (r : Option ℕ) → TypePlaces (i + 1) (length p) r → TypePlaces i (length p) r
+          lower None b = tt
+          lower (Some k) b = let f = b.from in record { from = omega arith; before = b.before }
 
-          report : (r : Place) → TypePlaces (i + 1) (length p) r → report_type p i r ≡ with_first (octet p i) (report_type p (i + 1) r)
-          report Place.Nowhere b = refl
-          report (Place.At k) b =
+          report : (r : Option ℕ) → TypePlaces (i + 1) (length p) r → report_type p i r ≡ with_first (octet p i) (report_type p (i + 1) r)
+          report None b = refl
+          report (Some k) b =
               let f = b.from in
               let l : i < k = omega arith in
               ap (λ (s : List ℕ). read s (letters_at p (k + 1))) (between_cons p i k h l)
@@ -173,7 +167,7 @@ module _ (p : List ℕ) (at i : ℕ) (inv : Typed p at i) where
               ap (λ (ls : List rfc.Letter). plain_type (type_from ls)) (letters-plain p i h (no_backslash (octet p i) plain) (no_quote_lem (octet p i) plain))
               ∙ ap plain_type (type-other (octet p i) (letters_at p (i + 1)) n) ∙ plain_with (octet p i) (type_from (letters_at p (i + 1))) plain
 
-          step : (r : Place) → TypePlaces (i + 1) (length p) r → report_type p (i + 1) r ≡ plain_type (type_from (letters_at p (i + 1)))
+          step : (r : Option ℕ) → TypePlaces (i + 1) (length p) r → report_type p (i + 1) r ≡ plain_type (type_from (letters_at p (i + 1)))
               → report_type p i r ≡ plain_type (type_from (letters_at p i))
           step r b q = report r b ∙ ap (with_first (octet p i)) q ∙ sym here
 
@@ -211,43 +205,37 @@ attribute_law ls = go (type_from ls)
         choose true f = refl
         choose false f = f refl
 
-module _ (p : List ℕ) (at : ℕ) (r : Place) (told : report_type p at r ≡ plain_type (type_from (letters_at p at))) where
+module _ (p : List ℕ) (at : ℕ) (r : Option ℕ) (told : report_type p at r ≡ plain_type (type_from (letters_at p at))) where
   attribute-by : attribute_from (letters_at p at) ≡ bind (report_type p at r) with_value
   attribute-by = attribute_law (letters_at p at) ∙ ap (λ (o : Option (Read (List ℕ))). bind o with_value) (sym told)
 
-  pub attribute_typeless : r ≡ Place.Nowhere → report_attribute p at AttributeAt.No ≡ attribute_from (letters_at p at)
+  pub attribute_typeless : r ≡ None → report_attribute p at None ≡ attribute_from (letters_at p at)
   attribute_typeless e = sym (attribute-by ∙ rw e)
 
-  module _ (equals : ℕ) (e : r ≡ Place.At equals) (t : List ℕ) (u : Bool) (part : t ≡ between p at equals) (asked : u ≡ is_dotted t) where
+  module _ (equals : ℕ) (e : r ≡ Some equals) (t : List ℕ) (u : Bool) (part : t ≡ between p at equals) (asked : u ≡ is_dotted t) where
     here : attribute_from (letters_at p at) ≡ pick u (with_type (between p at equals) (value_from (letters_at p (equals + 1)))) None
-    here = attribute-by ∙ ap (λ (x : Place). bind (report_type p at x) with_value) e
+    here = attribute-by ∙ ap (λ (x : Option ℕ). bind (report_type p at x) with_value) e
         ∙ value_law (record { got = between p at equals; rest = letters_at p (equals + 1) }) ∙ rw (asked, part)
 
-    pub attribute_undotted : not u ≡ true → report_attribute p at AttributeAt.No ≡ attribute_from (letters_at p at)
+    pub attribute_undotted : not u ≡ true → report_attribute p at None ≡ attribute_from (letters_at p at)
     attribute_undotted h = sym (here ∙ rw (not-true u h))
 
-    module _ (h : not u ≡ false) (v : ValueEnd) (value : report_value p (equals + 1) v ≡ value_from (letters_at p (equals + 1))) where
+    module _ (h : not u ≡ false) (v : Option ℕ) (value : report_value p (equals + 1) v ≡ value_from (letters_at p (equals + 1))) where
       there : attribute_from (letters_at p at) ≡ with_type (between p at equals) (report_value p (equals + 1) v)
       there = here ∙ rw (not-false u h, value)
 
-      pub attribute_valueless : v ≡ ValueEnd.No → report_attribute p at AttributeAt.No ≡ attribute_from (letters_at p at)
+      pub attribute_valueless : v ≡ None → report_attribute p at None ≡ attribute_from (letters_at p at)
       attribute_valueless q = sym (there ∙ rw q)
 
-      pub attribute-is : (end : ℕ) → v ≡ ValueEnd.Of end
-          → report_attribute p at (AttributeAt.Of (record { equals = equals; end = end })) ≡ attribute_from (letters_at p at)
+      pub attribute-is : (end : ℕ) → v ≡ Some end
+          → report_attribute p at (Some (record { equals = equals; end = end })) ≡ attribute_from (letters_at p at)
       attribute-is end q = sym (there ∙ rw q)
 
-module _ (p : List ℕ) (at equals : ℕ) (r : Place) (places : TypePlaces at (length p) r) (e : r ≡ Place.At equals) where
+module _ (p : List ℕ) (at equals : ℕ) (r : Option ℕ) (places : TypePlaces at (length p) r) (e : r ≡ Some equals) where
   equals_places : Before at (length p) equals
   equals_places = rw e at places
 
-  pub equals_within : equals + 1 ≤ length p
-  equals_within = let b = equals_places.before in omega arith
-
-  pub equals_fits : length p < 18446744073709551616 → equals + 1 < 18446744073709551616
-  equals_fits fits = let b = equals_within in omega arith
-
-  pub attribute-places : (end : ℕ) (v : ValueEnd) → ValuePlaces (equals + 1) (length p) v → v ≡ ValueEnd.Of end
+  pub attribute-places : (end : ℕ) (v : Option ℕ) → ValuePlaces (equals + 1) (length p) v → v ≡ Some end
       → Rising at (length p) (record { equals = equals; end = end })
   attribute-places end v ended q =
       let b = equals_places in

@@ -47,16 +47,6 @@ module _ (p : List ℕ) (at : ℕ) where
       unfolding escaped_at
       escape_hex x e q = rw (lt-leb (length p) at h, sym asked ∙ n, sym pair ∙ not-false v e, q, told)
 
-pub escape_pair : (c d : ℕ) (v : Bool) → v ≡ both (is_hex c) (is_hex d) → not v ≡ false → both (is_hex c) (is_hex d) ≡ true
-escape_pair c d v tested e = sym tested ∙ not-false v e
-
-pub escape_fits : (p : List ℕ) (at c d : ℕ) (v : Bool) → d ≡ octet p (at + 1) → v ≡ both (is_hex c) (is_hex d) → not v ≡ false → length p < 18446744073709551616
-    → at + 2 < 18446744073709551616
-escape_fits p at c d v told tested e fits =
-    let s : 0 < octet p (at + 1) = rw told at (hex_some d (both_true (is_hex c) (is_hex d) (escape_pair c d v tested e)).1) in
-    let l : at + 1 < length p = octet-inside p (at + 1) s in
-    omega arith
-
 -- ---- the letter at a place
 pub letter-end : (p : List ℕ) (at : ℕ) → length p ≤ at → report_letter p Letter.End ≡ letters_at p at
 unfolding letters_at

@@ -20,8 +20,6 @@ use Rattle.names.specs.Rfc4514.{Read, letters, with_first, attribute_from, is_be
 use Rattle.names.specs.Rfc4514.{if_ended, alone, relative_distinguished_name}
 use Rattle.names.specs.Inner.Reading.{letters_at, report_attribute, rest_of, report_rest}
 use Rattle.names.specs.declared.Attribute.{Attribute}
-use Rattle.names.specs.declared.AttributeAt.{AttributeAt}
-use Rattle.names.specs.declared.RdnEnd.{RdnEnd}
 use Rattle.names.proofs.Laws.{characters-cons}
 use Rattle.names.proofs.LetterSteps.{letters-plain, letters_cases}
 
@@ -66,45 +64,37 @@ rdn-step most ls = go (attribute_from ls)
 
 -- the loop: it is at place i, and so many attributes may come
 module _ (p : List ℕ) (at i left : ℕ) (inv : rest_of (rdn_from left (letters_at p i)) ≡ rest_of (rdn_from most_pairs (letters_at p at))) where
-  pub rdn-over : left ≤ 0 → report_rest p RdnEnd.No ≡ rest_of (rdn_from most_pairs (letters_at p at))
+  pub rdn-over : left ≤ 0 → report_rest p None ≡ rest_of (rdn_from most_pairs (letters_at p at))
   unfolding rdn_from
   rdn-over h = let z : left ≡ 0 = omega arith in rw z at inv
 
-  module _ (h : 0 < left) (r : AttributeAt) (told : report_attribute p i r ≡ attribute_from (letters_at p i)) where
+  module _ (h : 0 < left) (r : Option Attribute) (told : report_attribute p i r ≡ attribute_from (letters_at p i)) where
     next : bind (rest_of (report_attribute p i r)) (after_first (left - 1)) ≡ rest_of (rdn_from most_pairs (letters_at p at))
     next =
         let z : left ≡ suc (left - 1) = omega arith in
         ap (λ (o : Option (Read rfc.Attribute)). bind (rest_of o) (after_first (left - 1))) told ∙ sym (rdn-step (left - 1) (letters_at p i))
         ∙ ap (λ (n : ℕ). rest_of (rdn_from n (letters_at p i))) (sym z) ∙ inv
 
-    pub rdn-none : r ≡ AttributeAt.No → report_rest p RdnEnd.No ≡ rest_of (rdn_from most_pairs (letters_at p at))
+    pub rdn-none : r ≡ None → report_rest p None ≡ rest_of (rdn_from most_pairs (letters_at p at))
     rdn-none e = rw e at next
 
-    module _ (a : Attribute) (b : ℕ) (e : r ≡ AttributeAt.Of a) (sign : b ≡ octet p a.end) where
+    module _ (a : Attribute) (b : ℕ) (e : r ≡ Some a) (sign : b ≡ octet p a.end) where
       after : pick (eqb b 43) (rest_of (rdn_from (left - 1) (behind (letters_at p a.end)))) (Some (letters_at p a.end))
           ≡ rest_of (rdn_from most_pairs (letters_at p at))
       after =
           rw (sign, sym (before-is p a.end 43 (omega arith) (λ q. omega arith)))
-          (sym (ap (λ (x : AttributeAt). bind (rest_of (report_attribute p i x)) (after_first (left - 1))) e) ∙ next)
+          (sym (ap (λ (x : Option Attribute). bind (rest_of (report_attribute p i x)) (after_first (left - 1))) e) ∙ next)
 
-      pub rdn-done : (b ≡ 43 → ⊥) → report_rest p (RdnEnd.Of a.end) ≡ rest_of (rdn_from most_pairs (letters_at p at))
+      pub rdn-done : (b ≡ 43 → ⊥) → report_rest p (Some a.end) ≡ rest_of (rdn_from most_pairs (letters_at p at))
       rdn-done n = rw (ne_eqb b 43 n) at after
 
-      pub rdn-more : b ≡ 43 → rest_of (rdn_from (left - 1) (letters_at p (a.end + 1))) ≡ rest_of (rdn_from most_pairs (letters_at p at))
-      rdn-more q =
-          rw (sym (behind-is p a.end 43 (omega arith) (λ z. omega arith) (λ z. omega arith) (sym sign ∙ q)))
+      pub rdn-more : (n : ℕ) → n ≡ left - 1 → b ≡ 43 → rest_of (rdn_from n (letters_at p (a.end + 1))) ≡ rest_of (rdn_from most_pairs (letters_at p at))
+      rdn-more n f q =
+          rw (f, sym (behind-is p a.end 43 (omega arith) (λ z. omega arith) (λ z. omega arith) (sym sign ∙ q)))
           (rw (eq-eqb b 43 q) at after)
 
--- the place after a sign is a number of the code's
-module _ (p : List ℕ) (end b : ℕ) (sign : b ≡ octet p end) (fits : length p < 18446744073709551616) where
-  pub plus-fits : b ≡ 43 → end + 1 < 18446744073709551616
-  plus-fits q = let l : end < length p = octet-inside p end (omega arith) in omega arith
-
-  pub comma-fits : b ≡ 44 → end + 1 < 18446744073709551616
-  comma-fits q = let l : end < length p = octet-inside p end (omega arith) in omega arith
-
 -- one RDN alone
-module _ (p : List ℕ) (r : RdnEnd) (told : report_rest p r ≡ rest_of (rdn_from most_pairs (letters_at p 0))) where
+module _ (p : List ℕ) (r : Option ℕ) (told : report_rest p r ≡ rest_of (rdn_from most_pairs (letters_at p 0))) where
   alone_law : is_some (relative_distinguished_name (undoubled p)) ≡ is_some (bind (rest_of (rdn_from most_pairs (letters_at p 0))) (if_ended []))
   unfolding relative_distinguished_name letters_at
   alone_law = go (rdn_from most_pairs (letters (undoubled p)))
@@ -120,10 +110,10 @@ module _ (p : List ℕ) (r : RdnEnd) (told : report_rest p r ≡ rest_of (rdn_fr
   by_end : is_some (bind (report_rest p r) (if_ended [])) ≡ is_some (relative_distinguished_name (undoubled p))
   by_end = ap (λ (o : Option (List rfc.Letter)). is_some (bind o (if_ended []))) told ∙ sym alone_law
 
-  pub alone-none : r ≡ RdnEnd.No → false ≡ is_some (relative_distinguished_name (undoubled p))
+  pub alone-none : r ≡ None → false ≡ is_some (relative_distinguished_name (undoubled p))
   alone-none e = rw e at by_end
 
-  pub alone-is : (end : ℕ) → r ≡ RdnEnd.Of end → leb (length p) end ≡ is_some (relative_distinguished_name (undoubled p))
+  pub alone-is : (end : ℕ) → r ≡ Some end → leb (length p) end ≡ is_some (relative_distinguished_name (undoubled p))
   alone-is end e = ended ∙ (rw e at by_end)
     where
       inside : end < length p → leb (length p) end ≡ false
@@ -173,25 +163,25 @@ module _ (p : List ℕ) (i left : ℕ) (inv : is_some (rdns_from left (letters_a
   unfolding rdns_from
   name-over h = let z : left ≡ 0 = omega arith in rw z at inv
 
-  module _ (h : 0 < left) (r : RdnEnd) (told : report_rest p r ≡ rest_of (rdn_from most_pairs (letters_at p i))) where
+  module _ (h : 0 < left) (r : Option ℕ) (told : report_rest p r ≡ rest_of (rdn_from most_pairs (letters_at p i))) where
     name_next : conforms (left - 1) (report_rest p r) ≡ is_some (distinguished_name (undoubled p))
     name_next =
         let z : left ≡ suc (left - 1) = omega arith in
         ap (conforms (left - 1)) told ∙ sym (rdns-step (left - 1) (letters_at p i)) ∙ ap (λ (n : ℕ). is_some (rdns_from n (letters_at p i))) (sym z) ∙ inv
 
-    pub name-none : r ≡ RdnEnd.No → false ≡ is_some (distinguished_name (undoubled p))
+    pub name-none : r ≡ None → false ≡ is_some (distinguished_name (undoubled p))
     name-none e = rw e at name_next
 
-    module _ (end b : ℕ) (e : r ≡ RdnEnd.Of end) (sign : b ≡ octet p end) where
+    module _ (end b : ℕ) (e : r ≡ Some end) (sign : b ≡ octet p end) where
       name-after : pick (eqb b 44) (is_some (rdns_from (left - 1) (behind (letters_at p end)))) true ≡ is_some (distinguished_name (undoubled p))
       name-after =
           rw (sign, sym (before-is p end 44 (omega arith) (λ q. omega arith)))
-          (sym (ap (λ (x : RdnEnd). conforms (left - 1) (report_rest p x)) e) ∙ name_next)
+          (sym (ap (λ (x : Option ℕ). conforms (left - 1) (report_rest p x)) e) ∙ name_next)
 
       pub name_done : (b ≡ 44 → ⊥) → true ≡ is_some (distinguished_name (undoubled p))
       name_done n = rw (ne_eqb b 44 n) at name-after
 
-      pub name-more : b ≡ 44 → is_some (rdns_from (left - 1) (letters_at p (end + 1))) ≡ is_some (distinguished_name (undoubled p))
-      name-more q =
-          rw (sym (behind-is p end 44 (omega arith) (λ z. omega arith) (λ z. omega arith) (sym sign ∙ q)))
+      pub name-more : (n : ℕ) → n ≡ left - 1 → b ≡ 44 → is_some (rdns_from n (letters_at p (end + 1))) ≡ is_some (distinguished_name (undoubled p))
+      name-more n f q =
+          rw (f, sym (behind-is p end 44 (omega arith) (λ z. omega arith) (λ z. omega arith) (sym sign ∙ q)))
           (rw (eq-eqb b 44 q) at name-after)

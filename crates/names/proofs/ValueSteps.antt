@@ -1,7 +1,7 @@
 -- Values: laws of the letters up to a value's end, then one lemma for each return and each turn; its premises are the facts as the code has them.
 use mathlib.Core.Path.{◌≡◌, refl, sym, ap, ap₂, ◌∙◌}
 use mathlib.Core.Bool.{Bool, true, false, not}
-use Rattle.std.specs.Prelude.{None}
+use Rattle.std.specs.Prelude.{Option, None, Some}
 use mathlib.Core.List.{List, [], ◌∷◌, map}
 use Prim.Native.Nat.{ℕ, ◌≤◌, ◌<◌, ◌-◌}
 use native.Mathlib.Omega.{arith}
@@ -11,18 +11,20 @@ use lib.ListN.{length}
 use Rattle.octets.specs.Pick.{pick, both, either, no}
 use Rattle.octets.specs.Utf8.{after, may_end, awaits, utf8_from, utf8}
 use Rattle.octets.specs.Inner.Answers.{between}
-use Rattle.octets.specs.declared.Awaiting.{Awaiting}
 use Rattle.octets.proofs.Laws.{both_true}
 use Rattle.strings.specs.Inner.Escaped.{unescaped}
-use Rattle.strings.proofs.Steps.{unescaped-nil, not_no}
+use Rattle.strings.proofs.Steps.{unescaped-nil}
 use Rattle.names.specs.Rfc4514 as rfc
 use Rattle.names.specs.Rfc4514.{bare, escaped, wrong, ends, up_to_end, from_end, is_reserved, is_string_char, may_stand, may_lead, may_trail}
 use Rattle.names.specs.Rfc4514.{octet_of, every_letter, leads, trails, is_string}
 use Rattle.names.specs.Inner.Reading.{letters_at, report_letter, Standing, Stands, read, stands_as, string_from, closed_value, value_octets, value_from}
 use Rattle.names.specs.Inner.Reading.{report_value, ValuePlaces}
 use Rattle.names.specs.declared.Letter.{Letter}
-use Rattle.names.specs.declared.ValueEnd.{ValueEnd}
 use Rattle.names.proofs.Laws.{between_none}
+
+not_no : (u : Bool) → not u ≡ no u
+not_no true = refl
+not_no false = refl
 
 -- ---- the letters of a value, one after another
 -- the letters v may end, where those before may be the last
@@ -35,15 +37,15 @@ unfolding trails
 trails-cons l [] = refl
 trails-cons l (m ∷ v) = refl
 
-abbrev left : Bool → Bool → Awaiting → List rfc.Letter → Bool
+abbrev left : Bool → Bool → Option (ℕ × ℕ × ℕ) → List rfc.Letter → Bool
 left first trailing a v = both (either (no first) (leads v)) (both (every_letter v) (both (trails_after trailing v) (utf8_from a (map octet_of v))))
 
-left-nil : (first trailing : Bool) (a : Awaiting) → both trailing (may_end a) ≡ left first trailing a []
+left-nil : (first trailing : Bool) (a : Option (ℕ × ℕ × ℕ)) → both trailing (may_end a) ≡ left first trailing a []
 unfolding every_letter utf8_from
 left-nil true trailing a = refl
 left-nil false trailing a = refl
 
-left-cons : (first trailing : Bool) (a : Awaiting) (l : rfc.Letter) (v : List rfc.Letter)
+left-cons : (first trailing : Bool) (a : Option (ℕ × ℕ × ℕ)) (l : rfc.Letter) (v : List rfc.Letter)
     → both (stands_as first l) (left false (may_trail l) (after a (octet_of l)) v) ≡ left first trailing a (l ∷ v)
 unfolding every_letter utf8_from
 left-cons first trailing a l v = rw (trails-cons l v) (go (may_stand l) (either (no first) (may_lead l)))
@@ -55,7 +57,7 @@ left-cons first trailing a l v = rw (trails-cons l v) (go (may_stand l) (either 
     go false true = refl
     go false false = refl
 
-string-left : (first trailing : Bool) (a : Awaiting) (ls : List rfc.Letter) → string_from first trailing a ls ≡ left first trailing a (up_to_end ls)
+string-left : (first trailing : Bool) (a : Option (ℕ × ℕ × ℕ)) (ls : List rfc.Letter) → string_from first trailing a ls ≡ left first trailing a (up_to_end ls)
 unfolding string_from up_to_end
 string-left first trailing a [] = left-nil first trailing a
 string-left first trailing a (l ∷ ls) = go (ends l) (string-left false (may_trail l) (after a (octet_of l)) ls)
@@ -79,7 +81,7 @@ string-is ls = string-left true true (awaits 0) ls ∙ go (up_to_end ls)
 pub record Stopped (ls : List rfc.Letter) : Type 0 where
   pub none_left : up_to_end ls ≡ []
   pub rest : from_end ls ≡ ls
-  pub test : (first trailing : Bool) (a : Awaiting) → string_from first trailing a ls ≡ both trailing (may_end a)
+  pub test : (first trailing : Bool) (a : Option (ℕ × ℕ × ℕ)) → string_from first trailing a ls ≡ both trailing (may_end a)
 
 stopped_nil : Stopped []
 unfolding up_to_end from_end string_from
@@ -90,7 +92,7 @@ unfolding up_to_end from_end string_from
 stopped_cons l ls e = record { none_left = rw e; rest = rw e; test = λ first trailing a. rw e }
 
 -- ---- the loop: it is at place i, and the value starts at place at
-pub record Valued (p : List ℕ) (at i : ℕ) (trailing : Bool) (a : Awaiting) : Type 0 where
+pub record Valued (p : List ℕ) (at i : ℕ) (trailing : Bool) (a : Option (ℕ × ℕ × ℕ)) : Type 0 where
   pub from : at ≤ i
   pub up_to : i ≤ length p
   pub test : string_from (eqb i at) trailing a (letters_at p i) ≡ is_string (up_to_end (letters_at p at))
@@ -106,33 +108,33 @@ valued_start p at h = record {
   octets = λ end l e. e;
 }
 
-module _ (p : List ℕ) (at i : ℕ) (trailing : Bool) (a : Awaiting) (inv : Valued p at i trailing a) where
+module _ (p : List ℕ) (at i : ℕ) (trailing : Bool) (a : Option (ℕ × ℕ × ℕ)) (inv : Valued p at i trailing a) where
   module _ (s : Stopped (letters_at p i)) where
     stopped_octets : unescaped (between p at i) ≡ value_octets (letters_at p at)
     stopped_octets = inv.octets i (omega arith) (rw (between_none p i, s.none_left) unescaped-nil)
 
-    closed : (r : ValueEnd) → r ≡ closed_value trailing a i → report_value p at r ≡ value_from (letters_at p at)
+    closed : (r : Option ℕ) → r ≡ closed_value trailing a i → report_value p at r ≡ value_from (letters_at p at)
     unfolding value_from
     closed r e = rw (e, sym inv.test ∙ s.test (eqb i at) trailing a) (go (both trailing (may_end a)))
       where
-        go : (t : Bool) → report_value p at (pick t (ValueEnd.Of i) ValueEnd.No)
+        go : (t : Bool) → report_value p at (pick t (Some i) None)
             ≡ pick t (read (value_octets (letters_at p at)) (from_end (letters_at p at))) None
         go true = ap₂ read stopped_octets (sym s.rest ∙ inv.rest)
         go false = refl
 
-  pub value-places : (r : ValueEnd) → r ≡ closed_value trailing a i → ValuePlaces at (length p) r
+  pub value-places : (r : Option ℕ) → r ≡ closed_value trailing a i → ValuePlaces at (length p) r
   value-places r e = rw e (go (both trailing (may_end a)))
     where
-      go : (t : Bool) → ValuePlaces at (length p) (pick t (ValueEnd.Of i) ValueEnd.No)
+      go : (t : Bool) → ValuePlaces at (length p) (pick t (Some i) None)
       go true = record { from = inv.from; up_to = inv.up_to }
       go false = tt
 
-  refused : string_from (eqb i at) trailing a (letters_at p i) ≡ false → report_value p at ValueEnd.No ≡ value_from (letters_at p at)
+  refused : string_from (eqb i at) trailing a (letters_at p i) ≡ false → report_value p at None ≡ value_from (letters_at p at)
   unfolding value_from
   refused e = rw (sym inv.test ∙ e)
 
   module _ (l : rfc.Letter) (ls : List rfc.Letter) (z : letters_at p i ≡ l ∷ ls) (n : ends l ≡ false) where
-    bad : stands_as (eqb i at) l ≡ false → report_value p at ValueEnd.No ≡ value_from (letters_at p at)
+    bad : stands_as (eqb i at) l ≡ false → report_value p at None ≡ value_from (letters_at p at)
     unfolding string_from
     bad e = refused (ap (string_from (eqb i at) trailing a) z ∙ rw (n, e))
 
@@ -166,14 +168,14 @@ module _ (p : List ℕ) (at i : ℕ) (trailing : Bool) (a : Awaiting) (inv : Val
       }
 
   module _ (letter : Letter) (told : report_letter p letter ≡ letters_at p i) where
-    pub value-ended : (r : ValueEnd) → letter ≡ Letter.End → r ≡ closed_value trailing a i → report_value p at r ≡ value_from (letters_at p at)
+    pub value-ended : (r : Option ℕ) → letter ≡ Letter.End → r ≡ closed_value trailing a i → report_value p at r ≡ value_from (letters_at p at)
     value-ended r e q = let z : letters_at p i ≡ [] = sym told ∙ ap (report_letter p) e in closed (rw z stopped_nil) r q
 
-    pub value-wrong : letter ≡ Letter.Wrong → report_value p at ValueEnd.No ≡ value_from (letters_at p at)
+    pub value-wrong : letter ≡ Letter.Wrong → report_value p at None ≡ value_from (letters_at p at)
     value-wrong e = bad wrong [] (sym told ∙ ap (report_letter p) e) refl refl
 
     module _ (b next : ℕ) where
-      pub value-escaped : (x : Awaiting) → letter ≡ Letter.Escaped b next → Stands p i letter → x ≡ after a b → Valued p at next true x
+      pub value-escaped : (x : Option (ℕ × ℕ × ℕ)) → letter ≡ Letter.Escaped b next → Stands p i letter → x ≡ after a b → Valued p at next true x
       value-escaped x e st q =
           rw q (on (escaped b) next (sym told ∙ ap (report_letter p) e) (rw e at st) refl (go (eqb i at)))
         where
@@ -185,14 +187,14 @@ module _ (p : List ℕ) (at i : ℕ) (trailing : Bool) (a : Awaiting) (inv : Val
         here : letters_at p i ≡ bare b ∷ letters_at p next
         here = sym told ∙ ap (report_letter p) e
 
-        pub value_stopped : (r : ValueEnd) → u ≡ true → r ≡ closed_value trailing a i → report_value p at r ≡ value_from (letters_at p at)
+        pub value_stopped : (r : Option ℕ) → u ≡ true → r ≡ closed_value trailing a i → report_value p at r ≡ value_from (letters_at p at)
         value_stopped r h q = closed (rw here (stopped_cons (bare b) (letters_at p next) (sym asked ∙ h))) r q
 
         module _ (h : u ≡ false) (v : Bool) (tested : v ≡ stands_as (eqb i at) (bare b)) where
-          pub value-bad : not v ≡ true → report_value p at ValueEnd.No ≡ value_from (letters_at p at)
+          pub value-bad : not v ≡ true → report_value p at None ≡ value_from (letters_at p at)
           value-bad n = bad (bare b) (letters_at p next) here (sym asked ∙ h) (sym tested ∙ not-true v n)
 
-          pub value-bare : (x : Awaiting) → not v ≡ false → Stands p i letter → x ≡ after a b → Valued p at next (not (eqb b 32)) x
+          pub value-bare : (x : Option (ℕ × ℕ × ℕ)) → not v ≡ false → Stands p i letter → x ≡ after a b → Valued p at next (not (eqb b 32)) x
           value-bare x n st q =
               rw (q, not_no (eqb b 32)) (on (bare b) next here (rw e at st) (sym asked ∙ h) (sym tested ∙ not-false v n))
 
@@ -206,34 +208,3 @@ module _ (p : List ℕ) (i b next : ℕ) (letter : Letter) (st : Stands p i lett
 
   pub bare-less : letter ≡ Letter.Bare b next → length p - next < length p - i
   bare-less e = less (bare b) (rw e at st)
-
--- ---- tests of an octet
-pub char_is : (b : ℕ) (u : Bool) → (b ≡ 0 → ⊥) → (b ≡ 92 → ⊥) → u ≡ is_reserved b → not u ≡ is_string_char b
-unfolding is_string_char
-char_is b u m n e = rw (ne_eqb b 0 m, ne_eqb b 92 n, e) (not_no (is_reserved b))
-
-pub lead_is : (b : ℕ) → (b ≡ 32 → ⊥) → not (eqb b 35) ≡ may_lead (bare b)
-lead_is b n = rw (ne_eqb b 32 n) (not_no (eqb b 35))
-
-module _ (b : ℕ) (first u : Bool) (asked : u ≡ is_string_char b) where
-  pub stand-no : not u ≡ true → false ≡ stands_as first (bare b)
-  stand-no h = rw (sym asked ∙ not-true u h)
-
-  module _ (h : not u ≡ false) where
-    pub stand-later : not first ≡ true → true ≡ stands_as first (bare b)
-    stand-later f = rw (sym asked ∙ not-false u h, not-true first f)
-
-    pub stand-first : (r : Bool) → not first ≡ false → r ≡ may_lead (bare b) → r ≡ stands_as first (bare b)
-    stand-first r f e = rw (sym asked ∙ not-false u h, not-false first f) e
-
--- ---- the end of a value
-module _ (trailing : Bool) (a : Awaiting) (end : ℕ) where
-  pub close_trailing : not trailing ≡ true → ValueEnd.No ≡ closed_value trailing a end
-  close_trailing h = rw (not-true trailing h)
-
-  module _ (h : not trailing ≡ false) (u : Bool) (asked : u ≡ may_end a) where
-    pub close_broken : not u ≡ true → ValueEnd.No ≡ closed_value trailing a end
-    close_broken e = rw (not-false trailing h, sym asked ∙ not-true u e)
-
-    pub close_is : not u ≡ false → ValueEnd.Of end ≡ closed_value trailing a end
-    close_is e = rw (not-false trailing h, sym asked ∙ not-false u e)

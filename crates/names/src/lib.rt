@@ -9,7 +9,7 @@ ghost use Rattle.names.specs.Rfc4514 as rfc;
 ghost use Rattle.names.specs.Inner.Reading as reading;
 
 use der::Name;
-use octets::{Awaiting, Place};
+use octets::Awaiting;
 
 // An octet that stands for itself or an escaped one, with the place after it; a backslash that escapes nothing; or the end.
 #[derive(Clone, Copy)]
@@ -20,13 +20,6 @@ pub enum Letter {
     End,
 }
 
-// The place where a value ends, or none where what stands there is no value.
-#[derive(Clone, Copy)]
-pub enum ValueEnd {
-    Of(usize),
-    No,
-}
-
 // An attribute: the place of the `=` after its type, and the place where its value ends.
 #[derive(Clone, Copy)]
 pub struct Attribute {
@@ -34,60 +27,21 @@ pub struct Attribute {
     pub end: usize,
 }
 
-// The attribute at a place, or none where what stands there is no attribute.
-#[derive(Clone, Copy)]
-pub enum AttributeAt {
-    Of(Attribute),
-    No,
-}
-
-// The place where an RDN ends, or none where what stands there is no RDN.
-#[derive(Clone, Copy)]
-pub enum RdnEnd {
-    Of(usize),
-    No,
-}
-
 // ---- letters
 // What has to be escaped wherever it stands, but ESC itself.
+#[tactic(auto, using(octets::proofs::Tests::tests), unfolding(crate::specs::Rfc4514::is_reserved))]
 fn is_reserved(b: u8) -> bool
     ensures { result ≡ rfc.is_reserved b }
 {
-    if b == 34 {
-        return true;
-    }
-    if b == 43 {
-        return true;
-    }
-    if b == 44 {
-        return true;
-    }
-    if b == 59 {
-        return true;
-    }
-    if b == 60 {
-        return true;
-    }
-    b == 62
+    matches!(b, b'"' | b'+' | b',' | b';' | b'<' | b'>')
 }
 
 // What may stand for itself after ESC.
+#[tactic(auto, using(octets::proofs::Tests::tests), unfolding(crate::specs::Rfc4514::is_special))]
 fn is_special(b: u8) -> bool
     ensures { result ≡ rfc.is_special b }
 {
-    if b == 32 {
-        return true;
-    }
-    if b == 35 {
-        return true;
-    }
-    if b == 61 {
-        return true;
-    }
-    if b == 92 {
-        return true;
-    }
-    is_reserved(b)
+    matches!(b, b' ' | b'#' | b'=' | b'\\') || is_reserved(b)
 }
 
 // The place after the character at a place.
@@ -95,13 +49,13 @@ fn next_place(p: &[u8], at: usize) -> usize
     requires { at < length p.now }
     ensures { result ≡ reading.next_place p.now at }
 {
-    if p[at] != 34 {
+    if p[at] != b'"' {
         return at + 1;
     }
     if p.len() - at < 2 {
         return at + 1;
     }
-    if p[at + 1] != 34 {
+    if p[at + 1] != b'"' {
         return at + 1;
     }
     at + 2
@@ -134,86 +88,65 @@ fn next_letter(p: &[u8], at: usize) -> Letter
         return Letter::End;
     }
     let b = p[at];
-    if b == 92 {
+    if b == b'\\' {
         return escaped_letter(p, at + 1);
     }
     Letter::Bare(b, next_place(p, at))
 }
 
 // ---- values
+#[tactic(auto, using(octets::proofs::Tests::tests))]
 fn ends_value(b: u8) -> bool
     ensures { result ≡ rfc.ends (rfc.bare b) }
 {
-    if b == 43 {
-        return true;
-    }
-    b == 44
+    b == b'+' || b == b','
 }
 
+#[tactic(auto, using(octets::proofs::Tests::tests), unfolding(crate::specs::Rfc4514::is_string_char))]
 fn is_string_char(b: u8) -> bool
     ensures { result ≡ rfc.is_string_char b }
 {
-    if b == 0 {
-        return false;
-    }
-    if b == 92 {
-        return false;
-    }
-    !is_reserved(b)
+    b != 0 && b != b'\\' && !is_reserved(b)
 }
 
+#[tactic(auto, using(octets::proofs::Tests::tests))]
 fn may_lead(b: u8) -> bool
     ensures { result ≡ rfc.may_lead (rfc.bare b) }
 {
-    if b == 32 {
-        return false;
-    }
-    b != 35
+    b != b' ' && b != b'#'
 }
 
 // Whether an octet may stand for itself in a value, as its first or later.
 fn may_stand(first: bool, b: u8) -> bool
     ensures { result ≡ reading.stands_as first (rfc.bare b) }
 {
-    if !is_string_char(b) {
-        return false;
-    }
-    if !first {
-        return true;
-    }
-    may_lead(b)
+    is_string_char(b) && (!first || may_lead(b))
 }
 
 // A value that ends at a place, if it may end there.
-fn closed_value(trailing: bool, a: Awaiting, end: usize) -> ValueEnd
+fn closed_value(trailing: bool, a: Awaiting, end: usize) -> Option<usize>
     ensures { result ≡ reading.closed_value trailing a end }
 {
-    if !trailing {
-        return ValueEnd::No;
-    }
-    if !octets::may_end(a) {
-        return ValueEnd::No;
-    }
-    ValueEnd::Of(end)
+    (trailing && octets::may_end(a)).then_some(end)
 }
 
-// Where the value ends that starts at a place.
-fn value_end(p: &[u8], at: usize) -> ValueEnd
+// Where the value ends that starts at a place, or none where what stands there is no value.
+fn value_end(p: &[u8], at: usize) -> Option<usize>
     requires { at ≤ length p.now }
     ensures value { reading.report_value p.now at result ≡ reading.value_from (reading.letters_at p.now at) }
     ensures places { reading.ValuePlaces at (length p.now) result }
 {
     let mut i = at;
     let mut trailing = true;
-    let mut a = Awaiting::Tails(0, 128, 191);
+    let mut a = Some((0, 128, 191));
+    // A cursor: each letter says where the next one starts.
     loop {
-        let letter = next_letter(p, i);
-        match letter {
+        match next_letter(p, i) {
             Letter::End => {
                 return closed_value(trailing, a, i);
             }
             Letter::Wrong => {
-                return ValueEnd::No;
+                return None;
             }
             Letter::Escaped(b, after) => {
                 trailing = true;
@@ -225,9 +158,9 @@ fn value_end(p: &[u8], at: usize) -> ValueEnd
                     return closed_value(trailing, a, i);
                 }
                 if !may_stand(i == at, b) {
-                    return ValueEnd::No;
+                    return None;
                 }
-                trailing = b != 32;
+                trailing = b != b' ';
                 a = octets::after(a, b);
                 i = after;
             }
@@ -237,77 +170,64 @@ fn value_end(p: &[u8], at: usize) -> ValueEnd
 
 // ---- attributes
 // An octet of a dotted text.
+#[tactic(auto, using(octets::proofs::Tests::tests))]
 fn is_type_octet(b: u8) -> bool
     ensures { result ≡ reading.is_type_octet b }
 {
-    if b == 46 {
-        return true;
-    }
-    octets::is_digit(b)
+    b == b'.' || octets::is_digit(b)
 }
 
 // The place of the `=` after the type that starts at a place; none where another octet than those of a dotted text comes first.
-fn type_end(p: &[u8], at: usize) -> Place
+fn type_end(p: &[u8], at: usize) -> Option<usize>
     ensures read { reading.report_type p.now at result ≡ reading.plain_type (rfc.type_from (reading.letters_at p.now at)) }
     ensures places { reading.TypePlaces at (length p.now) result }
 {
-    let mut i = at;
-    while i < p.len() {
+    for i in at..p.len() {
         let b = p[i];
-        if b == 61 {
-            return Place::At(i);
+        if b == b'=' {
+            return Some(i);
         }
         if !is_type_octet(b) {
-            return Place::Nowhere;
+            return None;
         }
-        i += 1;
     }
-    Place::Nowhere
+    None
 }
 
-// The attribute that starts at a place.
-pub fn attribute_at(p: &[u8], at: usize) -> AttributeAt
+// The attribute that starts at a place, or none where what stands there is no attribute.
+pub fn attribute_at(p: &[u8], at: usize) -> Option<Attribute>
     ensures attribute { reading.report_attribute p.now at result ≡ rfc.attribute_from (reading.letters_at p.now at) }
     ensures places { reading.AttributePlaces at (length p.now) result }
 {
-    let Place::At(equals) = type_end(p, at) else {
-        return AttributeAt::No;
-    };
+    let equals = type_end(p, at)?;
     if !dotted::is_dotted(octets::between(p, at, equals)) {
-        return AttributeAt::No;
+        return None;
     }
-    let ValueEnd::Of(end) = value_end(p, equals + 1) else {
-        return AttributeAt::No;
-    };
-    AttributeAt::Of(Attribute { equals, end })
+    let end = value_end(p, equals + 1)?;
+    Some(Attribute { equals, end })
 }
 
 // ---- RDNs and names
-// Where the RDN ends that starts at a place.
-fn rdn_end(p: &[u8], at: usize) -> RdnEnd
+// Where the RDN ends that starts at a place, or none where what stands there is no RDN.
+fn rdn_end(p: &[u8], at: usize) -> Option<usize>
     ensures { reading.report_rest p.now result ≡ reading.rest_of (rfc.rdn_from most_pairs (reading.letters_at p.now at)) }
 {
     let mut i = at;
-    let mut left = Name::MAX_PAIRS;
-    while 0 < left {
-        let AttributeAt::Of(a) = attribute_at(p, i) else {
-            return RdnEnd::No;
-        };
-        let end = a.end;
-        if octets::octet(p, end) != 43 {
-            return RdnEnd::Of(end);
+    for _ in 0..Name::MAX_PAIRS {
+        let end = attribute_at(p, i)?.end;
+        if octets::octet(p, end) != b'+' {
+            return Some(end);
         }
         i = end + 1;
-        left -= 1;
     }
-    RdnEnd::No
+    None
 }
 
 // Whether what stands between quotes is one RDN.
 pub fn is_rdn(p: &[u8]) -> bool
     ensures { result ≡ is_some (rfc.relative_distinguished_name (undoubled p.now)) }
 {
-    let RdnEnd::Of(end) = rdn_end(p, 0) else {
+    let Some(end) = rdn_end(p, 0) else {
         return false;
     };
     p.len() <= end
@@ -317,20 +237,18 @@ pub fn is_rdn(p: &[u8]) -> bool
 pub fn is_name(p: &[u8]) -> bool
     ensures { result ≡ is_some (rfc.distinguished_name (undoubled p.now)) }
 {
-    if p.len() == 0 {
+    if p.is_empty() {
         return true;
     }
     let mut i = 0;
-    let mut left = Name::MAX_RDNS;
-    while 0 < left {
-        let RdnEnd::Of(end) = rdn_end(p, i) else {
+    for _ in 0..Name::MAX_RDNS {
+        let Some(end) = rdn_end(p, i) else {
             return false;
         };
-        if octets::octet(p, end) != 44 {
+        if octets::octet(p, end) != b',' {
             return true;
         }
         i = end + 1;
-        left -= 1;
     }
     false
 }

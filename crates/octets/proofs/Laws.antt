@@ -10,6 +10,7 @@ use native.Mathlib.Nat.{eq-or-lt_of_le}
 use borrow.Author.Tests.{not-true, not-false}
 use lib.ListN.{length, drop, drop_of_length-le, get_or-eq_default, length-drop}
 use lib.Seq.{drop-cons, take-nil, take_all}
+use Rattle.std.specs.List.{list_all}
 use Rattle.octets.specs.Pick.{pick, both, either, all}
 use Rattle.octets.specs.Octets.{octet, part, every}
 
@@ -49,6 +50,12 @@ part-past s at n h = rw (drop_of_length-le s h) (take-nil n)
 
 pub part-rest : (s : List ℕ) (at n : ℕ) → length s - at ≤ n → part s at n ≡ drop at s
 part-rest s at n h = take_all n (drop at s) (rw length-drop h)
+
+-- ---- a test of every octet, as the code makes it of a slice
+pub every_all : (f : ℕ → Bool) (s : List ℕ) → list_all f s ≡ every f s
+unfolding every
+every_all f [] = refl
+every_all f (b ∷ s) = grind (arith, every_all f s)
 
 -- ---- a test of every octet, in a loop: it has held up to i
 module _ (f : ℕ → Bool) (s : List ℕ) (i : ℕ) (inv : every f (drop i s) ≡ every f s) where

@@ -7,28 +7,10 @@ ghost use Rattle.octets.specs.Octets as octets;
 ghost use Rattle.octets.specs.Text as text;
 ghost use Rattle.octets.specs.Utf8 as unicode;
 ghost use Rattle.octets.specs.Quoted.{closing_at, closing};
-ghost use Rattle.octets.specs.Inner.Answers.{clip, report_place, grow_of, highest, between};
-
-// A number of any size: below 2^64, or beyond.
-#[derive(Clone, Copy)]
-pub enum Size {
-    Of(u64),
-    Beyond,
-}
-
-// A place in a text, or none.
-#[derive(Clone, Copy)]
-pub enum Place {
-    At(usize),
-    Nowhere,
-}
+ghost use Rattle.octets.specs.Inner.Answers.{clip, grow_of, highest, between};
 
 // What may come next in UTF-8: so many octets of a character, the next of them within bounds; or nothing.
-#[derive(Clone, Copy)]
-pub enum Awaiting {
-    Tails(u8, u8, u8),
-    Broken,
-}
+pub type Awaiting = Option<(u8, u8, u8)>;
 
 // The octet at a place, 0 past the end.
 pub fn octet(s: &[u8], i: usize) -> u8
@@ -79,31 +61,17 @@ pub fn part(s: &[u8], at: usize, n: usize) -> &[u8]
 pub fn between(s: &[u8], a: usize, b: usize) -> &[u8]
     ensures { result.now ≡ between s.now a b }
 {
-    if b <= a {
-        return part(s, a, 0);
-    }
-    part(s, a, b - a)
+    part(s, a, b.saturating_sub(a))
 }
 
 // ---- the largest octet
-fn larger(a: u8, b: u8) -> u8
-    ensures { result ≡ octets.larger a b }
-{
-    if a < b {
-        return b;
-    }
-    a
-}
-
 // The largest octet, 0 where there is none. The loop has no early end, so that a machine can compare many octets at once.
 pub fn highest(s: &[u8]) -> u8
     ensures { result ≡ highest s.now }
 {
-    let mut i = 0;
-    let mut most = 0;
-    while i < s.len() {
-        most = larger(most, s[i]);
-        i += 1;
+    let mut most = 0u8;
+    for b in s {
+        most = most.max(*b);
     }
     most
 }
@@ -113,58 +81,43 @@ pub fn highest(s: &[u8]) -> u8
 pub fn within(least: u8, most: u8, b: u8) -> bool
     ensures { result ≡ text.within least most b }
 {
-    if b < least {
-        return false;
-    }
-    b <= most
+    (least..=most).contains(&b)
 }
 
+#[tactic(auto, unfolding(crate::specs::Text::is_digit))]
 pub fn is_digit(b: u8) -> bool
     ensures { result ≡ text.is_digit b }
 {
-    if b < 48 {
-        return false;
-    }
-    b <= 57
+    b.is_ascii_digit()
 }
 
 // A hexadecimal digit in either case.
+#[tactic(auto, unfolding(crate::specs::Text::is_hex, crate::specs::Text::is_digit))]
 pub fn is_hex(b: u8) -> bool
     ensures { result ≡ text.is_hex b }
 {
-    if is_digit(b) {
-        return true;
-    }
-    if within(65, 70, b) {
-        return true;
-    }
-    within(97, 102, b)
+    b.is_ascii_hexdigit()
 }
 
 // Its value.
+#[tactic(auto, unfolding(crate::specs::Text::hex_value))]
 pub fn hex_value(b: u8) -> u8
     ensures { result ≡ text.hex_value b }
 {
-    if b < 48 {
-        return 0;
+    if b < b'A' {
+        b.saturating_sub(b'0')
+    } else if b < b'a' {
+        b - b'A' + 10
+    } else {
+        b - b'a' + 10
     }
-    if b < 65 {
-        return b - 48;
-    }
-    if b < 97 {
-        return b - 55;
-    }
-    b - 87
 }
 
 // Whether two octets are hexadecimal digits.
 pub fn is_hex_pair(c: u8, d: u8) -> bool
     ensures { result ≡ both (text.is_hex c) (text.is_hex d) }
 {
-    if !is_hex(c) {
-        return false;
-    }
-    is_hex(d)
+    is_hex(c) && is_hex(d)
 }
 
 // The octet that two hexadecimal digits stand for.
@@ -175,69 +128,41 @@ pub fn hex_octet(c: u8, d: u8) -> u8
     hex_value(c) * 16 + hex_value(d)
 }
 
+#[tactic(auto, unfolding(crate::specs::Text::is_lower))]
 pub fn is_lower(b: u8) -> bool
     ensures { result ≡ text.is_lower b }
 {
-    if b < 97 {
-        return false;
-    }
-    b <= 122
+    b.is_ascii_lowercase()
 }
 
-fn is_upper(b: u8) -> bool
-    ensures { result ≡ text.is_upper b }
-{
-    if b < 65 {
-        return false;
-    }
-    b <= 90
-}
-
+#[tactic(auto, unfolding(crate::specs::Text::is_letter, crate::specs::Text::is_lower, crate::specs::Text::is_upper))]
 pub fn is_letter(b: u8) -> bool
     ensures { result ≡ text.is_letter b }
 {
-    if is_lower(b) {
-        return true;
-    }
-    is_upper(b)
+    b.is_ascii_alphabetic()
 }
 
+#[tactic(auto, unfolding(crate::specs::Text::is_alnum))]
 pub fn is_alnum(b: u8) -> bool
     ensures { result ≡ text.is_alnum b }
 {
-    if is_letter(b) {
-        return true;
-    }
-    is_digit(b)
+    is_letter(b) || is_digit(b)
 }
 
 // Whether octet b may stand after another in a name.
+#[tactic(auto, unfolding(crate::specs::Text::may_follow))]
 pub fn may_follow(before: u8, b: u8) -> bool
     ensures { result ≡ text.may_follow before b }
 {
-    if is_alnum(b) {
-        return true;
-    }
-    if b != 45 {
-        return false;
-    }
-    if before == 45 {
-        return false;
-    }
-    true
+    is_alnum(b) || b == b'-' && before != b'-'
 }
 
 // A to Z turned into a to z.
+#[tactic(auto, unfolding(crate::specs::Text::lower, crate::specs::Text::is_upper))]
 pub fn lower(b: u8) -> u8
     ensures { result ≡ text.lower b }
 {
-    if b < 65 {
-        return b;
-    }
-    if 90 < b {
-        return b;
-    }
-    b + 32
+    b.to_ascii_lowercase()
 }
 
 // ---- words and spaces
@@ -245,33 +170,19 @@ pub fn lower(b: u8) -> u8
 pub fn starts(s: &[u8], at: usize, w: &[u8]) -> bool
     ensures { result ≡ text.starts w.now (drop at s.now) }
 {
-    let mut i = 0;
-    let mut p = at;
-    while i < w.len() {
-        if s.len() <= p {
-            return false;
-        }
-        if s[p] != w[i] {
-            return false;
-        }
-        i += 1;
-        p += 1;
-    }
-    true
+    s[at.min(s.len())..].starts_with(w)
 }
 
 // The first place at or after this one that has no space.
 pub fn skip(s: &[u8], at: usize) -> usize
     ensures { result ≡ text.skip s.now at }
 {
-    let mut i = at;
-    while i < s.len() {
-        if s[i] != 32 {
+    for i in at..s.len() {
+        if s[i] != b' ' {
             return i;
         }
-        i += 1;
     }
-    i
+    at.max(s.len())
 }
 
 // ---- decimal numbers
@@ -279,27 +190,19 @@ pub fn skip(s: &[u8], at: usize) -> usize
 pub fn all_digits(s: &[u8]) -> bool
     ensures { result ≡ octets.every text.is_digit s.now }
 {
-    let mut i = 0;
-    while i < s.len() {
-        if !is_digit(s[i]) {
-            return false;
-        }
-        i += 1;
-    }
-    true
+    s.iter().all(|b| is_digit(*b))
 }
 
 // Whether a text is a decimal number without leading zeros.
+#[tactic(auto, unfolding(crate::specs::Text::is_number))]
 pub fn is_number(s: &[u8]) -> bool
     ensures { result ≡ text.is_number s.now }
 {
-    if s.len() == 0 {
-        return false;
+    match s {
+        [] => false,
+        [b'0', rest @ ..] => rest.is_empty(),
+        _ => all_digits(s),
     }
-    if s[0] == 48 {
-        return s.len() == 1;
-    }
-    all_digits(s)
 }
 
 // The value of a decimal digit.
@@ -307,100 +210,76 @@ pub fn digit(b: u8) -> u64
     ensures value { result ≡ b - 48 }
     ensures small { result ≤ 207 }
 {
-    if b < 48 {
-        return 0;
-    }
-    (b - 48) as u64
+    u64::from(b.saturating_sub(b'0'))
 }
 
 // A number with one digit more.
-pub fn grow(size: Size, d: u64) -> Size
+pub fn grow(size: Option<u64>, d: u64) -> Option<u64>
     ensures { result ≡ grow_of size d }
 {
-    let Size::Of(n) = size else {
-        return Size::Beyond;
+    let Some(n) = size else {
+        return None;
     };
-    if 1844674407370955161 < n {
-        return Size::Beyond;
+    let Some(tens) = n.checked_mul(10) else {
+        return None;
+    };
+    match tens.checked_add(d) {
+        Some(grown) => Some(grown),
+        None => None,
     }
-    if 18446744073709551615 - n * 10 < d {
-        return Size::Beyond;
-    }
-    Size::Of(n * 10 + d)
 }
 
 // The number that decimal digits stand for.
-pub fn decimal(s: &[u8]) -> Size
+pub fn decimal(s: &[u8]) -> Option<u64>
     ensures { result ≡ clip (text.decimal s.now) }
 {
-    let mut i = 0;
-    let mut size = Size::Of(0);
-    while i < s.len() {
-        size = grow(size, digit(s[i]));
-        i += 1;
+    let mut size = Some(0);
+    for b in s {
+        size = grow(size, digit(*b));
     }
     size
 }
 
 // ---- UTF-8
+#[tactic(auto, unfolding(crate::specs::Utf8::after_first))]
 fn after_first(b: u8) -> Awaiting
     ensures { result ≡ unicode.after_first b }
 {
-    if b < 128 {
-        return Awaiting::Tails(0, 128, 191);
+    if b.is_ascii() {
+        return Some((0, 128, 191));
     }
-    if b < 194 {
-        return Awaiting::Broken;
+    match b {
+        194..=223 => Some((1, 128, 191)),
+        224 => Some((2, 160, 191)),
+        237 => Some((2, 128, 159)),
+        225..=239 => Some((2, 128, 191)),
+        240 => Some((3, 144, 191)),
+        241..=243 => Some((3, 128, 191)),
+        244 => Some((3, 128, 143)),
+        _ => None,
     }
-    if b < 224 {
-        return Awaiting::Tails(1, 128, 191);
-    }
-    if b == 224 {
-        return Awaiting::Tails(2, 160, 191);
-    }
-    if b == 237 {
-        return Awaiting::Tails(2, 128, 159);
-    }
-    if b < 240 {
-        return Awaiting::Tails(2, 128, 191);
-    }
-    if b == 240 {
-        return Awaiting::Tails(3, 144, 191);
-    }
-    if b < 244 {
-        return Awaiting::Tails(3, 128, 191);
-    }
-    if b == 244 {
-        return Awaiting::Tails(3, 128, 143);
-    }
-    Awaiting::Broken
 }
 
+#[tactic(auto, unfolding(crate::specs::Utf8::after))]
 pub fn after(a: Awaiting, b: u8) -> Awaiting
     ensures { result ≡ unicode.after a b }
 {
-    let Awaiting::Tails(n, least, most) = a else {
-        return Awaiting::Broken;
+    let Some((n, least, most)) = a else {
+        return None;
     };
     if n == 0 {
         return after_first(b);
     }
-    if b < least {
-        return Awaiting::Broken;
+    if !within(least, most, b) {
+        return None;
     }
-    if most < b {
-        return Awaiting::Broken;
-    }
-    Awaiting::Tails(n - 1, 128, 191)
+    Some((n - 1, 128, 191))
 }
 
 pub fn may_end(a: Awaiting) -> bool
     ensures { result ≡ unicode.may_end a }
 {
-    let Awaiting::Tails(n, _, _) = a else {
-        return false;
-    };
-    n == 0
+    matches!(a, Some((0, _, _)))
 }
 
 // Whether octets are valid UTF-8. Text in which no octet is above 127 needs no more than the largest octet.
@@ -410,46 +289,39 @@ pub fn utf8(s: &[u8]) -> bool
     if highest(s) < 128 {
         return true;
     }
-    let mut i = 0;
-    let mut a = Awaiting::Tails(0, 128, 191);
-    while i < s.len() {
-        a = after(a, s[i]);
-        i += 1;
+    let mut a = Some((0, 128, 191));
+    for b in s {
+        a = after(a, *b);
     }
     may_end(a)
 }
 
 // ---- quoted strings
-// The closing quote from a place on: the first quote that is not one of a doubled pair.
-fn find_closing(s: &[u8], at: usize) -> Place
-    ensures { report_place result ≡ closing (drop at s.now) at }
+// The closing quote from a place on: the first quote that is not one of a doubled pair. A cursor: a pair is two octets.
+fn find_closing(s: &[u8], at: usize) -> Option<usize>
+    ensures { result ≡ closing (drop at s.now) at }
 {
     let mut i = at;
     while i < s.len() {
-        if s[i] != 34 {
+        if s[i] != b'"' {
             i += 1;
+        } else if s.len() - i < 2 {
+            return Some(i);
+        } else if s[i + 1] != b'"' {
+            return Some(i);
         } else {
-            if s.len() - i < 2 {
-                return Place::At(i);
-            }
-            if s[i + 1] != 34 {
-                return Place::At(i);
-            }
             i += 2;
         }
     }
-    Place::Nowhere
+    None
 }
 
 // The closing quote of the quoted string that opens at a place.
-pub fn closing_at(s: &[u8], at: usize) -> Place
-    ensures { report_place result ≡ closing_at s.now at }
+pub fn closing_at(s: &[u8], at: usize) -> Option<usize>
+    ensures { result ≡ closing_at s.now at }
 {
-    if s.len() <= at {
-        return Place::Nowhere;
-    }
-    if s[at] != 34 {
-        return Place::Nowhere;
+    if octet(s, at) != b'"' {
+        return None;
     }
     find_closing(s, at + 1)
 }
@@ -458,15 +330,5 @@ pub fn closing_at(s: &[u8], at: usize) -> Place
 pub fn same(a: &[u8], b: &[u8]) -> bool
     ensures { result ≡ octets.same a.now b.now }
 {
-    if a.len() != b.len() {
-        return false;
-    }
-    let mut i = 0;
-    while i < a.len() {
-        if a[i] != b[i] {
-            return false;
-        }
-        i += 1;
-    }
-    true
+    a == b
 }

@@ -1,6 +1,7 @@
 -- A plan's test with the operand of a conforming text lets pass what the rule accepts: contents that the check of a value lets through, of a type that the
 -- rule is for, and counts.
 use mathlib.Core.Path.{◌≡◌, refl, sym, ap, ◌∙◌, subst}
+use mathlib.Core.Logic.{◌⊎◌, inl, inr}
 use mathlib.Core.Bool.{Bool, true, false, false≢true}
 use Rattle.std.specs.Prelude.{Option, None, Some}
 use mathlib.Core.List.{List, map}
@@ -104,13 +105,10 @@ module _ (t p : List ℕ) where
 
   -- and where it isn't: f is the form of its operand
   module _ (r : Rule) (f : Form) (told : f ≡ form_of r) where
-    pub stands_whole_not : (x : List ℕ) → f ≡ Form.Whole → stands r p ≡ false → x ≡ operand_of r t
+    pub stands_already : (x : List ℕ) → (f ≡ Form.Whole) ⊎ (f ≡ Form.Quoted) → stands r p ≡ false → x ≡ operand_of r t
     unfolding stands
-    stands_whole_not x h e = absurd (false≢true (sym e ∙ ap (λ (y : Form). stands_in y p) (sym told ∙ h)))
-
-    pub stands_quoted_not : (x : List ℕ) → f ≡ Form.Quoted → stands r p ≡ false → x ≡ operand_of r t
-    unfolding stands
-    stands_quoted_not x h e = absurd (false≢true (sym e ∙ ap (λ (y : Form). stands_in y p) (sym told ∙ h)))
+    stands_already x (inl h) e = absurd (false≢true (sym e ∙ ap (λ (y : Form). stands_in y p) (sym told ∙ h)))
+    stands_already x (inr h) e = absurd (false≢true (sym e ∙ ap (λ (y : Form). stands_in y p) (sym told ∙ h)))
 
     pub operand-prepared : (fold : Bool) (x : List ℕ) → f ≡ Form.Prepared fold → Part r t p → stands r p ≡ false → x ≡ prepared fold (undoubled p) → x ≡ operand_of r t
     unfolding Part stands operand_of

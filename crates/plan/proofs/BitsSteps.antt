@@ -20,56 +20,39 @@ use Rattle.table.specs.Inner.Words.{Worded}
 use Rattle.reference.specs.Allowed.{of_type}
 use Rattle.bitnames.specs.Names.{listed_bits}
 use Rattle.bitnames.specs.Inner.Sets.{names_after, report_set}
-use Rattle.bitnames.specs.declared.BitSet.{BitSet}
 use Rattle.rules.specs.Rule as rules
 use Rattle.rules.specs.Suits.{suits}
 use Rattle.rules.specs.Asserted.{names_at}
-use Rattle.rules.specs.Inner.Answers.{meant}
-use Rattle.rules.specs.declared.Syntax.{Syntax}
-use Rattle.rules.specs.declared.Rule.{Rule}
 use Rattle.plan.specs.Inner.Test.{Test, test_for, test_of, of_rule, bits_test_by, bits_test, report_test, report_bits}
-use Rattle.plan.specs.declared.BitsTest.{BitsTest}
 use Rattle.plan.specs.declared.TestNumbers.{TestNumbers}
 
 -- ---- with names
-module _ (rule : Rule) (k n : ℕ) where
-  pub named-present : rule ≡ Rule.Present → Some (test_of 0 0) ≡ Some (of_rule (meant rule) (test_of k n))
-  unfolding test_of
-  named-present e = rw e
-
-  pub named-equal : (s : Syntax) → rule ≡ Rule.Equal s → Some (test_of k n) ≡ Some (of_rule (meant rule) (test_of k n))
-  named-equal s e = rw e
-
-  pub named-less : (s : Syntax) → rule ≡ Rule.Less s → Some (test_of 1 0) ≡ Some (of_rule (meant rule) (test_of k n))
-  unfolding test_of
-  named-less s e = rw e
-
 module _ (r : rules.Rule) (names : List NamedBit) (x : List ℕ) (u : Bool) (binary : u ≡ is_bit_text x) where
   counted : (d : List ℕ) (n : ℕ) → d ≡ digits x → n ≡ significant (length d) d → n ≡ significant (length (digits x)) (digits x)
   counted d n inside count = count ∙ ap (λ (y : List ℕ). significant (length y) y) inside
 
-  pub names_binary : (b : BitsTest) (d : List ℕ) (n : ℕ) → u ≡ true → d ≡ digits x → n ≡ significant (length d) d
-      → report_bits b ≡ Some (of_rule r (test_of 20 n)) → report_bits b ≡ bits_test_by r (Some names) x
+  pub names_binary : (b : TestNumbers) (d : List ℕ) (n : ℕ) → u ≡ true → d ≡ digits x → n ≡ significant (length d) d
+      → report_test b ≡ of_rule r (test_of 20 n) → Some (report_test b) ≡ bits_test_by r (Some names) x
   unfolding bits_test_by is_bits test_of
-  names_binary b d n h inside count e = rw (sym binary ∙ h, ← counted d n inside count) e
+  names_binary b d n h inside count e = rw (sym binary ∙ h, ← counted d n inside count) (ap Some e)
 
   module _ (h : u ≡ false) (v : Bool) (hexadecimal : v ≡ is_hex_string x) where
-    pub names_hexadecimal : (b : BitsTest) (d : List ℕ) (n : ℕ) → v ≡ true → d ≡ digits x → n ≡ significant (length d) d
-        → report_bits b ≡ Some (of_rule r (test_of 19 n)) → report_bits b ≡ bits_test_by r (Some names) x
+    pub names_hexadecimal : (b : TestNumbers) (d : List ℕ) (n : ℕ) → v ≡ true → d ≡ digits x → n ≡ significant (length d) d
+        → report_test b ≡ of_rule r (test_of 19 n) → Some (report_test b) ≡ bits_test_by r (Some names) x
     unfolding bits_test_by is_bits test_of
-    names_hexadecimal b d n g inside count e = rw (sym binary ∙ h, sym hexadecimal ∙ g, ← counted d n inside count) e
+    names_hexadecimal b d n g inside count e = rw (sym binary ∙ h, sym hexadecimal ∙ g, ← counted d n inside count) (ap Some e)
 
-    module _ (g : v ≡ false) (s : BitSet) (told : report_set s ≡ listed_bits names x) where
+    module _ (g : v ≡ false) (s : Option ℕ) (told : report_set s ≡ listed_bits names x) where
       by-list : bits_test_by r (Some names) x ≡ bind (report_set s) (λ l. Some (of_rule r (Test.listed l)))
       unfolding bits_test_by is_bits
       by-list = rw (sym binary ∙ h, sym hexadecimal ∙ g, ← told)
 
-      pub names-listed : (b : BitsTest) (m : ℕ) → s ≡ BitSet.Of m → report_bits b ≡ Some (of_rule r (test_of 21 m)) → report_bits b ≡ bits_test_by r (Some names) x
+      pub names-listed : (b : TestNumbers) (m : ℕ) → s ≡ Some m → report_test b ≡ of_rule r (test_of 21 m) → Some (report_test b) ≡ bits_test_by r (Some names) x
       unfolding test_of
-      names-listed b m q e = e ∙ sym (by-list ∙ ap (λ (y : BitSet). bind (report_set y) (λ l. Some (of_rule r (Test.listed l)))) q)
+      names-listed b m q e = ap Some e ∙ sym (by-list ∙ ap (λ (y : Option ℕ). bind (report_set y) (λ l. Some (of_rule r (Test.listed l)))) q)
 
-      pub names-none : s ≡ BitSet.No → None ≡ bits_test_by r (Some names) x
-      names-none q = sym (by-list ∙ ap (λ (y : BitSet). bind (report_set y) (λ l. Some (of_rule r (Test.listed l)))) q)
+      pub names-none : s ≡ None → None ≡ bits_test_by r (Some names) x
+      names-none q = sym (by-list ∙ ap (λ (y : Option ℕ). bind (report_set y) (λ l. Some (of_rule r (Test.listed l)))) q)
 
 -- ---- without names
 module _ (r : rules.Rule) (x : List ℕ) (u : Bool) (told : u ≡ is_bits x) where
@@ -77,7 +60,7 @@ module _ (r : rules.Rule) (x : List ℕ) (u : Bool) (told : u ≡ is_bits x) whe
   unfolding bits_test_by
   digits-none h = rw (sym told ∙ not-true u h)
 
-  pub digits_some : (test : TestNumbers) → not u ≡ false → report_test test ≡ test_for r x → Some (test_of test.comparison test.number) ≡ bits_test_by r None x
+  pub digits_some : (test : TestNumbers) → not u ≡ false → report_test test ≡ test_for r x → Some (report_test test) ≡ bits_test_by r None x
   unfolding bits_test_by
   digits_some test h e = rw (sym told ∙ not-false u h) (ap Some e)
 
@@ -107,7 +90,7 @@ module _ (t w : List ℕ) (row : ℕ) (ok : Worded t w) (here : row < length (ta
     unfolding bits_test
     at_unsuited h = rw (sym told ∙ not-true u h)
 
-    module _ (h : not u ≡ false) (k : ℕ) (kind : k ≡ kind_at t (place_at t row)) (b : BitsTest) where
+    module _ (h : not u ≡ false) (k : ℕ) (kind : k ≡ kind_at t (place_at t row)) (b : Option TestNumbers) where
       pub at_names : k ≡ 17 → report_bits b ≡ bits_test_by r (Some (names_after t row)) x → report_bits b ≡ bits_test r (of_type (type_at t row)) x
       unfolding bits_test
       at_names e q = rw (sym told ∙ not-false u h) (q ∙ ap (λ (o : Option (List NamedBit)). bits_test_by r o x) (sym (names-here (sym kind ∙ e))))

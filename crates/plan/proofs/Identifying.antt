@@ -1,5 +1,6 @@
 -- One identifier of a reference on the type of a row: the code's numbers are those of the identifier, and lead where it leads.
 use mathlib.Core.Path.{◌≡◌, refl, sym, ap, ◌∙◌, subst}
+use mathlib.Core.Logic.{◌⊎◌, inl, inr}
 use mathlib.Core.Bool.{Bool, true, false}
 use Rattle.std.specs.Prelude.{Option, None, Some}
 use mathlib.Core.List.{List, [], ◌∷◌}
@@ -269,10 +270,7 @@ module _ (t w : List ℕ) (ok : Worded t w) (ad : admitted table_limits t ≡ tr
         go true q false h = count-on next e q ∙ count-more (ids_at r next) (λ is z. ids-within r next is (ltb-false (length r) next (sym h)) z)
         go false q v h = leads-none r k step told (of_type (type_at t row)) (index count) next (ap (report_id_step r) e) (under-other t w row ok at count q)
 
-    pub end-plans : step ≡ Step.End → k ≤ length r → Plans t r k row Planning.No
+    pub none-plans : (step ≡ Step.End) ⊎ (step ≡ Step.Bad) → k ≤ length r → Plans t r k row Planning.No
     unfolding Plans
-    end-plans e h = let z = ids-within r k [] h (end_step r k step told e) in absurd (let y : ◌≡◌ {A = ℕ} 0 1 = (let q = z.2 in cc) in omega arith)
-
-    pub bad-plans : step ≡ Step.Bad → Plans t r k row Planning.No
-    unfolding Plans
-    bad-plans e = ap (λ (o : Option (List Id)). along o (Some (of_type (type_at t row)))) (bad-step r k step told e)
+    none-plans (inl e) h = let z = ids-within r k [] h (end_step r k step told e) in absurd (let y : ◌≡◌ {A = ℕ} 0 1 = (let q = z.2 in cc) in omega arith)
+    none-plans (inr e) h = ap (λ (o : Option (List Id)). along o (Some (of_type (type_at t row)))) (bad-step r k step told e)

@@ -1,5 +1,4 @@
 pub mod TaskLaws
-pub mod TestSteps
 pub mod PassSteps
 pub mod Accepting
 pub mod BitsSteps

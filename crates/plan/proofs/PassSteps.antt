@@ -1,123 +1,23 @@
 -- What a task lets pass: one lemma for each need, its premises as the code has them.
 use mathlib.Core.Path.{◌≡◌, refl, sym, ap, ap₂, ◌∙◌}
-use mathlib.Core.Bool.{Bool, true, false, not}
+use mathlib.Core.Bool.{Bool, true, false}
 use mathlib.Core.List.{List, []}
 use Prim.Native.Nat.{ℕ, zero, suc, ◌≤◌, ◌<◌, ◌-◌}
 use native.Mathlib.Omega.{arith}
-use borrow.Author.Tests.{eq-eqb, ne_eqb, lt-ltb, le-ltb}
-use lib.Dec.{ltb, leb, eqb}
+use borrow.Author.Tests.{lt-ltb, le-ltb}
+use lib.Dec.{ltb, eqb}
 use lib.ListN.{length, get_or}
 use Rattle.octets.specs.Pick.{pick, both, either, no}
-use Rattle.octets.specs.Octets.{part, same, below, paired}
+use Rattle.octets.specs.Octets.{part}
 use Rattle.octets.proofs.Laws.{part-rest}
-use Rattle.der.specs.Time as times
-use Rattle.der.specs.declared.Time.{Time}
-use Rattle.der.specs.Meaning.{plus, same_whole, less_whole, integer_of, boolean_of, arcs_of, bits_of}
-use Rattle.der.specs.Dotted.{dotted_arcs}
+use Rattle.der.specs.Meaning.{plus, same_whole, less_whole, integer_of}
 use Rattle.integers.specs.Asserted.{asserted_integer}
 use Rattle.integers.specs.Inner.Bounds.{fits, lifted, same_bound, less_bound, is_short, short_fits}
 use Rattle.integers.specs.declared.Bound.{Bound}
-use Rattle.digits.specs.Asserted.{digits}
-use Rattle.digits.specs.Named.{trimmed}
-use Rattle.digits.specs.Inner.Answers.{bits_in}
 use Rattle.digits.specs.Inner.Masks.{mask_bits}
-use Rattle.strings.specs.Prepared.{prepared}
-use Rattle.strings.specs.Inner.Comparing.{folded}
-use Rattle.names.specs.Compared.{same_rdn, same_name, stored_rdn, stored_name}
-use Rattle.names.specs.Inner.Operand.{operand_rdn, operand_name}
 use Rattle.plan.specs.Inner.Test.{Test, integer_is, accepted, accepted_count, bound_numbered, plain_test, digit_test, text_test, named_test, name_test, test_of}
 use Rattle.plan.specs.Inner.Task.{Task, testing, task_of, passes_contents, passes_count}
 use Rattle.plan.proofs.TaskLaws.{is-counting, is-listing, is-testing}
-
--- ---- a bound
-module _ (k n : ℕ) where
-  pub bound_at : k ≡ 0 → Bound.At n ≡ bound_numbered k n
-  bound_at e = rw (eq-eqb k 0 e)
-
-  pub bound_under : (k ≡ 0 → ⊥) → k ≡ 1 → Bound.Under ≡ bound_numbered k n
-  bound_under a e = rw (ne_eqb k 0 a, eq-eqb k 1 e)
-
-  pub bound_over : (k ≡ 0 → ⊥) → (k ≡ 1 → ⊥) → Bound.Over ≡ bound_numbered k n
-  bound_over a b = rw (ne_eqb k 0 a, ne_eqb k 1 b)
-
--- ---- any value, none, a truth
-module _ (k : ℕ) (x c : List ℕ) where
-  pub plain_any : k ≡ 0 → true ≡ accepted (plain_test k) x c
-  unfolding accepted
-  plain_any e = rw (eq-eqb k 0 e)
-
-  module _ (a : k ≡ 0 → ⊥) where
-    pub plain-none : k ≡ 1 → false ≡ accepted (plain_test k) x c
-    unfolding accepted
-    plain-none e = rw (ne_eqb k 0 a, eq-eqb k 1 e)
-
-    module _ (b : k ≡ 1 → ⊥) (r : Bool) (told : r ≡ boolean_of c) where
-      pub plain_true : k ≡ 2 → r ≡ accepted (plain_test k) x c
-      unfolding accepted
-      plain_true e = rw (ne_eqb k 0 a, ne_eqb k 1 b, eq-eqb k 2 e) told
-
-      pub plain_false : (k ≡ 2 → ⊥) → not r ≡ accepted (plain_test k) x c
-      unfolding accepted
-      plain_false d = rw (ne_eqb k 0 a, ne_eqb k 1 b, ne_eqb k 2 d) (go r ∙ ap no told)
-        where
-          go : (u : Bool) → not u ≡ no u
-          go true = refl
-          go false = refl
-
-  -- ---- arcs, octets, bits
-  module _ (r : Bool) where
-    pub digits-arcs : k ≡ 10 → r ≡ same (arcs_of c) (dotted_arcs x) → r ≡ accepted (digit_test k) x c
-    unfolding accepted
-    digits-arcs e h = rw (eq-eqb k 10 e) h
-
-    module _ (d : List ℕ) (inside : d ≡ digits x) (a : k ≡ 10 → ⊥) where
-      pub digits-octets : k ≡ 11 → r ≡ same c (paired d) → r ≡ accepted (digit_test k) x c
-      unfolding accepted
-      digits-octets e h = rw (ne_eqb k 10 a, eq-eqb k 11 e) (h ∙ ap (λ (y : List ℕ). same c (paired y)) inside)
-
-      module _ (b : k ≡ 11 → ⊥) where
-        pub digits-less : k ≡ 12 → r ≡ below c (paired d) → r ≡ accepted (digit_test k) x c
-        unfolding accepted
-        digits-less e h = rw (ne_eqb k 10 a, ne_eqb k 11 b, eq-eqb k 12 e) (h ∙ ap (λ (y : List ℕ). below c (paired y)) inside)
-
-        pub digits-bits : (k ≡ 12 → ⊥) → r ≡ both (leb (length c) 65536) (same (bits_of c) (bits_in (eqb k 13) d)) → r ≡ accepted (digit_test k) x c
-        unfolding accepted
-        digits-bits e h = rw (ne_eqb k 10 a, ne_eqb k 11 b, ne_eqb k 12 e) (h ∙ ap (λ (y : List ℕ). both (leb (length c) 65536) (same (bits_of c) (bits_in (eqb k 13) y))) inside)
-
-    -- ---- times, strings
-    module _ (s u : Time) (ps : s ≡ times.time_of c) (pu : u ≡ times.time_of x) where
-      pub text-time : k ≡ 17 → r ≡ times.same_time s u → r ≡ accepted (text_test k) x c
-      unfolding accepted
-      text-time e h = rw (eq-eqb k 17 e) (h ∙ ap₂ times.same_time ps pu)
-
-      pub text-earlier : (k ≡ 17 → ⊥) → k ≡ 18 → r ≡ times.earlier s u → r ≡ accepted (text_test k) x c
-      unfolding accepted
-      text-earlier a e h = rw (ne_eqb k 17 a, eq-eqb k 18 e) (h ∙ ap₂ times.earlier ps pu)
-
-    pub text-string : (k ≡ 17 → ⊥) → (k ≡ 18 → ⊥) → r ≡ same (prepared (eqb k 15) c) (folded (eqb k 15) x) → r ≡ accepted (text_test k) x c
-    unfolding accepted
-    text-string a b h = rw (ne_eqb k 17 a, ne_eqb k 18 b) h
-
-    -- ---- names
-    pub name-whole : k ≡ 22 → r ≡ same_name (stored_name c) (operand_name x) → r ≡ accepted (name_test k) x c
-    unfolding accepted
-    name-whole e h = rw (eq-eqb k 22 e) h
-
-    pub name-single : (k ≡ 22 → ⊥) → r ≡ same_rdn (stored_rdn c) (operand_rdn x) → r ≡ accepted (name_test k) x c
-    unfolding accepted
-    name-single n h = rw (ne_eqb k 22 n) h
-
-    -- ---- bits with names
-    pub named-listed : k ≡ 21 → (n : ℕ) → r ≡ both (leb (length c) 65536) (same (trimmed (bits_of c)) (trimmed (mask_bits n))) → r ≡ accepted (named_test k n) x c
-    unfolding accepted
-    named-listed e n h = rw (eq-eqb k 21 e) h
-
-    pub named-digits : (d e : List ℕ) (n : ℕ) → d ≡ digits x → e ≡ part d 0 n → (k ≡ 21 → ⊥)
-        → r ≡ both (leb (length c) 65536) (same (trimmed (bits_of c)) (trimmed (bits_in (eqb k 19) e))) → r ≡ accepted (named_test k n) x c
-    unfolding accepted
-    named-digits d e n inside cut a h =
-        rw (ne_eqb k 21 a) (h ∙ ap (λ (y : List ℕ). both (leb (length c) 65536) (same (trimmed (bits_of c)) (trimmed (bits_in (eqb k 19) y))))
-        (cut ∙ ap (λ (y : List ℕ). part y 0 n) inside))
 
 -- ---- a test by its numbers
 integer_told : (c : List ℕ) (r told otherwise : Bool) → r ≡ both (is_short c) told → short_fits c ≡ true → r ≡ integer_is told otherwise c
@@ -245,18 +145,18 @@ module _ (k n m : ℕ) where
 
 -- ---- the task
 module _ (q : List ℕ) (task : ℕ) (read : task ≡ get_or q 0 0) where
-  pub contents_pass : (x c : List ℕ) → task < 2 → true ≡ passes_contents (task_of q) x c
+  pub contents_pass : (x c : List ℕ) → task < 2 → ltb task 2 ≡ passes_contents (task_of q) x c
   unfolding passes_contents
-  contents_pass x c l = go task read l
+  contents_pass x c l = lt-ltb task 2 l ∙ go task read l
     where
       go : (k : ℕ) → k ≡ get_or q 0 0 → k < 2 → true ≡ passes_contents (task_of q) x c
       go zero e h = rw (is-counting q (sym e))
       go (suc zero) e h = rw (is-listing q (λ y. absurd (omega arith)) (sym e))
       go (suc (suc k)) e h = absurd (omega arith)
 
-  pub count-passes : (n : ℕ) → task < 2 → true ≡ passes_count (task_of q) n
+  pub count-passes : (n : ℕ) → task < 2 → ltb task 2 ≡ passes_count (task_of q) n
   unfolding passes_count
-  count-passes n l = go task read l
+  count-passes n l = lt-ltb task 2 l ∙ go task read l
     where
       go : (k : ℕ) → k ≡ get_or q 0 0 → k < 2 → true ≡ passes_count (task_of q) n
       go zero e h = rw (is-counting q (sym e))

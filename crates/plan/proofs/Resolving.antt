@@ -1,11 +1,11 @@
 -- Along a reference: numbers written step after step stand for its identifiers.
 use mathlib.Core.Path.{◌≡◌, refl, sym, ap, ap₂, ◌∙◌, subst}
 use mathlib.Core.Bool.{Bool, true, false, not}
-use Rattle.std.specs.Prelude.{Option, Some}
+use Rattle.std.specs.Prelude.{Option, None, Some}
 use mathlib.Core.List.{List, [], ◌∷◌}
 use Prim.Native.Nat.{ℕ, zero, suc, ◌≤◌, ◌<◌, ◌+◌, ◌-◌, ◌*◌}
 use native.Mathlib.Omega.{arith}
-use borrow.Author.Tests.{not-true, not-false, eq-eqb, ne_eqb, eqb-false, lt-ltb, ltb-true, ltb-false}
+use borrow.Author.Tests.{not-true, not-false, eq-eqb, eqb-false, lt-ltb, ltb-true, ltb-false}
 use lib.ListN.{length, get_or, set, length-set}
 use lib.Dec.{ltb, eqb}
 use lib.Seq.{get_or-set_same, get_or-set_other}
@@ -33,12 +33,6 @@ use Rattle.plan.proofs.RowLaws.{member-here, member-kind, member-fits, sequence-
 use Rattle.plan.proofs.Identifying.{none_after}
 
 -- ---- an absent member
-pub on-is : (defaults : Bool) (size next : ℕ) → defaults ≡ true → ltb size next ≡ both defaults (ltb size next)
-on-is defaults size next e = rw e
-
-pub off_is : (defaults : Bool) (size next : ℕ) → defaults ≡ false → false ≡ both defaults (ltb size next)
-off_is defaults size next e = rw e
-
 presence-by : (t : List ℕ) (row : ℕ) → (member_at t row).presence ≡ presence_of (presence_at t (place_at t row)) (default_at t (place_at t row))
 unfolding member_of
 presence-by t row = refl
@@ -76,19 +70,6 @@ module _ (t w : List ℕ) (ok : Worded t w) (row : ℕ) (here : row < length (ta
 
     pub absent_fails : b ≡ false → 1 ≡ last_absent t task x row
     absent_fails e = sym (ap (λ (y : Bool). pick y 2 1) e) ∙ absent_by
-
-module _ (t : List ℕ) (task : Task) (x : List ℕ) (on : Bool) (s a b : ℕ) where
-  pub absent_off : not on ≡ true → 0 ≡ absent_for t task x on s a b
-  unfolding absent_for
-  absent_off e = rw (not-true on e)
-
-  pub absent_other : not on ≡ false → (s ≡ sort.member → ⊥) → 0 ≡ absent_for t task x on s a b
-  unfolding absent_for
-  absent_other e f = rw (not-false on e, ne_eqb s sort.member f)
-
-  pub absent_is : not on ≡ false → s ≡ sort.member → (r : ℕ) → r ≡ last_absent t task x (a + 1 + b) → r ≡ absent_for t task x on s a b
-  unfolding absent_for
-  absent_is e f r g = rw (not-false on e, eq-eqb s sort.member f) g
 
 module _ (t w : List ℕ) (ok : Worded t w) (s a b : ℕ) (names : NamesMember t s a b) (is_member_lem : s ≡ sort.member) where
   pub absent_here : a + 1 + b < length (table_rows t)
@@ -320,15 +301,15 @@ module _ (t r x : List ℕ) (defaults : Bool) (q₀ q : List ℕ) (row k j : ℕ
     unfolding Nexts
     steps_less to next e = let f = subst (NextIs t r x defaults u k j) e told in let a = f.1 in let b = f.0.place in omega arith
 
-    pub follow_count : n ≡ Resolved.Count → report_target table_limits.chain t (table_rows t) Target.Count ≡ along (ids_at r 0) (report_target table_limits.chain t (table_rows t) (Target.Row 0))
+    pub follow_count : n ≡ Resolved.Count → report_target table_limits.chain t (table_rows t) (Some Target.Count) ≡ along (ids_at r 0) (report_target table_limits.chain t (table_rows t) (Some (Target.Row 0)))
     unfolding Nexts
     follow_count e = sym (subst (NextIs t r x defaults u k j) e told).0
 
-    pub follow_counted : n ≡ Resolved.Count → Follows t r x defaults u Target.Count
+    pub follow_counted : n ≡ Resolved.Count → Follows t r x defaults u (Some Target.Count)
     unfolding Nexts Follows
     follow_counted e lands = (subst (NextIs t r x defaults u k j) e told).1
 
-    pub follow_no : n ≡ Resolved.No → report_target table_limits.chain t (table_rows t) Target.No ≡ along (ids_at r 0) (report_target table_limits.chain t (table_rows t) (Target.Row 0))
+    pub follow_no : n ≡ Resolved.No → report_target table_limits.chain t (table_rows t) None ≡ along (ids_at r 0) (report_target table_limits.chain t (table_rows t) (Some (Target.Row 0)))
     unfolding Nexts
     follow_no e = sym (subst (NextIs t r x defaults u k j) e told)
 
@@ -342,13 +323,13 @@ module _ (t r x : List ℕ) (defaults : Bool) (q₀ q : List ℕ) (row k j : ℕ
   follow_long u e = ap length e ∙ length-set q (4 * j) sort.end ∙ z.long
 
   module _ (over-end : length r < k) where
-    pub follow_row : report_target table_limits.chain t (table_rows t) (Target.Row row) ≡ along (ids_at r 0) (report_target table_limits.chain t (table_rows t) (Target.Row 0))
+    pub follow_row : report_target table_limits.chain t (table_rows t) (Some (Target.Row row)) ≡ along (ids_at r 0) (report_target table_limits.chain t (table_rows t) (Some (Target.Row 0)))
     follow_row = sym (ap (λ (o : Option (List Id)). along o (Some (of_type (type_at t row)))) (ids-over r k over-end) ∙ none_after (of_type (type_at t row))) ∙ z.resolving.leads
 
-    pub follow_within : row_within (table_rows t) (Target.Row row) ≡ true
+    pub follow_within : row_within (table_rows t) (Some (Target.Row row)) ≡ true
     follow_within = lt-ltb row (length (table_rows t)) z.resolving.here
 
-    pub follow_done : (u : List ℕ) → u ≡ set q (4 * j) sort.end → Follows t r x defaults u (Target.Row row)
+    pub follow_done : (u : List ℕ) → u ≡ set q (4 * j) sort.end → Follows t r x defaults u (Some (Target.Row row))
     unfolding Follows
     follow_done u e lands is whole = subst (λ (y : List ℕ). Planned t y x defaults 1 (type_at t 0) is) (sym e)
         (let l = steps_low in
@@ -360,22 +341,22 @@ module _ (t r x : List ℕ) (defaults : Bool) (q₀ q : List ℕ) (row k j : ℕ
         let f = z.resolving.from in
         ap task_of e ∙ task-kept (set q (4 * j) 0) q (4 * j) (omega arith) (λ n h. get_or-set_other q (4 * j) n 0 0 (λ y. absurd (omega arith))) ∙ z.task
 
-pub follow_nothing : (t r x : List ℕ) (defaults : Bool) (q : List ℕ) → Follows t r x defaults q Target.No
+pub follow_nothing : (t r x : List ℕ) (defaults : Bool) (q : List ℕ) → Follows t r x defaults q None
 unfolding Follows
 follow_nothing t r x defaults q lands = absurd lands
 
 -- ---- where a reference is given
-pub first-within : (t w : List ℕ) → Worded t w → row_within (table_rows t) (Target.Row 0) ≡ true
+pub first-within : (t w : List ℕ) → Worded t w → row_within (table_rows t) (Some (Target.Row 0)) ≡ true
 first-within t w ok = lt-ltb 0 (length (table_rows t)) ok.ready.rooted
 
 module _ (t r x : List ℕ) (given defaults : Bool) where
-  pub resolves-whole : not given ≡ true → (q u : List ℕ) → length q ≡ 72 → u ≡ set q 4 sort.end → Resolves t given r x defaults u (Target.Row 0)
+  pub resolves-whole : not given ≡ true → (q u : List ℕ) → length q ≡ 72 → u ≡ set q 4 sort.end → Resolves t given r x defaults u (Some (Target.Row 0))
   unfolding Resolves
   resolves-whole e q u long f is ids lands =
       subst (λ (y : List ℕ). Planned t y x defaults 1 (type_at t 0) is) (sym f) (subst (Planned t (set q 4 0) x defaults 1 (type_at t 0)) (some_same [] is (sym (ap (λ (y : Bool). pick y (read_reference r) (Some [])) (not-true given e)) ∙ ids))
       (over (get_or-set_same q 4 0 0 (omega arith))))
 
-  pub resolves-given : not given ≡ false → (q : List ℕ) (g : Target) → Follows t r x defaults q g → Resolves t given r x defaults q g
+  pub resolves-given : not given ≡ false → (q : List ℕ) (g : Option Target) → Follows t r x defaults q g → Resolves t given r x defaults q g
   unfolding Resolves Follows
   resolves-given e q g told is ids lands = told lands is (ids_all r ∙ sym (ap (λ (y : Bool). pick y (read_reference r) (Some [])) (not-false given e)) ∙ ids)
 

@@ -2,7 +2,7 @@
 use mathlib.Core.Path.{◌≡◌, refl, sym, ap, ◌∙◌}
 use mathlib.Core.Bool.{Bool, true, false, false≢true}
 use Rattle.std.specs.Prelude.{None, Some}
-use mathlib.Core.List.{List, [], ◌∷◌}
+use mathlib.Core.List.{List}
 use Prim.Native.Nat.{ℕ, ◌≤◌, ◌<◌, ◌+◌}
 use native.Mathlib.Omega.{arith}
 use borrow.Author.Tests.{eqb-true, eq-eqb, ne_eqb, ltb-true, ltb-false}
@@ -11,7 +11,8 @@ use lib.Dec.{ltb, eqb}
 use Rattle.octets.specs.Pick.{pick}
 use Rattle.octets.specs.Octets.{same}
 use Rattle.octets.proofs.Laws.{both_true, all-at}
-use Rattle.octets.proofs.TextLaws.{same-nil, same_shorter, same_longer, same-cons}
+use Rattle.octets.proofs.TextLaws.{same-is}
+use Rattle.rules.proofs.NameSteps.{same_self}
 use Rattle.der.specs.Kind as kind
 use Rattle.rows.specs.Paper.{table_limits}
 use Rattle.rows.specs.Row.{name_at, kind_at, named_at, members_at, is_list, unfilled}
@@ -89,20 +90,6 @@ module _ (t w : List ℕ) (row : ℕ) (ok : Worded t w) (here : row < length (ta
       (λ _. refl) (λ _. refl) (λ h. absurd (false≢true (sym e ∙ h))) (λ _ _ _. refl)
 
 -- ---- what an admitted table has besides
-same-equal : (a b : List ℕ) → same a b ≡ true → a ≡ b
-same-equal [] [] e = refl
-same-equal [] (b ∷ s) e = absurd (let q = sym (same_shorter b s) ∙ e in let z : ◌≡◌ {A = ℕ} 0 1 = cc in omega arith)
-same-equal (a ∷ l) [] e = absurd (let q = sym (same_longer a l) ∙ e in let z : ◌≡◌ {A = ℕ} 0 1 = cc in omega arith)
-same-equal (a ∷ l) (b ∷ s) e =
-    let w = both_true (eqb a b) (same l s) (sym (same-cons a b l s) ∙ e) in
-    let p : a ≡ b = eqb-true a b w.0 in
-    let q = same-equal l s w.1 in
-    cc
-
-same_self : (a : List ℕ) → same a a ≡ true
-same_self [] = same-nil
-same_self (a ∷ l) = same-cons a a l l ∙ rw (eq-eqb a a refl) (same_self l)
-
 module _ (t : List ℕ) (ad : admitted table_limits t ≡ true) where
   fit : types_fit table_limits.chain t (table_rows t) ≡ true
   unfolding admitted admitted_rows
@@ -145,7 +132,7 @@ module _ (t : List ℕ) (ad : admitted table_limits t ≡ true) where
         go true q = absurd (by (ltb i j) refl)
           where
             alike : nm i ≡ nm j
-            alike = same-equal (nm i) x q ∙ sym (same-equal (nm j) x e)
+            alike = same-is (nm i) x q ∙ sym (same-is (nm j) x e)
 
             by : (u : Bool) → ltb i j ≡ u → ⊥
             by true p = both_not i j (ltb-true i j p) hj alike

@@ -23,7 +23,6 @@ ghost use Rattle.plan.specs.Inner.Plan as plan;
 ghost use Rattle.plan.specs.Inner.Sort as sort;
 ghost use Rattle.plan.specs.Inner.Resolve as resolve;
 
-use bitnames::BitSet;
 use der::Kind;
 use integers::Bound;
 use reference::{Step, Target};
@@ -112,13 +111,6 @@ pub struct TestNumbers {
     pub number: usize,
 }
 
-// The same of a rule of bits; or the rule isn't for what the reference leads to, or the text doesn't conform.
-#[derive(Clone, Copy)]
-pub enum BitsTest {
-    Of(usize, usize),
-    No,
-}
-
 // How a value text makes an operand: as it stands; what stands between its quotes; the same as prepared, folded or not; the same read as a name, or as an RDN.
 #[derive(Clone, Copy)]
 pub enum Form {
@@ -195,11 +187,11 @@ fn syntax_form(syntax: Syntax) -> Form
     ensures { result ≡ operands.syntax_form (syntax_of syntax) }
 {
     match syntax {
-        Syntax::Booleans => Form::Whole,
-        Syntax::Integers => Form::Whole,
-        Syntax::ObjectIdentifiers => Form::Whole,
-        Syntax::OctetStrings => Form::Whole,
-        Syntax::BitStrings => Form::Whole,
+        Syntax::Booleans
+        | Syntax::Integers
+        | Syntax::ObjectIdentifiers
+        | Syntax::OctetStrings
+        | Syntax::BitStrings => Form::Whole,
         Syntax::Strings(fold) => Form::Prepared(fold),
         Syntax::Times => Form::Quoted,
         Syntax::Names => Form::Name,
@@ -212,51 +204,44 @@ fn rule_form(rule: Rule) -> Form
 {
     match rule {
         Rule::Present => Form::Whole,
-        Rule::Equal(syntax) => syntax_form(syntax),
-        Rule::Less(syntax) => syntax_form(syntax),
+        Rule::Equal(syntax) | Rule::Less(syntax) => syntax_form(syntax),
     }
 }
 
 // The part of a value text that its operand is made of.
+#[tactic(auto, unfolding(crate::specs::Inner::Operand::Part))]
 pub fn operand_part(rule: Rule, text: &[u8]) -> &[u8]
     ensures part { operands.Part (meant rule) text.now result.now }
     ensures short { length result.now ≤ length text.now }
 {
     match rule_form(rule) {
         Form::Whole => text,
-        Form::Quoted => strings::quoted_part(text),
-        Form::Prepared(_) => strings::quoted_part(text),
-        Form::Name => strings::quoted_part(text),
-        Form::Rdn => strings::quoted_part(text),
+        Form::Quoted | Form::Prepared(_) | Form::Name | Form::Rdn => strings::quoted_part(text),
     }
 }
 
 // Whether that part is the operand as it stands.
+#[tactic(auto, unfolding(crate::specs::Inner::Operand::stands))]
 pub fn is_operand(rule: Rule, part: &[u8]) -> bool
     ensures { result ≡ operands.stands (meant rule) part.now }
 {
     match rule_form(rule) {
-        Form::Whole => true,
-        Form::Quoted => true,
+        Form::Whole | Form::Quoted => true,
         Form::Prepared(_) => strings::is_plain(part),
-        Form::Name => false,
-        Form::Rdn => false,
+        Form::Name | Form::Rdn => false,
     }
 }
 
 // Writes the operand of a conforming text, of the part that it is made of, where that isn't the operand as it stands; how many octets it has.
 pub fn write_operand(rule: Rule, text: &[u8], part: &[u8], memory: &mut [u8; 5120]) -> usize
-    requires room { length memory.old ≡ 5120 }
     requires short { length part.now ≤ 2048 }
     requires conforming { conforms (meant rule) text.now ≡ true }
     requires part { operands.Part (meant rule) text.now part.now }
     requires other { operands.stands (meant rule) part.now ≡ false }
-    ensures written { octets-part memory.new 0 result ≡ operands.operand_of (meant rule) text.now }
-    ensures room { length memory.new ≡ 5120 }
+    ensures { octets-part memory.new 0 result ≡ operands.operand_of (meant rule) text.now }
 {
     match rule_form(rule) {
-        Form::Whole => 0,
-        Form::Quoted => 0,
+        Form::Whole | Form::Quoted => 0,
         Form::Prepared(fold) => strings::prepare(part, fold, memory),
         Form::Name => nameoperand::write_name(part, memory),
         Form::Rdn => nameoperand::write_rdn(part, memory),
@@ -273,6 +258,7 @@ fn alone(comparison: usize) -> TestNumbers
     }
 }
 
+#[tactic(auto, unfolding(crate::specs::Inner::Test::test_of, crate::specs::Inner::Test::equal_test))]
 fn truth_test(x: &[u8]) -> TestNumbers
     ensures { tests.report_test result ≡ tests.equal_test rule.booleans x.now }
 {
@@ -282,6 +268,7 @@ fn truth_test(x: &[u8]) -> TestNumbers
     alone(Comparison::FALSE)
 }
 
+#[tactic(auto, unfolding(crate::specs::Inner::Test::test_of))]
 fn same_test(bound: Bound) -> TestNumbers
     ensures { tests.report_test result ≡ tests.same_integer bound }
 {
@@ -295,6 +282,7 @@ fn same_test(bound: Bound) -> TestNumbers
     }
 }
 
+#[tactic(auto, unfolding(crate::specs::Inner::Test::test_of))]
 fn less_test(bound: Bound) -> TestNumbers
     ensures { tests.report_test result ≡ tests.less_integer bound }
 {
@@ -309,6 +297,7 @@ fn less_test(bound: Bound) -> TestNumbers
 }
 
 // Arcs that can't be stored are equal to none.
+#[tactic(auto, unfolding(crate::specs::Inner::Test::test_of, crate::specs::Inner::Test::equal_test))]
 fn arcs_test(x: &[u8]) -> TestNumbers
     ensures { tests.report_test result ≡ tests.equal_test rule.object_identifiers x.now }
 {
@@ -318,6 +307,7 @@ fn arcs_test(x: &[u8]) -> TestNumbers
     alone(Comparison::NONE)
 }
 
+#[tactic(auto, unfolding(crate::specs::Inner::Test::test_of, crate::specs::Inner::Test::equal_test))]
 fn bits_test(x: &[u8]) -> TestNumbers
     ensures { tests.report_test result ≡ tests.equal_test rule.bit_strings x.now }
 {
@@ -327,6 +317,7 @@ fn bits_test(x: &[u8]) -> TestNumbers
     alone(Comparison::HEXADECIMAL)
 }
 
+#[tactic(auto, unfolding(crate::specs::Inner::Test::test_of))]
 fn string_test(fold: bool) -> TestNumbers
     ensures { tests.report_test result ≡ tests.string fold }
 {
@@ -336,6 +327,7 @@ fn string_test(fold: bool) -> TestNumbers
     alone(Comparison::EXACT)
 }
 
+#[tactic(auto, unfolding(crate::specs::Inner::Test::test_of, crate::specs::Inner::Test::equal_test))]
 fn equal_test(syntax: Syntax, x: &[u8]) -> TestNumbers
     ensures { tests.report_test result ≡ tests.equal_test (syntax_of syntax) x.now }
 {
@@ -352,22 +344,24 @@ fn equal_test(syntax: Syntax, x: &[u8]) -> TestNumbers
     }
 }
 
+#[tactic(auto, unfolding(crate::specs::Inner::Test::test_of, crate::specs::Inner::Test::less_test))]
 fn ordering_test(syntax: Syntax, x: &[u8]) -> TestNumbers
     ensures { tests.report_test result ≡ tests.less_test (syntax_of syntax) x.now }
 {
     match syntax {
-        Syntax::Booleans => alone(Comparison::NONE),
         Syntax::Integers => less_test(integers::bound_of(x)),
-        Syntax::ObjectIdentifiers => alone(Comparison::NONE),
         Syntax::OctetStrings => alone(Comparison::LESS_OCTETS),
-        Syntax::BitStrings => alone(Comparison::NONE),
-        Syntax::Strings(_) => alone(Comparison::NONE),
         Syntax::Times => alone(Comparison::EARLIER),
-        Syntax::Names => alone(Comparison::NONE),
-        Syntax::Rdns => alone(Comparison::NONE),
+        Syntax::Booleans
+        | Syntax::ObjectIdentifiers
+        | Syntax::BitStrings
+        | Syntax::Strings(_)
+        | Syntax::Names
+        | Syntax::Rdns => alone(Comparison::NONE),
     }
 }
 
+#[tactic(auto, unfolding(crate::specs::Inner::Test::test_of, crate::specs::Inner::Test::test_for))]
 fn test_for(rule: Rule, x: &[u8]) -> TestNumbers
     ensures { tests.report_test result ≡ tests.test_for (meant rule) x.now }
 {
@@ -380,54 +374,58 @@ fn test_for(rule: Rule, x: &[u8]) -> TestNumbers
 
 // ---- the test of a rule of bits on the type of a row
 // Bits with names, by a comparison; an ordering rule accepts none.
-fn named_test(rule: Rule, comparison: usize, number: usize) -> BitsTest
-    ensures { tests.report_bits result ≡ Some (tests.of_rule (meant rule) (tests.test_of comparison number)) }
+#[tactic(auto, unfolding(crate::specs::Inner::Test::test_of))]
+fn named_test(rule: Rule, comparison: usize, number: usize) -> TestNumbers
+    ensures { tests.report_test result ≡ tests.of_rule (meant rule) (tests.test_of comparison number) }
 {
     match rule {
-        Rule::Present => BitsTest::Of(Comparison::ANY, 0),
-        Rule::Equal(_) => BitsTest::Of(comparison, number),
-        Rule::Less(_) => BitsTest::Of(Comparison::NONE, 0),
+        Rule::Present => alone(Comparison::ANY),
+        Rule::Equal(_) => TestNumbers { comparison, number },
+        Rule::Less(_) => alone(Comparison::NONE),
     }
 }
 
 // Digits, their trailing zeros counted off once, or a list of names, each looked up once.
-fn names_test(rule: Rule, t: &[u8], w: &[u64; 256], row: usize, x: &[u8]) -> BitsTest
+fn names_test(rule: Rule, t: &[u8], w: &[u64; 256], row: usize, x: &[u8]) -> Option<TestNumbers>
     requires worded { Worded t.now w.now }
     requires here { row < length (table_rows t.now) }
     ensures { tests.report_bits result ≡ tests.bits_test_by (meant rule) (Some (names_after t.now row)) x.now }
 {
     if digits::is_bit_text(x) {
         let count = digits::significant(digits::operand(x));
-        return named_test(rule, Comparison::NAMED_BINARY, count);
+        return Some(named_test(rule, Comparison::NAMED_BINARY, count));
     }
     if digits::is_hex_string(x) {
         let count = digits::significant(digits::operand(x));
-        return named_test(rule, Comparison::NAMED_HEXADECIMAL, count);
+        return Some(named_test(rule, Comparison::NAMED_HEXADECIMAL, count));
     }
-    match bitnames::listed_bits(t, w, row, x) {
-        BitSet::Of(set) => named_test(rule, Comparison::LISTED, set as usize),
-        BitSet::No => BitsTest::No,
-    }
+    let set = bitnames::listed_bits(t, w, row, x)?;
+    Some(named_test(rule, Comparison::LISTED, set as usize))
 }
 
 // Digits, where there are no names.
-fn digits_test(rule: Rule, x: &[u8]) -> BitsTest
+fn digits_test(rule: Rule, x: &[u8]) -> Option<TestNumbers>
     ensures { tests.report_bits result ≡ tests.bits_test_by (meant rule) None x.now }
 {
     if !digits::is_bits(x) {
-        return BitsTest::No;
+        return None;
     }
-    let test = test_for(rule, x);
-    BitsTest::Of(test.comparison, test.number)
+    Some(test_for(rule, x))
 }
 
-pub fn bits_test_at(rule: Rule, t: &[u8], w: &[u64; 256], row: usize, x: &[u8]) -> BitsTest
+pub fn bits_test_at(
+    rule: Rule,
+    t: &[u8],
+    w: &[u64; 256],
+    row: usize,
+    x: &[u8],
+) -> Option<TestNumbers>
     requires worded { Worded t.now w.now }
     requires here { row < length (table_rows t.now) }
     ensures { tests.report_bits result ≡ tests.bits_test (meant rule) (of_type (type_at t.now row)) x.now }
 {
     if !rules::suits(rule, t, w, row) {
-        return BitsTest::No;
+        return None;
     }
     if table::kind(t, w, row) == Kind::NAMED_BIT_STRING {
         return names_test(rule, t, w, row, x);
@@ -438,9 +436,7 @@ pub fn bits_test_at(rule: Rule, t: &[u8], w: &[u64; 256], row: usize, x: &[u8]) 
 // ---- writing the task
 // A count up to a limit.
 pub fn plan_tally(q: &mut [usize; 72], limit: usize)
-    requires { length q.old ≡ 72 }
-    ensures task { tasks.task_of q.new ≡ tasks.counting limit }
-    ensures room { length q.new ≡ 72 }
+    ensures { tasks.task_of q.new ≡ tasks.counting limit }
 {
     q[0] = 0;
     q[1] = limit;
@@ -448,32 +444,24 @@ pub fn plan_tally(q: &mut [usize; 72], limit: usize)
 
 // A test with a rule and an operand within a budget.
 pub fn plan_test(q: &mut [usize; 72], rule: Rule, x: &[u8], budget: usize)
-    requires { length q.old ≡ 72 }
-    ensures task { tasks.task_of q.new ≡ tasks.testing (tests.test_for (meant rule) x.now) budget }
-    ensures room { length q.new ≡ 72 }
+    ensures { tasks.task_of q.new ≡ tasks.testing (tests.test_for (meant rule) x.now) budget }
 {
-    let test = test_for(rule, x);
+    set_test(q, test_for(rule, x), budget);
+}
+
+// A test within a budget: the steps stay.
+pub fn set_test(q: &mut [usize; 72], test: TestNumbers, budget: usize)
+    ensures task { tasks.task_of q.new ≡ tasks.testing (tests.report_test test) budget }
+    ensures steps { plan.SameSteps q.old q.new }
+{
     q[0] = 2;
     q[1] = budget;
     q[2] = test.comparison;
     q[3] = test.number;
 }
 
-// The test of two numbers within a budget: the steps stay.
-pub fn set_test(q: &mut [usize; 72], comparison: usize, number: usize, budget: usize)
-    requires { length q.old ≡ 72 }
-    ensures task { tasks.task_of q.new ≡ tasks.testing (tests.test_of comparison number) budget }
-    ensures steps { plan.SameSteps q.old q.new }
-{
-    q[0] = 2;
-    q[1] = budget;
-    q[2] = comparison;
-    q[3] = number;
-}
-
 // The listing of what a plan counts: the same steps stand for it.
 pub fn plan_listing(q: &mut [usize; 72])
-    requires { length q.old ≡ 72 }
     ensures task { tasks.task_of q.new ≡ tasks.listing }
     ensures planned { plan.Relisted q.old q.new }
 {
@@ -484,48 +472,41 @@ pub fn plan_listing(q: &mut [usize; 72])
 fn numbered_bound(k: usize, n: usize) -> Bound
     ensures { result ≡ tests.bound_numbered k n }
 {
-    if k == 0 {
-        return Bound::At(n as u64);
+    match k {
+        0 => Bound::At(n as u64),
+        1 => Bound::Under,
+        _ => Bound::Over,
     }
-    if k == 1 {
-        return Bound::Under;
-    }
-    Bound::Over
 }
 
 // Any value, none, a truth.
+#[tactic(auto, unfolding(crate::specs::Inner::Test::accepted))]
 fn accepts_plain(comparison: usize, c: &[u8]) -> bool
     ensures { result ≡ tests.accepted (tests.plain_test comparison) [] c.now }
 {
-    if comparison == Comparison::ANY {
-        return true;
+    match comparison {
+        Comparison::ANY => true,
+        Comparison::NONE => false,
+        Comparison::TRUE => der::read_boolean(c),
+        _ => !der::read_boolean(c),
     }
-    if comparison == Comparison::NONE {
-        return false;
-    }
-    if comparison == Comparison::TRUE {
-        return der::read_boolean(c);
-    }
-    !der::read_boolean(c)
 }
 
 // Arcs, octets, bits.
+#[tactic(auto, unfolding(crate::specs::Inner::Test::accepted))]
 fn accepts_digits(comparison: usize, x: &[u8], c: &[u8]) -> bool
     ensures { result ≡ tests.accepted (tests.digit_test comparison) x.now c.now }
 {
-    if comparison == Comparison::ARCS {
-        return dotted::same_arcs(x, c);
+    match comparison {
+        Comparison::ARCS => dotted::same_arcs(x, c),
+        Comparison::OCTETS => digits::same_hex(c, digits::operand(x)),
+        Comparison::LESS_OCTETS => digits::less_hex(c, digits::operand(x)),
+        _ => digits::same_bits(c, digits::operand(x), comparison == Comparison::HEXADECIMAL),
     }
-    if comparison == Comparison::OCTETS {
-        return digits::same_hex(c, digits::operand(x));
-    }
-    if comparison == Comparison::LESS_OCTETS {
-        return digits::less_hex(c, digits::operand(x));
-    }
-    digits::same_bits(c, digits::operand(x), comparison == Comparison::HEXADECIMAL)
 }
 
 // Bits with names.
+#[tactic(auto, unfolding(crate::specs::Inner::Test::accepted))]
 fn accepts_named(comparison: usize, n: usize, x: &[u8], c: &[u8]) -> bool
     ensures { result ≡ tests.accepted (tests.named_test comparison n) x.now c.now }
 {
@@ -540,6 +521,7 @@ fn accepts_named(comparison: usize, n: usize, x: &[u8], c: &[u8]) -> bool
 }
 
 // Distinguished names, RDNs.
+#[tactic(auto, unfolding(crate::specs::Inner::Test::accepted))]
 fn accepts_name(comparison: usize, x: &[u8], c: &[u8]) -> bool
     ensures { result ≡ tests.accepted (tests.name_test comparison) x.now c.now }
 {
@@ -550,16 +532,15 @@ fn accepts_name(comparison: usize, x: &[u8], c: &[u8]) -> bool
 }
 
 // Times, strings.
+#[tactic(auto, unfolding(crate::specs::Inner::Test::accepted))]
 fn accepts_text(comparison: usize, x: &[u8], c: &[u8]) -> bool
     ensures { result ≡ tests.accepted (tests.text_test comparison) x.now c.now }
 {
-    if comparison == Comparison::TIME {
-        return der::same_time(der::read_time(c), der::read_time(x));
+    match comparison {
+        Comparison::TIME => der::same_time(der::read_time(c), der::read_time(x)),
+        Comparison::EARLIER => der::earlier(der::read_time(c), der::read_time(x)),
+        _ => strings::same_prepared(c, x, comparison == Comparison::FOLDED),
     }
-    if comparison == Comparison::EARLIER {
-        return der::earlier(der::read_time(c), der::read_time(x));
-    }
-    strings::same_prepared(c, x, comparison == Comparison::FOLDED)
 }
 
 // All that is no plain test and no integer.
@@ -605,10 +586,7 @@ fn accepts(comparison: usize, n: usize, x: &[u8], c: &[u8]) -> bool
 pub fn passes_contents(q: &[usize; 72], x: &[u8], c: &[u8]) -> bool
     ensures { result ≡ tasks.passes_contents (tasks.task_of q.now) x.now c.now }
 {
-    if task(q) < 2 {
-        return true;
-    }
-    accepts(comparing(q), compared_number(q), x, c)
+    task(q) < 2 || accepts(comparing(q), compared_number(q), x, c)
 }
 
 fn accepts_count(comparison: usize, number: usize, n: u64) -> bool
@@ -636,10 +614,7 @@ fn accepts_count(comparison: usize, number: usize, n: u64) -> bool
 pub fn passes_count(q: &[usize; 72], n: usize) -> bool
     ensures { result ≡ tasks.passes_count (tasks.task_of q.now) n }
 {
-    if task(q) < 2 {
-        return true;
-    }
-    accepts_count(comparing(q), compared_number(q), n as u64)
+    task(q) < 2 || accepts_count(comparing(q), compared_number(q), n as u64)
 }
 
 // ---- resolution of a reference
@@ -659,32 +634,28 @@ fn find_named(t: &[u8], w: &[u64; 256], row: usize, r: &[u8], a: usize, b: usize
     ensures { result ≡ reference.first_named t.now (table_rows t.now) row (between r.now a b) }
 {
     let n = table::members(t, w, row);
-    let mut j = 0;
-    while j < n {
+    for j in 0..n {
         if reference::is_named(t, table::place(t, w, row + 1 + j), r, a, b) {
             return j;
         }
-        j += 1;
     }
-    j
+    n
 }
 
 // Member j of a row.
+#[tactic(auto, unfolding(crate::specs::Inner::Resolve::member_plan))]
 fn plan_member(t: &[u8], w: &[u64; 256], row: usize, j: usize, next: usize) -> Planning
     requires worded { Worded t.now w.now }
     requires here { row < length (table_rows t.now) }
     requires one { j < members_at t.now (place_at t.now row) }
     ensures { result ≡ resolve.member_plan t.now row j next }
 {
-    let kind = table::kind(t, w, row);
     let to = table::named(t, w, row + 1 + j);
-    if kind == Kind::SEQUENCE {
-        return Planning::To(Sort::MEMBER, row, j, to, next);
+    match table::kind(t, w, row) {
+        Kind::SEQUENCE => Planning::To(Sort::MEMBER, row, j, to, next),
+        Kind::CHOICE => Planning::To(Sort::ALTERNATIVE, row, j, to, next),
+        _ => Planning::No,
     }
-    if kind == Kind::CHOICE {
-        return Planning::To(Sort::ALTERNATIVE, row, j, to, next);
-    }
-    Planning::No
 }
 
 // A name that stands from a to b.
@@ -722,15 +693,13 @@ fn plan_list(t: &[u8], w: &[u64; 256], row: usize, sort: usize, n: usize, next: 
 }
 
 // The count, which has to be the last.
+#[tactic(auto, unfolding(crate::specs::Inner::Resolve::count_plan))]
 fn plan_count(t: &[u8], w: &[u64; 256], row: usize, last: bool) -> Planning
     requires worded { Worded t.now w.now }
     requires here { row < length (table_rows t.now) }
     ensures { result ≡ resolve.count_plan t.now row last }
 {
-    if !rows::is_list(table::kind(t, w, row)) {
-        return Planning::No;
-    }
-    if last {
+    if last && rows::is_list(table::kind(t, w, row)) {
         return Planning::Count;
     }
     Planning::No
@@ -750,15 +719,13 @@ fn plan_id(t: &[u8], w: &[u64; 256], r: &[u8], k: usize, row: usize) -> Planning
         Step::FromEnd(n, next) => plan_list(t, w, row, Sort::FROM_END, n, next),
         Step::Count(next) => plan_count(t, w, row, r.len() < next),
         Step::All(next) => plan_list(t, w, row, Sort::ALL, 0, next),
-        Step::End => Planning::No,
-        Step::Bad => Planning::No,
+        Step::End | Step::Bad => Planning::No,
     }
 }
 
 // ---- the numbers of a step
 fn write(q: &mut [usize; 72], step: usize, sort: usize, first: usize, second: usize, absent: usize)
-    requires room { length q.old ≡ 72 }
-    requires low { plan.Within step }
+    requires { plan.Within step }
     ensures { q.new ≡ resolve.written step sort first second absent q.old }
 {
     q[4 * step] = sort;
@@ -769,8 +736,7 @@ fn write(q: &mut [usize; 72], step: usize, sort: usize, first: usize, second: us
 
 // The end of the steps.
 fn write_end(q: &mut [usize; 72], step: usize)
-    requires room { length q.old ≡ 72 }
-    requires low { plan.Low step }
+    requires { plan.Low step }
     ensures { q.new ≡ set q.old (4 * step) sort.end }
 {
     q[4 * step] = Sort::END;
@@ -780,10 +746,7 @@ fn write_end(q: &mut [usize; 72], step: usize)
 fn is_on(defaults: bool, size: usize, next: usize) -> bool
     ensures { result ≡ both defaults (ltb size next) }
 {
-    if defaults {
-        return size < next;
-    }
-    false
+    defaults && size < next
 }
 
 // What the absent member of a row comes to.
@@ -803,6 +766,7 @@ fn absent_member(t: &[u8], w: &[u64; 256], q: &[usize; 72], x: &[u8], row: usize
 }
 
 // The same by the numbers of a step.
+#[tactic(auto, unfolding(crate::specs::Inner::Resolve::absent_for))]
 fn absent_step(
     t: &[u8],
     w: &[u64; 256],
@@ -817,10 +781,7 @@ fn absent_step(
     requires member { resolve.NamesMember t.now sort first second }
     ensures { result ≡ resolve.absent_for t.now (tasks.task_of q.now) x.now on sort first second }
 {
-    if !on {
-        return 0;
-    }
-    if sort != Sort::MEMBER {
+    if !on || sort != Sort::MEMBER {
         return 0;
     }
     absent_member(t, w, q, x, first + 1 + second)
@@ -854,12 +815,10 @@ fn plan_next(
 ) -> Resolved
     requires worded { Worded t.now w.now }
     requires admitted { admitted table_limits t.now ≡ true }
-    requires room { length q.old ≡ 72 }
     requires resolving { resolve.Resolving t.now r.now x.now defaults q.old here.row here.place here.step }
     requires inside { here.place ≤ length r.now }
     ensures nexts { resolve.Nexts t.now r.now x.now defaults q.new here.place here.step result }
     ensures task { tasks.task_of q.new ≡ tasks.task_of q.old }
-    ensures room { length q.new ≡ 72 }
 {
     match plan_id(t, w, r, here.place, here.row) {
         Planning::To(sort, first, second, to, next) => {
@@ -884,19 +843,18 @@ fn follow(
     r: &[u8],
     x: &[u8],
     defaults: bool,
-) -> Target
+) -> Option<Target>
     requires worded { Worded t.now w.now }
     requires admitted { admitted table_limits t.now ≡ true }
-    requires room { length q.old ≡ 72 }
     ensures leads { reference.LeadsAlong table_limits.chain t.now (table_rows t.now) (reference.ids_at r.now 0) result }
     ensures within { reference.row_within (table_rows t.now) result ≡ true }
     ensures planned { resolve.Follows t.now r.now x.now defaults q.new result }
     ensures task { tasks.task_of q.new ≡ tasks.task_of q.old }
-    ensures room { length q.new ≡ 72 }
 {
     let mut row = 0;
     let mut place = 0;
     let mut step = 1;
+    // A cursor: each identifier says where the next one starts.
     while place <= r.len() {
         match plan_next(t, w, q, r, x, defaults, Point { row, place, step }) {
             Resolved::On(to, next) => {
@@ -904,12 +862,12 @@ fn follow(
                 place = next;
                 step += 1;
             }
-            Resolved::Count => return Target::Count,
-            Resolved::No => return Target::No,
+            Resolved::Count => return Some(Target::Count),
+            Resolved::No => return None,
         }
     }
     write_end(q, step);
-    Target::Row(row)
+    Some(Target::Row(row))
 }
 
 // Writes the steps of a reference, where one is given, on the type of row 0, for the plan's task with the operand; what it leads to, or nothing, where
@@ -922,19 +880,17 @@ pub fn resolve(
     r: &[u8],
     x: &[u8],
     defaults: bool,
-) -> Target
+) -> Option<Target>
     requires worded { Worded t.now w.now }
     requires admitted { admitted table_limits t.now ≡ true }
-    requires room { length q.old ≡ 72 }
     ensures leads { reference.Leads table_limits.chain t.now (table_rows t.now) given r.now result }
     ensures within { reference.row_within (table_rows t.now) result ≡ true }
     ensures planned { resolve.Resolves t.now given r.now x.now defaults q.new result }
     ensures task { tasks.task_of q.new ≡ tasks.task_of q.old }
-    ensures room { length q.new ≡ 72 }
 {
     if !given {
         write_end(q, 1);
-        return Target::Row(0);
+        return Some(Target::Row(0));
     }
     follow(t, w, q, r, x, defaults)
 }

@@ -1,4 +1,5 @@
 -- The readers of a filter on the quoted form of a text.
+use Rattle.std.specs.Prelude.{Result, Ok, Err}
 use mathlib.Core.Path.{◌≡◌, refl, sym, ap, subst, ◌∙◌}
 use mathlib.Core.Bool.{true, false}
 use Rattle.std.specs.Prelude.{Some}
@@ -24,7 +25,7 @@ use Rattle.filter.specs.Parse.{head_at, filter_from, filter_at, whole}
 use Rattle.assertion.proofs.Laws.{trimmed-other, starts-fits}
 use Rattle.quote.specs.Quote.{doubled, quoted, Quoting, quoting, written, fits, quoted_into, quoted_report}
 use Rattle.quote.specs.Reading.{closed_by, Opening, opening_at, item_with, ReadsAs, Reads}
-use Rattle.quote.specs.declared.Quoted.{Quoted}
+use Rattle.quote.specs.declared.QuoteError.{QuoteError}
 use Rattle.quote.proofs.Laws.{by-octets, quoted-is, quoted-length}
 use Rattle.quote.proofs.Unicode.{utf8-joined, utf8-quoted, utf8-closed}
 use Rattle.quote.proofs.Prefix.{starts_in, assertion_in}
@@ -190,7 +191,7 @@ quoted-reads t n u = record {
 abbrev Read : List ℕ → Quoting → Type 0
 Read t x = Reads x.answer t x.memory
 
-read_none : (t : List ℕ) (x : Quoting) → ((n : ℕ) → x.answer ≡ Quoted.Written n → ⊥) → Read t x
+read_none : (t : List ℕ) (x : Quoting) → ((n : ℕ) → x.answer ≡ Ok n → ⊥) → Read t x
 read_none t x f = record { written = λ n e. absurd (f n e) }
 
 read-written : (t room : List ℕ) → (length t ≡ 0 → ⊥) → utf8 t ≡ true → Read t (written t room)
@@ -202,11 +203,11 @@ read-written t room m u = record { written = λ n e. let z : n ≡ length (quote
 report-read : (t room : List ℕ) → Read t (quoted_report t room)
 unfolding quoted_report quoted_into
 report-read t room =
-    pick_cases (Read t) (eqb (length t) 0) _ _ (λ _. read_none t (quoting Quoted.Empty room) (λ n e. let z : ◌≡◌ {A = ℕ} 0 1 = cc in omega arith))
+    pick_cases (Read t) (eqb (length t) 0) _ _ (λ _. read_none t (quoting (Err QuoteError.Empty) room) (λ n e. let z : ◌≡◌ {A = ℕ} 0 1 = cc in omega arith))
     (λ m. pick_cases (Read t) (utf8 t) _ _
     (λ u. pick_cases (Read t) (fits t (length room)) _ _ (λ _. read-written t room (eqb-false (length t) 0 m) u)
-    (λ _. read_none t (quoting Quoted.TooLittleRoom room) (λ n e. let z : ◌≡◌ {A = ℕ} 0 1 = cc in omega arith)))
-    (λ _. read_none t (quoting Quoted.NotUtf8 room) (λ n e. let z : ◌≡◌ {A = ℕ} 0 1 = cc in omega arith)))
+    (λ _. read_none t (quoting (Err QuoteError.TooLittleRoom) room) (λ n e. let z : ◌≡◌ {A = ℕ} 0 1 = cc in omega arith)))
+    (λ _. read_none t (quoting (Err QuoteError.NotUtf8) room) (λ n e. let z : ◌≡◌ {A = ℕ} 0 1 = cc in omega arith)))
 
-pub reads_report : (t room m : List ℕ) (r : Quoted) → quoting r m ≡ quoted_report t room → Reads r t m
+pub reads_report : (t room m : List ℕ) (r : Result ℕ QuoteError) → quoting r m ≡ quoted_report t room → Reads r t m
 reads_report t room m r e = subst (Read t) (sym e) (report-read t room)

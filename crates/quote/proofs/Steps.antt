@@ -1,17 +1,19 @@
--- One lemma for each return and each turn of a loop; its premises are the facts as the code has them.
+-- One lemma for each return and each turn of a loop that needs one; its premises are the facts as the code has them.
+use Rattle.std.specs.Prelude.{Ok}
 use mathlib.Core.Path.{◌≡◌, refl, sym, ap, ◌∙◌}
 use mathlib.Core.Bool.{Bool, true, false, not}
 use mathlib.Core.List.{List, [], ◌∷◌, ◌++◌, append_assoc, append-nil}
 use Prim.Native.Nat.{ℕ, ◌≤◌, ◌<◌, ◌+◌, ◌-◌}
 use native.Mathlib.Omega.{arith}
 use native.Mathlib.Numerals.{add-one}
-use borrow.Author.Tests.{eq-eqb, ne_eqb, le-leb, lt-leb, leb-true, not-true, not-false}
+use borrow.Author.Tests.{le-leb, lt-leb, not-false}
+use lib.Dec.{eqb}
 use lib.ListN.{length, take, drop, set, length-set, length-append, take-append-drop}
 use lib.Seq.{take-suc-set, drop-set-lt, drop-drop}
 use Rattle.octets.specs.Octets.{octet}
 use Rattle.octets.specs.Utf8.{utf8}
 use Rattle.octets.proofs.Laws.{rest-cons, rest-none}
-use Rattle.quote.specs.declared.Quoted.{Quoted}
+use Rattle.quote.specs.declared.QuoteError.{QuoteError}
 use Rattle.quote.specs.Quote.{doubled, quoted, Quoting, quoting, written, fits, quoted_into, quoted_report}
 use Rattle.quote.specs.Inner.Work.{width}
 use Rattle.quote.proofs.Laws.{doubled-nil, doubled_quote, doubled-other, width_some, width-at, quoted-length}
@@ -59,8 +61,8 @@ module _ (whole room : List ℕ) (n : ℕ) (s : List ℕ) where
       inside : n < length s
       inside = let l = v.long in let c = v.count in let f = v.fit in omega arith
 
-  pub writing_done : Writing whole room n [] s → quoting (Quoted.Written n) s ≡ quoting (Quoted.Written (length whole)) (whole ++ drop (length whole) room)
-  writing_done v = (λ i. quoting (Quoted.Written (all i)) (octets i))
+  pub writing_done : Writing whole room n [] s → quoting (Ok n) s ≡ quoting (Ok (length whole)) (whole ++ drop (length whole) room)
+  writing_done v = (λ i. quoting (Ok (all i)) (octets i))
     where
       all : n ≡ length whole
       all = let c = v.count in omega arith
@@ -89,12 +91,6 @@ module _ (t room : List ℕ) where
       v = writing_one (quoted t) room 0 room 34 (to_come t 0) (writing_none (quoted t) room h)
 
 module _ (t room : List ℕ) (n i : ℕ) (s : List ℕ) (v : Quotes t room n i s) where
-  pub room-more : n < length s
-  room-more =
-      let e = length-append (doubled (drop i t)) (34 ∷ []) in
-      let l = v.long in let c = v.count in let f = v.fit in
-      omega arith
-
   module _ (h : i < length t) where
     here : to_come t i ≡ doubled (octet t i ∷ drop (i + 1) t) ++ (34 ∷ [])
     here = ap (λ (l : List ℕ). doubled l ++ (34 ∷ [])) (rest-cons t i h)
@@ -119,51 +115,29 @@ module _ (t room : List ℕ) (n i : ℕ) (s : List ℕ) (v : Quotes t room n i s
         let f = v.fit in
         rw length-set (omega arith)
 
-    pub quotes_double : octet t i ≡ 34 → Quotes t room (n + 1 + 1) (i + 1) (set (set s n (octet t i)) (n + 1) 34)
-    quotes_double e = writing_one (quoted t) room (n + 1) (set s n (octet t i)) 34 (to_come t (i + 1)) (first e)
+    -- the number of octets and the memory after an octet
+    module _ (m : ℕ) (u : List ℕ) where
+      pub quotes_double : octet t i ≡ 34 → m ≡ n + 1 + 1 → u ≡ set (set s n (octet t i)) (n + 1) 34 → Quotes t room m (i + 1) u
+      quotes_double e a b = rw (a, b) (writing_one (quoted t) room (n + 1) (set s n (octet t i)) 34 (to_come t (i + 1)) (first e))
 
-    pub quotes_on : (octet t i ≡ 34 → ⊥) → Quotes t room (n + 1) (i + 1) (set s n (octet t i))
-    quotes_on e = writing_one (quoted t) room n s (octet t i) (to_come t (i + 1)) (rw (quotes_other e) at v)
+      pub quotes_on : (octet t i ≡ 34 → ⊥) → m ≡ n + 1 → u ≡ set s n (octet t i) → Quotes t room m (i + 1) u
+      quotes_on e a b = rw (a, b) (writing_one (quoted t) room n s (octet t i) (to_come t (i + 1)) (rw (quotes_other e) at v))
 
   quotes_last : length t ≤ i → to_come t i ≡ 34 ∷ []
   quotes_last h = ap (λ (l : List ℕ). doubled l ++ (34 ∷ [])) (rest-none t i h) ∙ ap (λ (l : List ℕ). l ++ (34 ∷ [])) doubled-nil
 
-  quotes_all : length t ≤ i → quoting (Quoted.Written (n + 1)) (set s n 34) ≡ written t room
+  quotes_all : length t ≤ i → quoting (Ok (n + 1)) (set s n 34) ≡ written t room
   quotes_all h = writing_done (quoted t) room (n + 1) (set s n 34) (writing_one (quoted t) room n s 34 [] (rw (quotes_last h) at v))
 
-pub quotes_same : (t room : List ℕ) (n i : ℕ) (s : List ℕ) → Quotes t (set room 0 34) n i s → length (set s n 34) ≡ length room
-quotes_same t room n i s v = rw (length-set s n 34, v.long, length-set room 0 34)
-
 pub quotes_end : (t room : List ℕ) (n i : ℕ) (s : List ℕ) → Quotes t (set room 0 34) n i s → length t ≤ i
-    → quoting (Quoted.Written (n + 1)) (set s n 34) ≡ written t room
+    → quoting (Ok (n + 1)) (set s n 34) ≡ written t room
 quotes_end t room n i s v h =
     let l = quoted-length t in
     quotes_all t (set room 0 34) n i s v h
-    ∙ ap (λ (x : List ℕ). quoting (Quoted.Written (length (quoted t))) (quoted t ++ x)) (drop-set-lt (length (quoted t)) room 0 34 (omega arith))
+    ∙ ap (λ (x : List ℕ). quoting (Ok (length (quoted t))) (quoted t ++ x)) (drop-set-lt (length (quoted t)) room 0 34 (omega arith))
 
 -- ---- quote
-module _ (t room : List ℕ) where
-  module _ (f : Bool) (g : f ≡ fits t (length room)) where
-    pub into_little : not f ≡ true → quoting Quoted.TooLittleRoom room ≡ quoted_into t room
-    unfolding quoted_into
-    into_little k = rw (sym g ∙ not-true f k)
-
-    pub into_written : (r : Quoting) → not f ≡ false → r ≡ written t room → r ≡ quoted_into t room
-    unfolding quoted_into
-    into_written r k q = rw (sym g ∙ not-false f k) q
-
-  pub quote_empty : length t ≡ 0 → quoting Quoted.Empty room ≡ quoted_report t room
-  unfolding quoted_report
-  quote_empty e = rw (eq-eqb (length t) 0 e)
-
-  module _ (n : length t ≡ 0 → ⊥) (u : Bool) (e : u ≡ utf8 t) where
-    pub quote_other : not u ≡ true → quoting Quoted.NotUtf8 room ≡ quoted_report t room
-    unfolding quoted_report
-    quote_other h = rw (ne_eqb (length t) 0 n, sym e ∙ not-true u h)
-
-    pub quote_text : (r : Quoting) → not u ≡ false → r ≡ quoted_into t room → r ≡ quoted_report t room
-    unfolding quoted_report
-    quote_text r h q = rw (ne_eqb (length t) 0 n, sym e ∙ not-false u h) q
-
-pub fits_all : (t : List ℕ) (size : ℕ) (f : Bool) → f ≡ fits t size → not f ≡ false → length (quoted t) ≤ size
-fits_all t size f g k = leb-true (length (quoted t)) size (sym g ∙ not-false f k)
+pub quote_text : (t room : List ℕ) (p : Bool) → p ≡ eqb (length t) 0 → p ≡ false → (u : Bool) → u ≡ utf8 t → (r : Quoting) → not u ≡ false
+    → r ≡ quoted_into t room → r ≡ quoted_report t room
+unfolding quoted_report
+quote_text t room p f g u e r h q = rw (sym f ∙ g, sym e ∙ not-false u h) q

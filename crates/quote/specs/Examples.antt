@@ -1,10 +1,11 @@
 -- Computed examples.
+use Rattle.std.specs.Prelude.{Ok, Err}
 use Rattle.std.specs.Prelude.{◌≡◌, refl, true, List, [], ◌∷◌, ◌++◌, map, ℕ, length}
 use Rattle.std.specs.Prelude.{Option, None, Some}
 use Rattle.octets.specs.Octets.{bytes, hex}
 use Rattle.assertion.specs.Item.{Item}
 use Rattle.assertion.specs.Assertion.{Read, read_to, assertion_at}
-use Rattle.quote.specs.declared.Quoted.{Quoted}
+use Rattle.quote.specs.declared.QuoteError.{QuoteError}
 use Rattle.quote.specs.Quote.{quoted, quoting, quoted_report}
 use Rattle.quote.specs.Reading.{opening_at}
 use Rattle.quote.specs.Computing.{quote_computes}
@@ -16,8 +17,8 @@ forms = refl
 
 -- room of four and of three octets for the text "; no text; a text that isn't UTF-8, in no room
 answers : quoted_report (bytes "\"") (bytes "wxyz!") ∷ quoted_report (bytes "\"") (bytes "xyz") ∷ quoted_report [] (bytes "xyz") ∷ quoted_report (hex "C2") [] ∷ []
-    ≡ quoting (Quoted.Written 4) (bytes "\"\"\"\"!") ∷ quoting Quoted.TooLittleRoom (bytes "xyz") ∷ quoting Quoted.Empty (bytes "xyz")
-    ∷ quoting Quoted.NotUtf8 [] ∷ []
+    ≡ quoting (Ok 4) (bytes "\"\"\"\"!") ∷ quoting (Err QuoteError.TooLittleRoom) (bytes "xyz") ∷ quoting (Err QuoteError.Empty) (bytes "xyz")
+    ∷ quoting (Err QuoteError.NotUtf8) [] ∷ []
 unfolding quote_computes
 answers = refl
 

@@ -1,4 +1,5 @@
 -- What the readers of a filter make of octets q that are the quoted form of a text.
+use Rattle.std.specs.Prelude.{Result, Ok}
 use Rattle.std.specs.Prelude.{ℕ, suc, ◌+◌, ◌≡◌, Bool, true, false, List, [], ◌∷◌, ◌++◌, length, take, drop, replicate}
 use Rattle.std.specs.Prelude.{Option, Some}
 use Rattle.octets.specs.Pick.{◌>>=◌}
@@ -13,7 +14,7 @@ use Rattle.assertion.specs.ValueText.{brace_from, value_text_at}
 use Rattle.assertion.specs.Assertion.{Read, read_to, component_at, defaults_at, rule_at, assertion_at}
 use Rattle.filter.specs.Filter.{item}
 use Rattle.filter.specs.Parse.{filter_from, whole}
-use Rattle.quote.specs.declared.Quoted.{Quoted}
+use Rattle.quote.specs.declared.QuoteError.{QuoteError}
 
 -- so many spaces, a closing brace, and any octets
 abbrev pub closed_by : ℕ → List ℕ → List ℕ
@@ -65,5 +66,5 @@ pub record ReadsAs (text q : List ℕ) : Type 0 where
       → opening_at (before ++ (34 ∷ [])) 5 ≡ read_to o (length before) → whole (before ++ (q ++ closed_by spaces [])) ≡ Some (item (item_with o q))
 
 -- the octets that were written
-pub record Reads (answer : Quoted) (text memory : List ℕ) : Type 0 where
-  pub written : (n : ℕ) → answer ≡ Quoted.Written n → ReadsAs text (take n memory)
+pub record Reads (answer : Result ℕ QuoteError) (text memory : List ℕ) : Type 0 where
+  pub written : (n : ℕ) → answer ≡ Ok n → ReadsAs text (take n memory)

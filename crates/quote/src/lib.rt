@@ -1,15 +1,14 @@
 // The quoted form of a text, as an assertion's value text has it.
 #![tactic(auto)]
 
-ghost use Rattle.std.specs.Prelude.{◌≡◌, ◌≤◌, length};
+ghost use Rattle.std.specs.Prelude.{◌≡◌, ◌≤◌, length, Ok};
 ghost use Rattle.quote.specs.Quote as specs;
 ghost use Rattle.quote.specs.Reading.{Reads};
 ghost use Rattle.quote.specs.Inner.Work as work;
 
-// The octets written, or why nothing was: an empty text, one that isn't UTF-8, too little room.
-#[derive(Clone, Copy)]
-pub enum Quoted {
-    Written(usize),
+// Why nothing is written: an empty text, one that isn't UTF-8, too little room.
+#[derive(Clone, Copy, Debug, PartialEq, Eq)]
+pub enum QuoteError {
     Empty,
     NotUtf8,
     TooLittleRoom,
@@ -19,10 +18,7 @@ pub enum Quoted {
 fn width(b: u8) -> usize
     ensures { result ≡ work.width b }
 {
-    if b == b'"' {
-        return 2;
-    }
-    1
+    if b == b'"' { 2 } else { 1 }
 }
 
 // Whether the quoted form of a text fits a room of so many octets.
@@ -33,14 +29,12 @@ fn fits(text: &[u8], size: usize) -> bool
         return false;
     }
     let mut left = size - 2;
-    let mut i = 0;
-    while i < text.len() {
-        let w = width(text[i]);
+    for octet in text {
+        let w = width(*octet);
         if left < w {
             return false;
         }
         left -= w;
-        i += 1;
     }
     true
 }
@@ -48,21 +42,16 @@ fn fits(text: &[u8], size: usize) -> bool
 // Writes the quoted form of a text, and answers its length.
 fn write(text: &[u8], room: &mut [u8]) -> usize
     requires { length (specs.quoted text.now) ≤ length room.old }
-    ensures { specs.quoting (Quoted.Written result) room.new ≡ specs.written text.now room.old }
+    ensures { specs.quoting (Ok result) room.new ≡ specs.written text.now room.old }
 {
     room[0] = b'"';
     let mut n = 1;
-    let mut i = 0;
-    while i < text.len() {
-        let octet = text[i];
-        room[n] = octet;
+    for octet in text {
+        room[n] = *octet;
         n += 1;
-        if octet == b'"' {
+        if *octet == b'"' {
             room[n] = b'"';
             n += 1;
-            i += 1;
-        } else {
-            i += 1;
         }
     }
     room[n] = b'"';
@@ -70,25 +59,27 @@ fn write(text: &[u8], room: &mut [u8]) -> usize
 }
 
 // The same where all of it fits; else nothing is written.
-fn quote_into(text: &[u8], room: &mut [u8]) -> Quoted
+#[tactic(auto, unfolding(crate::specs::Quote::quoted_into))]
+fn quote_into(text: &[u8], room: &mut [u8]) -> Result<usize, QuoteError>
     ensures { specs.quoting result room.new ≡ specs.quoted_into text.now room.old }
 {
     if !fits(text, room.len()) {
-        return Quoted::TooLittleRoom;
+        return Err(QuoteError::TooLittleRoom);
     }
-    Quoted::Written(write(text, room))
+    Ok(write(text, room))
 }
 
 // Writes the quoted form of a text into the room that is lent, where it is a text and all of it fits. Any octets for both.
-pub fn quote(text: &[u8], room: &mut [u8]) -> Quoted
+#[tactic(auto, unfolding(crate::specs::Quote::quoted_report))]
+pub fn quote(text: &[u8], room: &mut [u8]) -> Result<usize, QuoteError>
     ensures room_after { specs.quoting result room.new ≡ specs.quoted_report text.now room.old }
     ensures reads { Reads result text.now room.new }
 {
-    if text.len() == 0 {
-        return Quoted::Empty;
+    if text.is_empty() {
+        return Err(QuoteError::Empty);
     }
     if !octets::utf8(text) {
-        return Quoted::NotUtf8;
+        return Err(QuoteError::NotUtf8);
     }
     quote_into(text, room)
 }

@@ -7,7 +7,6 @@ use native.Mathlib.Omega.{arith}
 use lib.ListN.{length}
 use Rattle.der.specs.Tag.{wrapper_octet}
 use Rattle.der.specs.Header.{header_at}
-use Rattle.der.specs.declared.Header.{Header}
 use Rattle.der.proofs.Laws.{header-within, header-before, inside_view, inside-within}
 use Rattle.types.specs.Types.{Tagging, Ty, Members}
 use Rattle.value.specs.Value.{Spot, spot_at, Value, Fields, Values}
@@ -18,12 +17,12 @@ use Rattle.reader.specs.There.{header_there, contents_there}
 use Rattle.reader.specs.Inner.Reads.{size_there, next_there, value_there}
 use Rattle.reader.specs.Inner.Sees.{Sees, SeesAll, SeesFields, SeesElements}
 
-sees_there : (v : List ℕ) (at o start n : ℕ) → header_there v at ≡ Header.Found o start n → Sees v (spot_at v at start n)
+sees_there : (v : List ℕ) (at o start n : ℕ) → header_there v at ≡ Some (o, start, n) → Sees v (spot_at v at start n)
 unfolding size_there next_there value_there contents_there spot_at
 sees_there v at o start n e = record { size = rw e; after = rw e; octets = rw e; contents = rw e }
 
 -- the header before an end within the octets is the one before the octets' end
-sees_header : (v : List ℕ) (at end o start n : ℕ) → end ≤ length v → header_at v at end ≡ Header.Found o start n → Sees v (spot_at v at start n)
+sees_header : (v : List ℕ) (at end o start n : ℕ) → end ≤ length v → header_at v at end ≡ Some (o, start, n) → Sees v (spot_at v at start n)
 unfolding header_there
 sees_header v at end o start n h e = let w = header-within v at end o start n e in sees_there v at o start n (header-before v at end (length v) o start n e (omega arith))
 

@@ -1,24 +1,24 @@
 -- What stands at a place: one lemma for each need.
+use Rattle.std.specs.Prelude.{Option, Some, None}
 use mathlib.Core.Path.{◌≡◌, sym, ◌∙◌}
 use mathlib.Core.List.{List}
 use Prim.Native.Nat.{ℕ, ◌≤◌, ◌<◌, ◌+◌, ◌-◌}
 use native.Mathlib.Omega.{arith}
 use lib.ListN.{length}
 use Rattle.octets.specs.Octets.{part}
-use Rattle.der.specs.declared.Header.{Header}
 use Rattle.der.proofs.Laws.{header-long, header-within}
 use Rattle.reader.specs.There.{header_there}
 use Rattle.reader.specs.Inner.Reads.{size_there, value_there}
 
-module _ (s : List ℕ) (place : ℕ) (h : Header) (read : h ≡ header_there s place) where
+module _ (s : List ℕ) (place : ℕ) (h : Option (ℕ × ℕ × ℕ)) (read : h ≡ header_there s place) where
   -- ---- no header fits
-  module _ (e : h ≡ Header.Misfit) where
+  module _ (e : h ≡ None) where
     pub size_none : 0 ≡ size_there s place
     unfolding size_there
     size_none = rw (sym read ∙ e)
 
   -- ---- a header fits
-  module _ (o start n : ℕ) (e : h ≡ Header.Found o start n) where
+  module _ (o start n : ℕ) (e : h ≡ Some (o, start, n)) where
     pub long : place ≤ start + n
     unfolding header_there
     long = let l = header-long s place (length s) o start n (sym read ∙ e) in omega arith

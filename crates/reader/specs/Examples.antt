@@ -1,7 +1,7 @@
 -- Computed examples on document 01's licence record.
+use Rattle.std.specs.Prelude.{Some, None}
 use Rattle.std.specs.Prelude.{◌≡◌, refl, [], ◌∷◌, map}
 use Rattle.octets.specs.Octets.{hex}
-use Rattle.der.specs.declared.Header.{Header}
 use Rattle.value.specs.Paper.{licence_record}
 use Rattle.reader.specs.There.{header_there, contents_there}
 use Rattle.reader.specs.Inner.Reads.{size_there, next_there, value_there}
@@ -10,7 +10,7 @@ use Rattle.reader.specs.Computing.{reader_computes}
 -- the record, its event, the list of its parts, the second part's copies; inside the event's contents, where 65 31 would be a tag and a length of
 -- more octets than there are; at the record's last octet; past its end
 headers : map (header_there licence_record) (0 ∷ 2 ∷ 6 ∷ 20 ∷ 4 ∷ 22 ∷ 23 ∷ [])
-    ≡ Header.Found 48 2 21 ∷ Header.Found 12 4 2 ∷ Header.Found 48 8 15 ∷ Header.Found 128 22 1 ∷ Header.Misfit ∷ Header.Misfit ∷ Header.Misfit ∷ []
+    ≡ Some (48, 2, 21) ∷ Some (12, 4, 2) ∷ Some (48, 8, 15) ∷ Some (128, 22, 1) ∷ None ∷ None ∷ None ∷ []
 unfolding reader_computes
 headers = refl
 

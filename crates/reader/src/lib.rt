@@ -6,8 +6,6 @@ ghost use Rattle.std.specs.Prelude.{◌≡◌};
 ghost use Rattle.reader.specs.There.{header_there};
 ghost use Rattle.reader.specs.Inner.Reads.{reader_at, size_there, value_there};
 
-use der::Header;
-
 // A place in a stored value's octets.
 #[derive(Clone, Copy)]
 pub struct Reader<'a> {
@@ -16,7 +14,7 @@ pub struct Reader<'a> {
 }
 
 // ---- what stands at a place
-fn header_at(s: &[u8], place: usize) -> Header
+fn header_at(s: &[u8], place: usize) -> Option<(u8, usize, usize)>
     ensures { result ≡ header_there s.now place }
 {
     der::read_header(s, place, s.len())
@@ -25,7 +23,7 @@ fn header_at(s: &[u8], place: usize) -> Header
 fn size_at(s: &[u8], place: usize) -> usize
     ensures { result ≡ size_there s.now place }
 {
-    let Header::Found(_, start, n) = header_at(s, place) else {
+    let Some((_, start, n)) = header_at(s, place) else {
         return 0;
     };
     start + n - place

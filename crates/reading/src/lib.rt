@@ -17,6 +17,7 @@ pub fn read_full<R: Read>(from: &mut R, buf: &mut [u8]) -> Result<usize>
         × Consumes (R.remaining from.old) (R.remaining from.new) (take n buf.new)) }
 {
     let mut done = 0;
+    // A cursor: each read says how many octets came.
     while done < buf.len() {
         let n = from.read(&mut buf[done..])?;
         if n == 0 {

@@ -30,10 +30,10 @@ along_next i (Some is) (Some h) = refl
 
 -- ---- where a reference is given
 module _ (chain : ℕ) (t s r : List ℕ) (given : Bool) where
-  pub target-whole : not given ≡ true → report_target chain t s (Target.Row 0) ≡ leads_to given r (type_from chain t s 0)
+  pub target-whole : not given ≡ true → report_target chain t s (Some (Target.Row 0)) ≡ leads_to given r (type_from chain t s 0)
   unfolding allowed.allowed allowed_from
   target-whole h = rw (not-true given h)
 
-  pub target_is : (g : Target) → not given ≡ false → report_target chain t s g ≡ along (ids_at r 0) (report_target chain t s (Target.Row 0)) → report_target chain t s g ≡ leads_to given r (type_from chain t s 0)
+  pub target_is : (g : Option Target) → not given ≡ false → report_target chain t s g ≡ along (ids_at r 0) (report_target chain t s (Some (Target.Row 0))) → report_target chain t s g ≡ leads_to given r (type_from chain t s 0)
   unfolding allowed.allowed
-  target_is g h e = e ∙ ap (λ (y : Option (List Id)). along y (report_target chain t s (Target.Row 0))) (ids_all r) ∙ sym (rw (not-false given h))
+  target_is g h e = e ∙ ap (λ (y : Option (List Id)). along y (report_target chain t s (Some (Target.Row 0)))) (ids_all r) ∙ sym (rw (not-false given h))

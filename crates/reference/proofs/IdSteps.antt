@@ -14,7 +14,6 @@ use Rattle.octets.specs.Pick.{pick, both, no, bind, consed}
 use Rattle.octets.specs.Octets.{octet, part, same, every, bytes}
 use Rattle.octets.specs.Text.{is_lower, is_digit, may_follow, name_from, is_name, is_number, decimal, onto_first, pieces}
 use Rattle.octets.specs.Inner.Answers.{clip}
-use Rattle.octets.specs.declared.Size.{Size}
 use Rattle.octets.proofs.Laws.{rest-cons, rest-none, rest-length, part-rest}
 use Rattle.octets.proofs.TextLaws.{every-cons, number-nil, number-cons, pieces-nil, pieces-cons, same-nil, same-cons}
 use Rattle.reference.specs.Reference.{Id, index, position, from_end, is_position, id_of, ids_of, read_reference}
@@ -60,11 +59,12 @@ module _ (p : List ℕ) (a i : ℕ) (m : Bool) (inv : name_from a (drop i p) ≡
     unfolding name_from
     name-end = sym (ap (name_from a) (rest-none p i h)) ∙ inv
 
-    pub name_hyphen : a ≡ 45 → false ≡ m
-    name_hyphen e = rw (eq-eqb a 45 e) at name-end
-
-    pub name-whole : (a ≡ 45 → ⊥) → true ≡ m
-    name-whole e = rw (ne_eqb a 45 e) at name-end
+    pub name-whole : not (eqb a 45) ≡ m
+    name-whole = go (eqb a 45) name-end
+      where
+        go : (u : Bool) → no u ≡ m → not u ≡ m
+        go true e = e
+        go false e = e
 
 -- ---- positions
 pub position-none : (p : List ℕ) → length p < 1 → false ≡ is_position p
@@ -95,20 +95,20 @@ position-is (b ∷ s) u h q e =
     other : (b : ℕ) (s : List ℕ) → (b ≡ 48 → ⊥) → same (b ∷ s) (48 ∷ []) ≡ false
     other b s q = rw (same-cons b 48 s [], ne_eqb b 48 q)
 
-size_of : (n m : ℕ) (x : Bool) → pick x (Size.Of n) Size.Beyond ≡ Size.Of m → m ≡ pick x n 18446744073709551615
+size_of : (n m : ℕ) (x : Bool) → pick x (Some n) None ≡ Some m → m ≡ pick x n 18446744073709551615
 size_of n m true e = cc
 size_of n m false e = absurd (let z : ◌≡◌ {A = ℕ} 0 1 = cc in omega arith)
 
-size-beyond : (n : ℕ) (x : Bool) → pick x (Size.Of n) Size.Beyond ≡ Size.Beyond → 18446744073709551615 ≡ pick x n 18446744073709551615
+size-beyond : (n : ℕ) (x : Bool) → pick x (Some n) None ≡ None → 18446744073709551615 ≡ pick x n 18446744073709551615
 size-beyond n true e = absurd (let z : ◌≡◌ {A = ℕ} 0 1 = cc in omega arith)
 size-beyond n false e = refl
 
-module _ (size : Size) (n : ℕ) (told : size ≡ clip n) where
-  pub number_far : size ≡ Size.Beyond → 18446744073709551615 ≡ cap n
+module _ (size : Option ℕ) (n : ℕ) (told : size ≡ clip n) where
+  pub number_far : size ≡ None → 18446744073709551615 ≡ cap n
   unfolding cap
   number_far e = size-beyond n (ltb n 18446744073709551616) (sym told ∙ e)
 
-  pub number_is : (m : ℕ) → size ≡ Size.Of m → m ≡ cap n
+  pub number_is : (m : ℕ) → size ≡ Some m → m ≡ cap n
   unfolding cap
   number_is m e = size_of n m (ltb n 18446744073709551616) (sym told ∙ e)
 
@@ -169,9 +169,9 @@ module _ (r : List ℕ) (k i : ℕ) (inv : end_at r k ≡ end_at r i) where
   unfolding end_at dotless
   end_on h e = inv ∙ rw (rest-cons r i h, ne_eqb _ _ e) (omega arith)
 
-  pub end-done : length r ≤ i → i ≡ end_at r k
+  pub end-done : i ≤ length r → length r ≤ i → length r ≡ end_at r k
   unfolding end_at dotless
-  end-done h = sym (inv ∙ rw (rest-none r i h) (add-zero _))
+  end-done g h = let e : length r ≡ i = omega arith in e ∙ sym (inv ∙ rw (rest-none r i h) (add-zero _))
 
 -- ---- the first piece of a text, and the others
 abbrev others : List ℕ → List (List ℕ)

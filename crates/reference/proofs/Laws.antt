@@ -163,7 +163,7 @@ module _ (r : List ℕ) (k : ℕ) (s : Step) (rising : advances r k s ≡ true) 
   all-rises n e = rises_by r k n (sym (ap (advances r k) e) ∙ rising)
 
 -- ---- a row that a reference leads to
-pub row_here : (s : List ℕ) (g : Target) (row : ℕ) → row_within s g ≡ true → g ≡ Target.Row row → row < length s
+pub row_here : (s : List ℕ) (g : Option Target) (row : ℕ) → row_within s g ≡ true → g ≡ Some (Target.Row row) → row < length s
 row_here s g row e h = ltb-true row (length s) (sym (ap (row_within s) h) ∙ e)
 
 -- ---- capped positions

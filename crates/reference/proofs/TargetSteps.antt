@@ -37,5 +37,8 @@ module _ (t s : List ℕ) (row : ℕ) (r : List ℕ) (a b n : ℕ) where
       pub find_again : u ≡ false → first (named_of t s row (part r a (b - a))) n 0 ≡ first (named_of t s row (part r a (b - a))) (n - (j + 1)) (j + 1)
       find_again h = inv ∙ opens l ∙ ap (λ (y : Bool). pick y j (first f (n - (j + 1)) (j + 1))) (sym here ∙ h)
 
-    pub find_done : n ≤ j → n ≡ members_at t (row_at s row) → j ≡ first (named_of t s row (part r a (b - a))) (members_at t (row_at s row)) 0
-    find_done h c = let q : n - j ≡ 0 = omega arith in first-none f j ∙ ap (λ (y : ℕ). first f y j) (sym q) ∙ sym inv ∙ ap (λ (y : ℕ). first f y 0) c
+    pub find_done : j ≤ n → n ≤ j → n ≡ members_at t (row_at s row) → n ≡ first (named_of t s row (part r a (b - a))) (members_at t (row_at s row)) 0
+    find_done g h c =
+        let e : n ≡ j = omega arith in
+        let q : n - j ≡ 0 = omega arith in
+        e ∙ first-none f j ∙ ap (λ (y : ℕ). first f y j) (sym q) ∙ sym inv ∙ ap (λ (y : ℕ). first f y 0) c

@@ -69,11 +69,11 @@ module _ (chain : ℕ) (t s : List ℕ) (row : ℕ) where
           ∙ by_first (members_at t (row_at s row)) 0
           ∙ ap₂ (λ (y z : ℕ). pick (ltb y z) (taken y) None) (sym search) (d ∙ counting)
 
-      pub name-none : n ≤ j → report_target chain t s Target.No ≡ under_members (name (part r a (b - a))) parts
+      pub name-none : n ≤ j → report_target chain t s None ≡ under_members (name (part r a (b - a))) parts
       name-none h = sym (ap (λ (o : Option Ty). bind o (λ ty. Some (of_type ty))) (whole ∙ ap (λ (y : Bool). pick y (taken j) None) (le-ltb j n h)))
 
       module _ (l : j < n) (i : ℕ) (typed-by : i ≡ named_at t (row_at s (row + 1 + j))) where
-        pub name-found : report_target chain t s (Target.Row i) ≡ under_members (name (part r a (b - a))) parts
+        pub name-found : report_target chain t s (Some (Target.Row i)) ≡ under_members (name (part r a (b - a))) parts
         name-found =
             ap (λ (y : ℕ). Some (of_type (type_from chain t s y))) typed-by
             ∙ sym (ap (λ (o : Option Ty). bind o (λ ty. Some (of_type ty))) (whole ∙ ap (λ (y : Bool). pick y (taken j) None) (lt-ltb j n l)))

@@ -10,8 +10,6 @@ ghost use Rattle.reference.specs.Reference as reference;
 ghost use Rattle.reference.specs.Reference.{name};
 ghost use Rattle.reference.specs.Inner.Work as work;
 
-use octets::Size;
-
 // One component identifier: a name or an index, or none. A number beyond the largest is held as the largest.
 #[derive(Clone, Copy)]
 enum Piece {
@@ -35,12 +33,11 @@ pub enum Step {
     Bad,
 }
 
-// What a reference leads to: the type of a row, the count of a list, or nothing, where it is malformed or not allowed.
+// What a reference leads to, where it is well formed and allowed: the type of a row, or the count of a list.
 #[derive(Clone, Copy)]
 pub enum Target {
     Row(usize),
     Count,
-    No,
 }
 
 // ---- one identifier
@@ -51,28 +48,22 @@ fn is_name(p: &[u8]) -> bool
     if !octets::is_lower(a) {
         return false;
     }
-    let mut i = 1;
-    while i < p.len() {
-        let b = p[i];
-        if !octets::may_follow(a, b) {
+    for i in 1..p.len() {
+        if !octets::may_follow(a, p[i]) {
             return false;
         }
-        a = b;
-        i += 1;
+        a = p[i];
     }
-    if a == 45 {
-        return false;
-    }
-    true
+    a != b'-'
 }
 
 fn is_position(p: &[u8]) -> bool
     ensures { result ≡ reference.is_position p.now }
 {
-    if p.len() < 1 {
+    if p.is_empty() {
         return false;
     }
-    if p[0] == 48 {
+    if p[0] == b'0' {
         return false;
     }
     octets::all_digits(p)
@@ -82,9 +73,8 @@ fn is_position(p: &[u8]) -> bool
 fn number_of(p: &[u8]) -> usize
     ensures { result ≡ work.cap (decimal p.now) }
 {
-    let size = octets::decimal(p);
-    let Size::Of(n) = size else {
-        return 18446744073709551615;
+    let Some(n) = octets::decimal(p) else {
+        return usize::MAX;
     };
     n as usize
 }
@@ -103,7 +93,7 @@ fn read_word(p: &[u8]) -> Piece
 fn read_other(p: &[u8]) -> Piece
     ensures { work.report_piece p.now result ≡ work.capped_id (work.other_id p.now) }
 {
-    if octets::octet(p, 0) != 45 {
+    if octets::octet(p, 0) != b'-' {
         return read_word(p);
     }
     let q = octets::part(p, 1, p.len());
@@ -142,14 +132,12 @@ fn end_at(r: &[u8], k: usize) -> usize
     ensures after { k ≤ result }
     ensures within { result ≤ length r.now }
 {
-    let mut i = k;
-    while i < r.len() {
-        if r[i] == 46 {
+    for i in k..r.len() {
+        if r[i] == b'.' {
             return i;
         }
-        i += 1;
     }
-    i
+    r.len()
 }
 
 fn step_of(piece: Piece, a: usize, b: usize, next: usize) -> Step
@@ -189,15 +177,10 @@ fn has_name(field: &[u8], x: &[u8]) -> bool
     if octets::octet(field, x.len()) != 0 {
         return false;
     }
-    let mut i = 0;
-    while i < x.len() {
-        if field[i] != x[i] {
+    for (i, b) in x.iter().enumerate() {
+        if field[i] != *b || *b == 0 {
             return false;
         }
-        if x[i] == 0 {
-            return false;
-        }
-        i += 1;
     }
     true
 }

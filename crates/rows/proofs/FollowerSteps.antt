@@ -8,6 +8,7 @@ use native.Mathlib.Omega.{arith}
 use borrow.Author.Tests.{not-true, not-false, eq-eqb, ne_eqb, lt-ltb, le-ltb, ltb-true, ltb-false, lt-leb, le-leb}
 use lib.Dec.{ltb, leb}
 use lib.ListN.{length}
+use Rattle.std.specs.Prelude.{None, Some}
 use Rattle.octets.specs.Pick.{pick, both, no, all}
 use Rattle.octets.specs.Octets.{octet}
 use Rattle.octets.specs.Text.{is_lower, may_be_last}
@@ -15,7 +16,7 @@ use Rattle.octets.proofs.Laws.{both_true, all-at, all-is, all-bad}
 use Rattle.rows.specs.Row.{kind_at, name_width, name_octet_at, behind_name, is_member, is_group, is_list, row_size, is_follower}
 use Rattle.rows.specs.Body.{follows, followed, name_formed, length_formed, member_formed, bit_formed, row_formed}
 use Rattle.rows.specs.Paper.{table_limits}
-use Rattle.rows.specs.Inner.Sizes.{name_begun, fields_formed, formed_size}
+use Rattle.rows.specs.Inner.Sizes.{name_begun, fields_formed, formed_size, some_size}
 use Rattle.rows.proofs.KindLaws.{member-kind, member_or_bit, wide_name}
 use Rattle.rows.proofs.Steps.{same_truth, width-long, width-short, behind-is, size-member, size-long}
 use Rattle.rows.proofs.NameSteps.{name-chain, length-short, length-long}
@@ -33,11 +34,11 @@ module _ (t : List ℕ) (p s : ℕ) (sized : s ≡ row_size (kind_at t p)) where
 
   -- r is whether its body is formed
   module _ (h : s ≤ length t - p) (r : Bool) (formed : row_formed table_limits.members t p ≡ r) where
-    misfit : r ≡ false → 0 ≡ formed_size table_limits.members t p
+    misfit : r ≡ false → None ≡ some_size (formed_size table_limits.members t p)
     unfolding formed_size
     misfit e = rw (← sized, le-ltb (length t - p) s h, formed ∙ e)
 
-    fit : r ≡ true → s ≡ formed_size table_limits.members t p
+    fit : r ≡ true → some_size s ≡ some_size (formed_size table_limits.members t p)
     unfolding formed_size
     fit e = rw (← sized, le-ltb (length t - p) s h, formed ∙ e)
 
@@ -124,15 +125,15 @@ module _ (t : List ℕ) (p : ℕ) (k : octet t p ≡ 16) where
   pub member-whole : p + 26 ≤ length t → 39 ≤ length t - p → behind_name t p + 14 ≤ length t
   member-whole l h = let b = member-behind in omega arith
 
-  pub member_cut : length t - p < 39 → 0 ≡ formed_size table_limits.members t p
-  member_cut h = cut t p 39 (size-member (octet t p) k) h
+  pub member_cut : length t - p < 39 → None ≡ some_size (formed_size table_limits.members t p)
+  member_cut h = ap some_size (cut t p 39 (size-member (octet t p) k) h)
 
   module _ (begun : name_begun t p ≡ true) (h : 39 ≤ length t - p) where
     member-formed : row_formed table_limits.members t p ≡ both (may_be_last (octet t (p + 24))) (fields_formed t p)
     unfolding row_formed member_formed fields_formed is_member
     member-formed = rw (eq-eqb (octet t p) 16 k, short-name t p begun (width-short (octet t p) not_long), sym (length-short t p not_long))
 
-    pub member_hyphen : octet t (p + 24) ≡ 45 → 0 ≡ formed_size table_limits.members t p
+    pub member_hyphen : octet t (p + 24) ≡ 45 → None ≡ some_size (formed_size table_limits.members t p)
     member_hyphen e =
         misfit t p 39 (size-member (octet t p) k) h _ member-formed (ap (λ (x : Bool). both (no x) (fields_formed t p)) (eq-eqb (octet t (p + 24)) 45 e))
 
@@ -140,10 +141,10 @@ module _ (t : List ℕ) (p : ℕ) (k : octet t p ≡ 16) where
       by-fields : row_formed table_limits.members t p ≡ u
       by-fields = member-formed ∙ ap (λ (x : Bool). both (no x) (fields_formed t p)) (ne_eqb (octet t (p + 24)) 45 n) ∙ sym told
 
-      pub member_unformed : not u ≡ true → 0 ≡ formed_size table_limits.members t p
+      pub member_unformed : not u ≡ true → None ≡ some_size (formed_size table_limits.members t p)
       member_unformed e = misfit t p 39 (size-member (octet t p) k) h u by-fields (not-true u e)
 
-      pub member-sized : not u ≡ false → 39 ≡ formed_size table_limits.members t p
+      pub member-sized : not u ≡ false → Some 39 ≡ some_size (formed_size table_limits.members t p)
       member-sized e = fit t p 39 (size-member (octet t p) k) h u by-fields (not-false u e)
 
 -- ---- a named bit
@@ -158,17 +159,17 @@ module _ (t : List ℕ) (p : ℕ) (k : octet t p ≡ 18) (l : p + 26 ≤ length 
   unfolding row_formed bit_formed is_member
   bit_formed_lem = let n : octet t p ≡ 21 → ⊥ = λ e. omega arith in let w = width-short (octet t p) n in let f = short-name t p begun w in rw (k, f)
 
-  pub bit_hyphen : octet t (p + 24) ≡ 45 → 0 ≡ formed_size table_limits.members t p
+  pub bit_hyphen : octet t (p + 24) ≡ 45 → None ≡ some_size (formed_size table_limits.members t p)
   bit_hyphen e = misfit t p 26 bit_is enough _ bit_formed_lem (ap (λ (x : Bool). both (no x) (leb (octet t (p + 25)) 63)) (eq-eqb (octet t (p + 24)) 45 e))
 
   module _ (n : octet t (p + 24) ≡ 45 → ⊥) where
     by_number : row_formed table_limits.members t p ≡ leb (octet t (p + 25)) 63
     by_number = bit_formed_lem ∙ ap (λ (x : Bool). both (no x) (leb (octet t (p + 25)) 63)) (ne_eqb (octet t (p + 24)) 45 n)
 
-    pub bit_high : 63 < octet t (p + 25) → 0 ≡ formed_size table_limits.members t p
+    pub bit_high : 63 < octet t (p + 25) → None ≡ some_size (formed_size table_limits.members t p)
     bit_high h = misfit t p 26 bit_is enough _ by_number (lt-leb (octet t (p + 25)) 63 h)
 
-    pub bit_sized : octet t (p + 25) ≤ 63 → 26 ≡ formed_size table_limits.members t p
+    pub bit_sized : octet t (p + 25) ≤ 63 → Some 26 ≡ some_size (formed_size table_limits.members t p)
     bit_sized h = fit t p 26 bit_is enough _ by_number (le-leb (octet t (p + 25)) 63 h)
 
 -- ---- a member with a long name
@@ -179,8 +180,8 @@ module _ (t : List ℕ) (p : ℕ) (k : octet t p ≡ 21) where
   pub long-whole : p + 26 ≤ length t → 63 ≤ length t - p → behind_name t p + 14 ≤ length t
   long-whole l h = let b = long-behind in omega arith
 
-  pub long_cut : length t - p < 63 → 0 ≡ formed_size table_limits.members t p
-  long_cut h = cut t p 63 (size-long (octet t p) k) h
+  pub long_cut : length t - p < 63 → None ≡ some_size (formed_size table_limits.members t p)
+  long_cut h = ap some_size (cut t p 63 (size-long (octet t p) k) h)
 
   module _ (begun : name_begun t p ≡ true) where
     long-formed : name_formed t p ≡ both (may_be_last (octet t (p + 48))) (all (followed t p) 47)
@@ -221,17 +222,17 @@ module _ (t : List ℕ) (p : ℕ) (k : octet t p ≡ 21) where
     unfolding row_formed member_formed fields_formed is_member
     in_parts = rw (k, named) (both_join (name_formed t p) (length_formed t p) (fields_formed t p))
 
-    pub long_unnamed : not r ≡ true → 0 ≡ formed_size table_limits.members t p
+    pub long_unnamed : not r ≡ true → None ≡ some_size (formed_size table_limits.members t p)
     long_unnamed e = misfit t p 63 (size-long (octet t p) k) h _ in_parts (ap (λ (x : Bool). both x (fields_formed t p)) (not-true r e))
 
     module _ (f : not r ≡ false) (u : Bool) (told : u ≡ fields_formed t p) where
       by-rest : row_formed table_limits.members t p ≡ u
       by-rest = in_parts ∙ ap (λ (x : Bool). both x (fields_formed t p)) (not-false r f) ∙ sym told
 
-      pub long_unformed : not u ≡ true → 0 ≡ formed_size table_limits.members t p
+      pub long_unformed : not u ≡ true → None ≡ some_size (formed_size table_limits.members t p)
       long_unformed e = misfit t p 63 (size-long (octet t p) k) h u by-rest (not-true u e)
 
-      pub long-sized : not u ≡ false → 63 ≡ formed_size table_limits.members t p
+      pub long-sized : not u ≡ false → Some 63 ≡ some_size (formed_size table_limits.members t p)
       long-sized e = fit t p 63 (size-long (octet t p) k) h u by-rest (not-false u e)
 
 -- ---- a row that follows another

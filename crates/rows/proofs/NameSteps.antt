@@ -2,7 +2,7 @@
 use mathlib.Core.Path.{◌≡◌, refl, sym, ap, ap₂, ◌∙◌}
 use mathlib.Core.Bool.{Bool, true, false, not}
 use mathlib.Core.List.{List, [], ◌∷◌, ◌++◌}
-use Prim.Native.Nat.{ℕ, zero, suc, ◌≤◌, ◌<◌, ◌+◌, ◌-◌}
+use Prim.Native.Nat.{ℕ, zero, suc, ◌≤◌, ◌<◌, ◌+◌, ◌-◌, ◌*◌}
 use native.Mathlib.Omega.{arith}
 use borrow.Author.Tests.{not-true, not-false, eq-eqb, ne_eqb, eqb-true, eqb-false, le-leb, lt-leb}
 use lib.Dec.{eqb}
@@ -11,7 +11,7 @@ use lib.Seq.{take-add, drop-drop}
 use Rattle.octets.specs.Pick.{both, all}
 use Rattle.octets.specs.Octets.{octet, part, same}
 use Rattle.octets.specs.Text.{within, is_lower, may_be_last}
-use Rattle.octets.proofs.Laws.{both_true}
+use Rattle.octets.proofs.Laws.{both_true, never}
 use Rattle.octets.proofs.TextLaws.{same-nil, same_shorter, same_longer}
 use Rattle.rows.specs.Row.{kind_at, name_width, name_at, name_octet_at, unfilled}
 use Rattle.rows.specs.Body.{followed, name_formed, length_formed}
@@ -133,27 +133,32 @@ same-split t m p q k l n o a b e f =
     ap₂ same (part-split t m p k n e) (part-split t m q l o f)
     ∙ same-append (part t p m) (part t k n) (part t q m) (part t l o) (part_length t p m a ∙ sym (part_length t q m b))
 
-module _ (t : List ℕ) (p q : ℕ) (one : p + 24 ≤ length t) (other : q + 24 ≤ length t) (a : Bool) (first : a ≡ same (part t p 8) (part t q 8)) where
-  abbrev third : Bool
-  third = same (part t (p + 16) 8) (part t (q + 16) 8)
+-- two fields of 24 octets, eight at a time: k times eight octets have been met
+pub eights_start : (t : List ℕ) (p q : ℕ) → same (part t p (8 * 0)) (part t q (8 * 0)) ≡ true
+eights_start t p q = same-nil
 
-  by_eights : same (part t p 24) (part t q 24) ≡ both a (both (same (part t (p + 8) 8) (part t (q + 8) 8)) third)
-  by_eights =
-      same-split t 8 p q (p + 8) (q + 8) 16 16 (omega arith) (omega arith) refl refl
-      ∙ ap₂ both (sym first) (same-split t 8 (p + 8) (q + 8) (p + 16) (q + 16) 8 8 (omega arith) (omega arith) (omega arith) (omega arith))
+module _ (t : List ℕ) (p q k : ℕ) (one : p + 24 ≤ length t) (other : q + 24 ≤ length t) (more : k < 3)
+    (u : Bool) (told : u ≡ same (part t (p + 8 * k) 8) (part t (q + 8 * k) 8)) where
+  eights_next : same (part t p (8 * (k + 1))) (part t q (8 * (k + 1))) ≡ both (same (part t p (8 * k)) (part t q (8 * k))) u
+  eights_next =
+      let size : 8 * (k + 1) ≡ 8 * k + 8 = omega arith in
+      ap (λ (x : ℕ). same (part t p x) (part t q x)) size
+      ∙ same-split t (8 * k) p q (p + 8 * k) (q + 8 * k) 8 8 (omega arith) (omega arith) refl refl
+      ∙ ap (both (same (part t p (8 * k)) (part t q (8 * k)))) (sym told)
 
-  pub eights_first : not a ≡ true → false ≡ same (part t p 24) (part t q 24)
-  eights_first e = sym (by_eights ∙ ap (λ (x : Bool). both x (both (same (part t (p + 8) 8) (part t (q + 8) 8)) third)) (not-true a e))
+  pub eights_more : same (part t p (8 * k)) (part t q (8 * k)) ≡ true → not u ≡ false → same (part t p (8 * (k + 1))) (part t q (8 * (k + 1))) ≡ true
+  eights_more a e = eights_next ∙ ap₂ both a (not-false u e)
 
-  module _ (e : not a ≡ false) (b : Bool) (second : b ≡ same (part t (p + 8) 8) (part t (q + 8) 8)) where
-    by_two : same (part t p 24) (part t q 24) ≡ both b third
-    by_two = by_eights ∙ ap₂ (λ (x y : Bool). both x (both y third)) (not-false a e) (sym second)
+  pub eights-bad : not u ≡ true → false ≡ same (part t p 24) (part t q 24)
+  eights-bad e =
+      let size : 24 ≡ 8 * (k + 1) + (16 - 8 * k) = omega arith in
+      sym (ap (λ (x : ℕ). same (part t p x) (part t q x)) size
+      ∙ same-split t (8 * (k + 1)) p q (p + 8 * (k + 1)) (q + 8 * (k + 1)) (16 - 8 * k) (16 - 8 * k) (omega arith) (omega arith) refl refl
+      ∙ ap (λ (x : Bool). both x (same (part t (p + 8 * (k + 1)) (16 - 8 * k)) (part t (q + 8 * (k + 1)) (16 - 8 * k))))
+      (eights_next ∙ ap (both (same (part t p (8 * k)) (part t q (8 * k)))) (not-true u e) ∙ never (same (part t p (8 * k)) (part t q (8 * k)))))
 
-    pub eights_second : not b ≡ true → false ≡ same (part t p 24) (part t q 24)
-    eights_second f = sym (by_two ∙ ap (λ (x : Bool). both x third) (not-true b f))
-
-    pub eights_third : (r : Bool) → not b ≡ false → r ≡ same (part t (p + 16) 8) (part t (q + 16) 8) → r ≡ same (part t p 24) (part t q 24)
-    eights_third r f g = g ∙ sym (by_two ∙ ap (λ (x : Bool). both x third) (not-false b f))
+pub eights_done : (t : List ℕ) (p q k : ℕ) → same (part t p (8 * k)) (part t q (8 * k)) ≡ true → k ≤ 3 → 3 ≤ k → true ≡ same (part t p 24) (part t q 24)
+eights_done t p q k a l h = let e : 8 * k ≡ 24 = omega arith in sym a ∙ ap (λ (x : ℕ). same (part t p x) (part t q x)) e
 
 -- a field that goes on is not the same as one that has ended
 same_none : (x : List ℕ) → 0 < length x → same [] x ≡ false

@@ -6,7 +6,8 @@ use Prim.Native.Nat.{ℕ, zero, suc, ◌≤◌, ◌<◌, ◌+◌, ◌-◌, ◌*�
 use native.Mathlib.Omega.{arith}
 use native.Mathlib.Nat.{zero-sub, suc-sub-suc, sub-zero, div-one, zero-div, div-div-eq-div-mul}
 use mir.Val.{Fits}
-use mir.Syntax.{w8}
+use mir.Syntax.{w8, w64}
+use Rattle.std.specs.Int.{from_le_bytes}
 use borrow.Author.Tests.{not-true, not-false, eq-eqb, ne_eqb, eqb-true, eqb-false}
 use lib.Dec.{eqb}
 use lib.ListN.{length, take, drop, length-drop}
@@ -23,12 +24,12 @@ least_step : (t : List ℕ) (p q n : ℕ) → p < length t → p + 1 ≡ q → l
 unfolding least_first
 least_step t p q n h e = ap (λ (l : List ℕ). least_first (take (suc n) l)) (rest-cons t p h) ∙ ap (λ (k : ℕ). octet t p + least_first (part t k n) * 256) e
 
-pub eight_is : (t : List ℕ) (p low high : ℕ) → p + 8 ≤ length t
-    → low ≡ octet t p + (octet t (p + 1) + (octet t (p + 2) + octet t (p + 3) * 256) * 256) * 256
-    → high ≡ octet t (p + 4) + (octet t (p + 5) + (octet t (p + 6) + octet t (p + 7) * 256) * 256) * 256
-    → low + high * 4294967296 ≡ least_first (part t p 8)
+pub eight_is : (t : List ℕ) (p r : ℕ) → p + 8 ≤ length t
+    → r ≡ from_le_bytes w64 (octet t p ∷ octet t (p + 1) ∷ octet t (p + 2) ∷ octet t (p + 3)
+    ∷ octet t (p + 4) ∷ octet t (p + 5) ∷ octet t (p + 6) ∷ octet t (p + 7) ∷ [])
+    → r ≡ least_first (part t p 8)
 unfolding least_first
-eight_is t p low high h a b =
+eight_is t p r h e =
     let e0 = least_step t p (p + 1) 7 (omega arith) (omega arith) in
     let e1 = least_step t (p + 1) (p + 2) 6 (omega arith) (omega arith) in
     let e2 = least_step t (p + 2) (p + 3) 5 (omega arith) (omega arith) in
@@ -106,7 +107,7 @@ drop-take (suc n) zero l = sym (ap (λ (k : ℕ). take k (drop (suc n) l)) (zero
 drop-take (suc n) (suc m) [] = sym (take-nil (suc m - suc n))
 drop-take (suc n) (suc m) (x ∷ l) = drop-take n m l ∙ sym (ap (λ (k : ℕ). take k (drop n l)) (suc-sub-suc m n))
 
-pub filled_none : (t : List ℕ) (p n : ℕ) → n ≡ 8 → true ≡ every is_zero (part t (p + n) (8 - n))
+pub filled_none : (t : List ℕ) (p n : ℕ) → n ≡ 8 → eqb n 8 ≡ every is_zero (part t (p + n) (8 - n))
 unfolding every
 filled_none t p n e = rw e
 

@@ -9,6 +9,8 @@ use borrow.Author.Tests.{not-true, not-false, eq-eqb, ne_eqb, eqb-true, eqb-fals
 use lib.Dec.{ltb, leb, eqb}
 use lib.ListN.{length, take, drop, length-take}
 use lib.Seq.{take-nil, get_or-take, get_or-drop, drop-drop}
+use Rattle.std.specs.Prelude.{Option, None, Some}
+use Rattle.std.specs.Option.{unwrap_or}
 use Rattle.octets.specs.Pick.{pick, no, all}
 use Rattle.octets.specs.Octets.{octet, two, part, every}
 use Rattle.octets.specs.Text.{within, is_lower, is_letter, is_alnum, may_follow}
@@ -17,7 +19,7 @@ use Rattle.octets.proofs.TextLaws.{every-is, every-at}
 use Rattle.rows.specs.Row.{kind_at, name_width, name_at, name_octet_at, behind_name, presence_at, default_length_at, default_at, is_type_kind, is_group}
 use Rattle.rows.specs.Row.{is_member, is_list, named_at, row_size, members_at, bit_names_at, follower_kind, followers_at, stands_as}
 use Rattle.rows.specs.Body.{count_formed, follows, followed, tagging_formed, tag_formed, presence_formed, is_zero, default_filled}
-use Rattle.rows.specs.Inner.Sizes.{type_row_size, type_size, name_begun, fields_formed, WholeMember}
+use Rattle.rows.specs.Inner.Sizes.{type_row_size, type_size, some_size, name_begun, fields_formed, WholeMember}
 use Rattle.rows.proofs.KindLaws.{list-named, member-named}
 
 -- ---- reading
@@ -84,31 +86,31 @@ type_row_whole t p q r at w e = e ∙ ap (two t) at ∙ sym (member-named t p w.
 
 -- ---- the rows
 module _ (k : ℕ) (a : Bool) (basic : a ≡ within 1 11 k) where
-  pub size_basic : a ≡ true → 1 ≡ type_row_size k
+  pub size_basic : a ≡ true → Some 1 ≡ some_size (type_row_size k)
   unfolding type_row_size
   size_basic h = rw (sym basic ∙ h)
 
   module _ (h : a ≡ false) (b : Bool) (group : b ≡ is_group k) where
-    pub size_group : b ≡ true → 2 ≡ type_row_size k
+    pub size_group : b ≡ true → Some 2 ≡ some_size (type_row_size k)
     unfolding type_row_size
     size_group g = rw (sym basic ∙ h, sym group ∙ g)
 
     module _ (g : b ≡ false) (c : Bool) (list : c ≡ is_list k) where
-      pub size-list : c ≡ true → 3 ≡ type_row_size k
+      pub size-list : c ≡ true → Some 3 ≡ some_size (type_row_size k)
       unfolding type_row_size
       size-list l = rw (sym basic ∙ h, sym group ∙ g, sym list ∙ l)
 
       module _ (l : c ≡ false) where
-        pub size-named : k ≡ 17 → 2 ≡ type_row_size k
+        pub size-named : k ≡ 17 → Some 2 ≡ some_size (type_row_size k)
         unfolding type_row_size
         size-named e = rw (sym basic ∙ h, sym group ∙ g, sym list ∙ l, eq-eqb k 17 e)
 
         module _ (n : k ≡ 17 → ⊥) (d : Bool) (name : d ≡ within 19 20 k) where
-          pub size-name : d ≡ true → 1 ≡ type_row_size k
+          pub size-name : d ≡ true → Some 1 ≡ some_size (type_row_size k)
           unfolding type_row_size
           size-name m = rw (sym basic ∙ h, sym group ∙ g, sym list ∙ l, ne_eqb k 17 n, sym name ∙ m)
 
-          pub size_none : d ≡ false → 0 ≡ type_row_size k
+          pub size_none : d ≡ false → None ≡ some_size (type_row_size k)
           unfolding type_row_size
           size_none m = rw (sym basic ∙ h, sym group ∙ g, sym list ∙ l, ne_eqb k 17 n, sym name ∙ m)
 
@@ -171,19 +173,40 @@ module _ (t : List ℕ) (p o : ℕ) (read : o ≡ octet t p) where
   unfolding bit_names_at
   names-none n = rw (← read, ne_eqb o 17 n)
 
-module _ (most : ℕ) (t : List ℕ) (p size : ℕ) (sized : size ≡ type_row_size (octet t p)) where
+size_of : (n : ℕ) → unwrap_or (some_size n) 0 ≡ n
+size_of zero = refl
+size_of (suc n) = refl
+
+-- a size that one function found by another
+pub size_found : (n r : ℕ) (o q : Option ℕ) → q ≡ some_size n → o ≡ q → r ≡ unwrap_or o 0 → r ≡ n
+size_found n r o q e f g = rw (f, e) at g ∙ size_of n
+
+module _ (most : ℕ) (t : List ℕ) (p : ℕ) (o : Option ℕ) (told : o ≡ some_size (type_row_size (octet t p))) where
+  pub type-unsized : o ≡ None → 0 ≡ type_size most t p
+  unfolding type_size
+  type-unsized e = rw (sym (size_found (type_row_size (octet t p)) 0 None o told (sym e) refl)) (go (ltb (length t - p) 0) (count_formed most t p))
+    where
+      go : (x y : Bool) → ◌≡◌ {A = ℕ} 0 (pick x 0 (pick y 0 0))
+      go true y = refl
+      go false true = refl
+      go false false = refl
+
+module _ (most : ℕ) (t : List ℕ) (p size : ℕ) (o : Option ℕ) (told : o ≡ some_size (type_row_size (octet t p))) (found : o ≡ Some size) where
+  sized : size ≡ type_row_size (octet t p)
+  sized = size_found (type_row_size (octet t p)) size (Some size) o told (sym found) refl
+
   pub type-short : length t - p < size → 0 ≡ type_size most t p
   unfolding type_size
   type-short h = rw (← sized, lt-ltb (length t - p) size h)
 
-  module _ (u : Bool) (h : size ≤ length t - p) (told : u ≡ count_formed most t p) where
+  module _ (u : Bool) (h : size ≤ length t - p) (formed : u ≡ count_formed most t p) where
     pub type_unformed : not u ≡ true → 0 ≡ type_size most t p
     unfolding type_size
-    type_unformed e = rw (← sized, le-ltb (length t - p) size h, sym told ∙ not-true u e)
+    type_unformed e = rw (← sized, le-ltb (length t - p) size h, sym formed ∙ not-true u e)
 
     pub type-sized : not u ≡ false → size ≡ type_size most t p
     unfolding type_size
-    type-sized e = rw (← sized, le-ltb (length t - p) size h, sym told ∙ not-false u e)
+    type-sized e = rw (← sized, le-ltb (length t - p) size h, sym formed ∙ not-false u e)
 
 -- ---- bodies
 module _ (most : ℕ) (t : List ℕ) (p k : ℕ) (read : k ≡ octet t p) where
@@ -333,23 +356,23 @@ named-done t p j n a l h = all_done (followed t p) j n a l h
 
 -- the first 24 octets of a name
 module _ (t : List ℕ) (p o : ℕ) (low : Bool) (read : o ≡ octet t (p + 1)) (told : low ≡ is_lower o) where
-  pub begun-high : not low ≡ true → false ≡ name_begun t p
+  pub begun-high : low ≡ false → low ≡ name_begun t p
   unfolding name_begun
-  begun-high h = rw (← read, sym told ∙ not-true low h)
+  begun-high h = h ∙ rw (← read, sym told ∙ h)
 
-  pub begun_spelt : (r : Bool) → not low ≡ false → r ≡ all (followed t p) 23 → r ≡ name_begun t p
+  pub begun_spelt : (r : Bool) → low ≡ true → r ≡ all (followed t p) 23 → r ≡ name_begun t p
   unfolding name_begun
-  begun_spelt r h e = rw (← read, sym told ∙ not-false low h) e
+  begun_spelt r h e = rw (← read, sym told ∙ h) e
 
-  pub lower-begins : not low ≡ false → 0 < octet t (p + 1)
-  lower-begins h = let l = lower_some o low told (not-false low h) in omega arith
+  pub lower-begins : low ≡ true → 0 < octet t (p + 1)
+  lower-begins h = let l = lower_some o low told h in omega arith
 
 -- ---- behind the name
 module _ (t : List ℕ) (p q o n : ℕ) (at : q ≡ behind_name t p) (read : o ≡ octet t (q + 5)) (wide : n ≡ o) where
   length-is : default_length_at t p ≡ n
   length-is = ap (λ (x : ℕ). octet t (x + 5)) (sym at) ∙ sym (wide ∙ read)
 
-  pub filled-long : 8 < n → false ≡ default_filled t p
+  pub filled-long : 8 < n → leb n 8 ≡ default_filled t p
   unfolding default_filled
   filled-long h = rw (length-is, lt-leb n 8 h)
 
@@ -400,7 +423,7 @@ module _ (k f : ℕ) where
       go true q = sym (ne_eqb 16 f (λ h. let z = eqb-true f 21 q in omega arith))
       go false q = sym (eq-eqb f f refl)
 
-  pub stands_not : (k ≡ f → ⊥) → (k ≡ 21 → ⊥) → false ≡ eqb (stands_as k) f
+  pub stands_not : (k ≡ f → ⊥) → (k ≡ 21 → ⊥) → eqb k 21 ≡ eqb (stands_as k) f
   unfolding stands_as
   stands_not n m = rw (ne_eqb k 21 m, ne_eqb k f n)
 

@@ -8,7 +8,7 @@ ghost use Rattle.der.specs.Kind as kinds;
 ghost use Rattle.rows.specs.Row as row;
 ghost use Rattle.rows.specs.Body as body;
 ghost use Rattle.rows.specs.Inner.Numbers.{least_first};
-ghost use Rattle.rows.specs.Inner.Sizes.{type_row_size, type_size, name_begun, fields_formed, formed_size, WholeName, WholeMember};
+ghost use Rattle.rows.specs.Inner.Sizes.{type_row_size, type_size, name_begun, fields_formed, formed_size, some_size, WholeName, WholeMember};
 ghost use Rattle.rows.specs.Limits.{table_fits};
 ghost use Rattle.rows.specs.Paper.{table_limits};
 
@@ -56,10 +56,7 @@ impl Table {
     pub fn fits(table: &[u8]) -> bool
         ensures { result ≡ table_fits table_limits table.now }
     {
-        if table.len() < Self::MIN_BYTES {
-            return false;
-        }
-        table.len() <= Self::MAX_BYTES
+        (Self::MIN_BYTES..=Self::MAX_BYTES).contains(&table.len())
     }
 }
 
@@ -162,7 +159,7 @@ pub fn mode_at(t: &[u8], p: usize) -> u8
 pub fn default_at(t: &[u8], p: usize) -> &[u8]
     ensures { result.now ≡ row.default_at t.now p }
 {
-    let size = octets::wide(field_behind(t, p, 5));
+    let size = usize::from(field_behind(t, p, 5));
     fields(t, p, name_width(kind_at(t, p)) + 7, size)
 }
 
@@ -216,7 +213,7 @@ pub fn member_default(t: &[u8], p: usize) -> &[u8]
     ensures { result.now ≡ row.default_at t.now p }
 {
     let start = behind_name(t, p) + 6;
-    let end = start + octets::wide(member_default_length(t, p));
+    let end = start + usize::from(member_default_length(t, p));
     &t[start..end]
 }
 
@@ -236,50 +233,41 @@ pub fn is_type_kind(kind: u8) -> bool
 pub fn is_member(kind: u8) -> bool
     ensures { result ≡ row.is_member kind }
 {
-    if kind == Kind::MEMBER {
-        return true;
-    }
-    kind == Kind::LONG_MEMBER
+    kind == Kind::MEMBER || kind == Kind::LONG_MEMBER
 }
 
 pub fn is_group(kind: u8) -> bool
     ensures { result ≡ row.is_group kind }
 {
-    if kind == Kind::SEQUENCE {
-        return true;
-    }
-    kind == Kind::CHOICE
+    kind == Kind::SEQUENCE || kind == Kind::CHOICE
 }
 
 pub fn is_list(kind: u8) -> bool
     ensures { result ≡ row.is_list kind }
 {
-    if kind == Kind::SEQUENCE_OF {
-        return true;
-    }
-    kind == Kind::SET_OF
+    kind == Kind::SEQUENCE_OF || kind == Kind::SET_OF
 }
 
-// The octets of a type row of a kind; 0 where no type has the kind.
-fn type_row_size(kind: u8) -> usize
-    ensures { result ≡ type_row_size kind }
+// The octets of a type row of a kind; none where no type has the kind.
+fn type_row_size(kind: u8) -> Option<usize>
+    ensures { result ≡ some_size (type_row_size kind) }
 {
     if octets::within(Kind::BOOLEAN, Kind::GENERALIZED_TIME, kind) {
-        return 1;
+        return Some(1);
     }
     if is_group(kind) {
-        return 2;
+        return Some(2);
     }
     if is_list(kind) {
-        return 3;
+        return Some(3);
     }
     if kind == Kind::NAMED_BIT_STRING {
-        return 2;
+        return Some(2);
     }
     if octets::within(Kind::RDN_SEQUENCE, Kind::RDN, kind) {
-        return 1;
+        return Some(1);
     }
-    0
+    None
 }
 
 // The kind of the rows that follow a row of a kind; 0 where none follow.
@@ -305,10 +293,7 @@ pub fn stands_as(kind: u8, follower: u8) -> bool
     if kind == follower {
         return follower != Kind::LONG_MEMBER;
     }
-    if kind != Kind::LONG_MEMBER {
-        return false;
-    }
-    follower == Kind::MEMBER
+    kind == Kind::LONG_MEMBER && follower == Kind::MEMBER
 }
 
 // How many rows follow a row, given their kind.
@@ -319,7 +304,7 @@ pub fn followers_at(t: &[u8], p: usize, follower: u8) -> usize
     if follower == 0 {
         return 0;
     }
-    octets::wide(field(t, p, 1))
+    usize::from(field(t, p, 1))
 }
 
 // How many names of bits stand after a row.
@@ -327,7 +312,7 @@ pub fn bit_names_at(t: &[u8], p: usize) -> usize
     ensures { result ≡ row.bit_names_at t.now p }
 {
     if kind_at(t, p) == Kind::NAMED_BIT_STRING {
-        return octets::wide(field(t, p, 1));
+        return usize::from(field(t, p, 1));
     }
     0
 }
@@ -337,7 +322,7 @@ pub fn members_at(t: &[u8], p: usize) -> usize
     ensures { result ≡ row.members_at t.now p }
 {
     if is_group(kind_at(t, p)) {
-        return octets::wide(field(t, p, 1));
+        return usize::from(field(t, p, 1));
     }
     0
 }
@@ -366,7 +351,7 @@ fn follows(a: u8, b: u8) -> bool
         return b == 0;
     }
     if b == 0 {
-        return a != 45;
+        return a != b'-';
     }
     octets::may_follow(a, b)
 }
@@ -387,23 +372,20 @@ fn tag_formed(mode: u8, number: u8) -> bool
 }
 
 // ---- eight octets as one number, the least first
-fn four(a: u8, b: u8, c: u8, d: u8) -> u64
-    ensures value { result ≡ a + (b + (c + d * 256) * 256) * 256 }
-    ensures small { result < 4294967296 }
-{
-    octets::wide64(a)
-        + octets::wide64(b) * 256
-        + octets::wide64(c) * 65536
-        + octets::wide64(d) * 16777216
-}
-
 fn eight(t: &[u8], p: usize) -> u64
     requires { p + 8 ≤ length t.now }
     ensures { result ≡ least_first (part t.now p 8) }
 {
-    let low = four(t[p], t[p + 1], t[p + 2], t[p + 3]);
-    let high = four(t[p + 4], t[p + 5], t[p + 6], t[p + 7]);
-    low + high * 4294967296
+    u64::from_le_bytes([
+        t[p],
+        t[p + 1],
+        t[p + 2],
+        t[p + 3],
+        t[p + 4],
+        t[p + 5],
+        t[p + 6],
+        t[p + 7],
+    ])
 }
 
 // Whether the eight octets from one place on are those from another on.
@@ -415,18 +397,16 @@ fn same_eight(t: &[u8], p: usize, q: usize) -> bool
     eight(t, p) == eight(t, q)
 }
 
-// Whether a field of 8, 16, 24 octets at p is filled with zeros from its octet n on.
+// Whether a field of eight octets at p is filled with zeros from its octet n on.
 fn filled_8(t: &[u8], p: usize, n: usize) -> bool
     requires whole { p + 8 ≤ length t.now }
     requires within { n ≤ 8 }
     ensures { result ≡ every body.is_zero (part t.now (p + n) (8 - n)) }
 {
-    if n == 8 {
-        return true;
-    }
-    eight(t, p) >> (n * 8) == 0
+    n == 8 || eight(t, p) >> (n * 8) == 0
 }
 
+// The same of a field of 16 octets, and of one of 24. Written out: with a loop over the eights, the check of a table takes more steps.
 fn filled_16(t: &[u8], p: usize, n: usize) -> bool
     requires whole { p + 16 ≤ length t.now }
     requires within { n ≤ 16 }
@@ -463,19 +443,16 @@ fn name_spelt(t: &[u8], p: usize) -> bool
     requires begins { 0 < octet t.now (p + 1) }
     ensures { result ≡ all (body.followed t.now p) (row.short_width - 1) }
 {
-    let mut j = 0;
-    while j < Table::MAX_NAME - 1 {
+    for j in 0..Table::MAX_NAME - 1 {
         let b = t[p + (j + 2)];
         if octets::is_lower(b) {
-            j += 1;
-        } else {
-            if !follows(t[p + (j + 1)], b) {
-                return false;
-            }
-            if b == 0 {
-                return filled_24(t, p + 1, j + 1);
-            }
-            j += 1;
+            continue;
+        }
+        if !follows(t[p + (j + 1)], b) {
+            return false;
+        }
+        if b == 0 {
+            return filled_24(t, p + 1, j + 1);
         }
     }
     true
@@ -486,10 +463,7 @@ fn name_begun(t: &[u8], p: usize) -> bool
     requires { p + row.bit_size ≤ length t.now }
     ensures { result ≡ name_begun t.now p }
 {
-    if !octets::is_lower(t[p + 1]) {
-        return false;
-    }
-    name_spelt(t, p)
+    octets::is_lower(t[p + 1]) && name_spelt(t, p)
 }
 
 // Whether the long name of the row at p is formed, and has more octets than a field of 24: what is left of its field is spelt as a field of 24.
@@ -502,7 +476,7 @@ fn long_name_formed(t: &[u8], p: usize) -> bool
     if t[p + 25] == 0 {
         return false;
     }
-    if t[p + 48] == 45 {
+    if t[p + 48] == b'-' {
         return false;
     }
     if !follows(t[p + 24], t[p + 25]) {
@@ -516,11 +490,8 @@ fn default_filled(t: &[u8], q: usize, p: usize) -> bool
     requires whole { row.behind_name t.now p + 14 ≤ length t.now }
     ensures { result ≡ body.default_filled t.now p }
 {
-    let n = octets::wide(t[q + 5]);
-    if 8 < n {
-        return false;
-    }
-    filled_8(t, q + 6, n)
+    let n = usize::from(t[q + 5]);
+    n <= 8 && filled_8(t, q + 6, n)
 }
 
 // The body of the member row at p from place q on, behind its name.
@@ -538,57 +509,57 @@ fn fields_formed(t: &[u8], q: usize, p: usize) -> bool
     default_filled(t, q, p)
 }
 
-// ---- the size of a row that follows another, is whole and whose body is as the type table has it; 0 where it isn't
+// ---- the size of a row that follows another, is whole and whose body is as the type table has it; none, or 0, where it isn't
 // By its kind, where the first 24 octets of its name are as they have to be.
-fn member_size(t: &[u8], p: usize) -> usize
+fn member_size(t: &[u8], p: usize) -> Option<usize>
     requires member { row.kind_at t.now p ≡ kinds.member }
     requires named { p + row.bit_size ≤ length t.now }
     requires begun { name_begun t.now p ≡ true }
-    ensures { result ≡ formed_size table_limits.members t.now p }
+    ensures { result ≡ some_size (formed_size table_limits.members t.now p) }
 {
     if t.len() - p < Table::MEMBER_BYTES {
-        return 0;
+        return None;
     }
-    if t[p + 24] == 45 {
-        return 0;
+    if t[p + 24] == b'-' {
+        return None;
     }
     if !fields_formed(t, p + 25, p) {
-        return 0;
+        return None;
     }
-    Table::MEMBER_BYTES
+    Some(Table::MEMBER_BYTES)
 }
 
-fn long_member_size(t: &[u8], p: usize) -> usize
+fn long_member_size(t: &[u8], p: usize) -> Option<usize>
     requires long { row.kind_at t.now p ≡ kinds.long_member }
     requires named { p + row.bit_size ≤ length t.now }
     requires begun { name_begun t.now p ≡ true }
-    ensures { result ≡ formed_size table_limits.members t.now p }
+    ensures { result ≡ some_size (formed_size table_limits.members t.now p) }
 {
     if t.len() - p < Table::LONG_MEMBER_BYTES {
-        return 0;
+        return None;
     }
     if !long_name_formed(t, p) {
-        return 0;
+        return None;
     }
     if !fields_formed(t, p + 49, p) {
-        return 0;
+        return None;
     }
-    Table::LONG_MEMBER_BYTES
+    Some(Table::LONG_MEMBER_BYTES)
 }
 
-fn bit_size(t: &[u8], p: usize) -> usize
+fn bit_size(t: &[u8], p: usize) -> Option<usize>
     requires bit { row.kind_at t.now p ≡ kinds.named_bit }
     requires named { p + row.bit_size ≤ length t.now }
     requires begun { name_begun t.now p ≡ true }
-    ensures { result ≡ formed_size table_limits.members t.now p }
+    ensures { result ≡ some_size (formed_size table_limits.members t.now p) }
 {
-    if t[p + 24] == 45 {
-        return 0;
+    if t[p + 24] == b'-' {
+        return None;
     }
     if Table::MAX_BIT < t[p + 25] {
-        return 0;
+        return None;
     }
-    Table::BIT_BYTES
+    Some(Table::BIT_BYTES)
 }
 
 // Of any row of a kind that follows another.
@@ -603,14 +574,12 @@ pub fn follower_size(t: &[u8], p: usize) -> usize
     if !name_begun(t, p) {
         return 0;
     }
-    let kind = t[p];
-    if kind == Kind::MEMBER {
-        return member_size(t, p);
-    }
-    if kind == Kind::NAMED_BIT {
-        return bit_size(t, p);
-    }
-    long_member_size(t, p)
+    let size = match t[p] {
+        Kind::MEMBER => member_size(t, p),
+        Kind::NAMED_BIT => bit_size(t, p),
+        _ => long_member_size(t, p),
+    };
+    size.unwrap_or(0)
 }
 
 // ---- names of two rows that follow another and are whole
@@ -620,13 +589,12 @@ fn same_24(t: &[u8], p: usize, q: usize) -> bool
     requires other { q + 24 ≤ length t.now }
     ensures { result ≡ same (part t.now p 24) (part t.now q 24) }
 {
-    if !same_eight(t, p, q) {
-        return false;
+    for k in 0..3 {
+        if !same_eight(t, p + 8 * k, q + 8 * k) {
+            return false;
+        }
     }
-    if !same_eight(t, p + 8, q + 8) {
-        return false;
-    }
-    same_eight(t, p + 16, q + 16)
+    true
 }
 
 // Whether the fields of two names are the same: of two widths they are not.
@@ -653,7 +621,9 @@ pub fn type_size(t: &[u8], p: usize) -> usize
     ensures size { result ≡ type_size table_limits.members t.now p }
     ensures inside { p + result ≤ length t.now }
 {
-    let size = type_row_size(t[p]);
+    let Some(size) = type_row_size(t[p]) else {
+        return 0;
+    };
     if t.len() - p < size {
         return 0;
     }

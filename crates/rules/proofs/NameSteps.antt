@@ -1,84 +1,78 @@
 -- Names without regard to case, and the table of rules row by row.
-use mathlib.Core.Path.{◌≡◌, refl, sym, ap, ap₂, ◌∙◌}
-use mathlib.Core.Bool.{Bool, true, false, not}
-use Rattle.std.specs.Prelude.{Option, None, Some}
+use mathlib.Core.Path.{◌≡◌, refl, sym, ap₂, ◌∙◌}
+use mathlib.Core.Bool.{Bool, true, false, cond, false≢true}
+use Rattle.std.specs.Prelude.{Option, None, Some, IsTrue, ◌↔◌}
+use Rattle.std.specs.Borrow.{Bor}
+use Rattle.std.specs.Char.{to_ascii_lowercase}
 use mathlib.Core.List.{List, [], ◌∷◌, map}
-use Prim.Native.Nat.{ℕ, suc, ◌≤◌, ◌<◌, ◌+◌}
+use Prim.Native.Nat.{ℕ, ◌+◌, ◌<◌, ◌≤◌}
 use native.Mathlib.Omega.{arith}
-use borrow.Author.Tests.{not-true, not-false, eq-eqb}
-use lib.Dec.{eqb}
-use lib.ListN.{length, drop}
-use Rattle.octets.specs.Pick.{both}
-use Rattle.octets.specs.Octets.{octet, same}
-use Rattle.octets.specs.Text.{lower}
-use Rattle.octets.proofs.Laws.{rest-cons, rest-none}
-use Rattle.octets.proofs.TextLaws.{same-nil, same_shorter, same_longer, same-cons}
+use borrow.Author.Tests.{eq-eqb, ltb-true, ltb-false, le-leb, lt-leb}
+use lib.Dec.{ltb, leb}
+use lib.ListN.{get_or, drop, length, drop_of_length-le}
+use Rattle.std.proofs.Common.{add-one}
+use Rattle.std.proofs.Math.Seq.{drop-cons}
+use Rattle.octets.specs.Pick.{pick, both}
+use Rattle.octets.specs.Octets.{same}
+use Rattle.octets.specs.Text.{is_upper, lower}
+use Rattle.octets.proofs.TextLaws.{same-nil, same-cons, same-is}
 use Rattle.rules.specs.Rule.{Rule, Known, same_name, rule_of}
-use Rattle.rules.specs.Inner.Answers.{called}
+use Rattle.rules.specs.Inner.Answers.{meant, called}
+use Rattle.rules.specs.declared.Rule as code
 
--- ---- names
-pub letter-same : (a b : ℕ) → a ≡ b → true ≡ eqb (lower a) (lower b)
-letter-same a b e = sym (eq-eqb _ _ (ap lower e))
-
-pub letter-is : (a b x y : ℕ) → x ≡ lower a → y ≡ lower b → eqb x y ≡ eqb (lower a) (lower b)
-letter-is a b x y e h = rw (e, h)
-
-lowered_length : (a b : List ℕ) → (length a ≡ length b → ⊥) → false ≡ same (map lower a) (map lower b)
-lowered_length [] [] n = absurd (n refl)
-lowered_length [] (y ∷ b) n = sym (same_shorter (lower y) (map lower b))
-lowered_length (x ∷ a) [] n = sym (same_longer (lower x) (map lower a))
-lowered_length (x ∷ a) (y ∷ b) n = go (eqb (lower x) (lower y)) (lowered_length a b (λ e. n (ap suc e))) ∙ sym (same-cons (lower x) (lower y) (map lower a) (map lower b))
+-- ---- names: the library's letters and comparison are those of the definition
+lower_is : (b : ℕ) → lower b ≡ to_ascii_lowercase b
+unfolding lower is_upper
+lower_is b = go (ltb b 65) (ltb b 91) refl refl
   where
-    go : (u : Bool) → false ≡ same (map lower a) (map lower b) → false ≡ both u (same (map lower a) (map lower b))
-    go true e = e
-    go false e = refl
+    go : (u v : Bool) → ltb b 65 ≡ u → ltb b 91 ≡ v → pick (both (leb 65 b) (leb b 90)) (b + 32) b ≡ cond (ltb b 65) b (cond (ltb b 91) (b + 32) b)
+    go true v e f = let h = ltb-true b 65 e in rw (e, lt-leb 65 b h)
+    go false true e f = let h = ltb-false b 65 e in let k = ltb-true b 91 f in rw (e, f, le-leb 65 b h, le-leb b 90 (omega arith))
+    go false false e f = let h = ltb-false b 65 e in let k = ltb-false b 91 f in rw (e, f, le-leb 65 b h, lt-leb b 90 (omega arith))
 
-pub name-length : (a b : List ℕ) → (length a ≡ length b → ⊥) → false ≡ same_name a b
+pub same_self : (a : List ℕ) → same a a ≡ true
+same_self [] = same-nil
+same_self (a ∷ l) = same-cons a a l l ∙ rw (eq-eqb a a refl) (same_self l)
+
+letters_are : (a : List ℕ) → map to_ascii_lowercase a ≡ map lower a
+letters_are [] = refl
+letters_are (b ∷ a) = ap₂ (λ (x : ℕ) (l : List ℕ). x ∷ l) (sym (lower_is b)) (letters_are a)
+
+pub name_folded : (a b : List ℕ) (r : Bool) → (IsTrue r ↔ (map to_ascii_lowercase a ≡ map to_ascii_lowercase b)) → r ≡ same_name a b
 unfolding same_name
-name-length a b n = lowered_length a b n
+name_folded a b r e = go r (same (map lower a) (map lower b)) refl e
+  where
+    go : (r v : Bool) → same (map lower a) (map lower b) ≡ v → (IsTrue r ↔ (map to_ascii_lowercase a ≡ map to_ascii_lowercase b)) → r ≡ v
+    go true true q e = refl
+    go false false q e = refl
+    go true false q e = absurd (false≢true (sym q ∙ rw (sym (letters_are a) ∙ e.0 refl ∙ letters_are b) (same_self (map lower b))))
+    go false true q e = absurd (false≢true (e.1 (letters_are a ∙ same-is _ _ q ∙ sym (letters_are b))))
 
-pub name-start : (a b : List ℕ) → same (map lower a) (map lower b) ≡ same_name a b
+pub name-same : (a b : List ℕ) (r : Bool) → r ≡ same a b → r ≡ true → r ≡ same_name a b
 unfolding same_name
-name-start a b = refl
-
-module _ (a b : List ℕ) (i : ℕ) (m : Bool) (l : length a ≡ length b) (inv : same (map lower (drop i a)) (map lower (drop i b)) ≡ m) where
-  pub name_done : length a ≤ i → true ≡ m
-  name_done h = let g : length b ≤ i = omega arith in sym same-nil ∙ ap₂ (λ (x : List ℕ) (y : List ℕ). same (map lower x) (map lower y)) (sym (rest-none a i h)) (sym (rest-none b i g)) ∙ inv
-
-  module _ (h : i < length a) (u : Bool) (told : u ≡ eqb (lower (octet a i)) (lower (octet b i))) where
-    letters : both u (same (map lower (drop (i + 1) a)) (map lower (drop (i + 1) b))) ≡ m
-    letters =
-        let g : i < length b = omega arith in
-        ap (λ (x : Bool). both x (same (map lower (drop (i + 1) a)) (map lower (drop (i + 1) b)))) told
-        ∙ sym (same-cons (lower (octet a i)) (lower (octet b i)) (map lower (drop (i + 1) a)) (map lower (drop (i + 1) b)))
-        ∙ ap₂ (λ (x : List ℕ) (y : List ℕ). same (map lower x) (map lower y)) (sym (rest-cons a i h)) (sym (rest-cons b i g)) ∙ inv
-
-    pub name_differs : not u ≡ true → false ≡ m
-    name_differs n = rw (not-true u n) at letters
-
-    pub name-more : not u ≡ false → same (map lower (drop (i + 1) a)) (map lower (drop (i + 1) b)) ≡ m
-    name-more n = rw (not-false u n) at letters
+name-same a b r e h = h ∙ rw (same-is a b (sym e ∙ h)) (sym (same_self (map lower b)))
 
 -- ---- the table
-module _ (t name oid : List ℕ) (u : Bool) (told : u ≡ same_name t name) where
-  pub called-name : u ≡ true → true ≡ called t name oid
-  unfolding called
-  called-name h = rw (sym told ∙ h)
+-- a row of the code's: name, OID, rule
+abbrev pub Row : Type 0
+Row = Bor (List ℕ) × Bor (List ℕ) × code.Rule
 
-  pub called-oid : (v : Bool) → u ≡ false → v ≡ same t oid → v ≡ called t name oid
-  unfolding called
-  called-oid v h e = rw (sym told ∙ h) e
+abbrev pub row_of : Row → Known
+row_of (name, oid, r) = record { name = name.now; oid = oid.now; rule = meant r }
 
--- the rule of a text in a table, row by row: u is what the code found of the first row
-pub rule-none : (t : List ℕ) → None ≡ rule_of [] t
-unfolding rule_of
-rule-none t = refl
+-- what the rows from i on say of a text t: by what the code found of row i, and where there is none
+module _ (t : List ℕ) (rows : List Row) (i : ℕ) (r : Option Rule) (before : rule_of (map row_of (drop i rows)) t ≡ r) where
+  module _ (d : Row) (u : Bool) (told : u ≡ called t (get_or rows i d).0.now (get_or rows i d).1.now) (within : i < length rows) where
+    stepped : pick u (Some (meant (get_or rows i d).2)) (rule_of (map row_of (drop (i + 1) rows)) t) ≡ r
+    unfolding rule_of called
+    stepped = rw (add-one, told) (rw (drop-cons rows i d within) at before)
 
-module _ (t name oid : List ℕ) (rule : Rule) (ks : List Known) (u : Bool) (told : u ≡ called t name oid) where
-  pub rule-here : u ≡ true → Some rule ≡ rule_of (record { name = name; oid = oid; rule = rule } ∷ ks) t
-  unfolding rule_of called
-  rule-here h = rw (sym told ∙ h)
+    pub rule-here : u ≡ true → Some (meant (get_or rows i d).2) ≡ r
+    rule-here h = rw h at stepped
 
-  pub rule-after : (r : Option Rule) → u ≡ false → r ≡ rule_of ks t → r ≡ rule_of (record { name = name; oid = oid; rule = rule } ∷ ks) t
-  unfolding rule_of called
-  rule-after r h e = rw (sym told ∙ h) e
+    pub rule-after : u ≡ false → rule_of (map row_of (drop (i + 1) rows)) t ≡ r
+    rule-after h = rw h at stepped
+
+  pub rule-none : length rows ≤ i → None ≡ r
+  unfolding rule_of
+  rule-none over = rw (drop_of_length-le rows over) at before

@@ -2,7 +2,7 @@
 // a line for each named value.
 #![tactic(auto)]
 
-ghost use Rattle.std.specs.Prelude.{◌≡◌, ◌*◌, ◌≤◌, length, OnOk, OnErr};
+ghost use Rattle.std.specs.Prelude.{◌≡◌, length, OnOk, OnErr};
 ghost use Rattle.std.specs.Io.{ReadsAtMost};
 ghost use Rattle.std.specs.Io.KnownBytes.{Appends};
 
@@ -78,20 +78,10 @@ fn print_listed<W: Write>(
     print_word(out, b"\n")
 }
 
-// The listed values that are printed: as many as the room has three numbers for.
-fn shown(listed: usize, room: usize) -> usize
-    ensures { result * 3 ≤ room }
-{
-    if listed <= room / 3 {
-        return listed;
-    }
-    room / 3
-}
-
+// The listed values, as many as the room has three numbers for.
 fn print_room<W: Write>(out: &mut W, value: &[u8], listed: usize, room: &[u64]) -> io::Result<()> {
-    let n = shown(listed, room.len());
-    for i in 0..n {
-        print_listed(out, value, room[i * 3], room[i * 3 + 1], room[i * 3 + 2])?;
+    for numbers in room.chunks_exact(3).take(listed) {
+        print_listed(out, value, numbers[0], numbers[1], numbers[2])?;
     }
     Ok(())
 }
@@ -105,9 +95,9 @@ fn show<W: Write>(
     room: &mut [u64],
 ) -> io::Result<()> {
     match engine::list(table, value, given, reference, true, room) {
-        Listed::Values(n) => print_room(out, value, n, room),
-        Listed::Refused(refusal) => {
-            print_number(out, b"REFUSED ", refusal as u64)?;
+        Ok(l) => print_room(out, value, l.values, room),
+        Err(r) => {
+            print_number(out, b"REFUSED ", r.number() as u64)?;
             print_word(out, b"\n")
         }
     }

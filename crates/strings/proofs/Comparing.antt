@@ -1,16 +1,17 @@
 -- A stored string as prepared beside other octets: laws, and one lemma for each need of the code.
-use mathlib.Core.Path.{◌≡◌, refl, sym, ap, ◌∙◌}
+use mathlib.Core.Path.{◌≡◌, refl, sym, ap, subst, ◌∙◌}
 use mathlib.Core.Bool.{Bool, true, false, not, false≢true}
 use mathlib.Core.List.{List, [], ◌∷◌, ◌++◌}
 use Prim.Native.Nat.{ℕ, ◌≤◌, ◌<◌, ◌+◌, ◌-◌, ◌/◌, ◌%◌}
 use native.Mathlib.Omega.{arith}
 use borrow.Author.Tests.{eq-eqb, ne_eqb, eqb-true, leb-true, leb-false, not-true, not-false}
 use lib.Dec.{leb, eqb}
+use Rattle.std.specs.Prelude.{Option, None, Some}
+use Rattle.std.proofs.Common.{ControlFlow, Continue}
 use lib.ListN.{length, drop}
 use Rattle.octets.specs.Pick.{pick, both}
 use Rattle.octets.specs.Octets.{octet, same}
 use Rattle.octets.specs.Text.{within}
-use Rattle.octets.specs.declared.Place.{Place}
 use Rattle.octets.proofs.Laws.{rest-cons, rest-none, rest-length, both_true}
 use Rattle.octets.proofs.TextLaws.{same-nil, same_shorter, same_longer, same-cons}
 use Rattle.strings.specs.Images.{Mark}
@@ -20,10 +21,8 @@ use Rattle.strings.specs.Inner.Comparing.{folded, letters_at, images_at, rest_at
 use Rattle.strings.specs.Inner.Comparing.{ahead, beside, report_turn, weight, Less}
 use Rattle.strings.specs.declared.Form.{Form}
 use Rattle.strings.specs.declared.Before.{Before}
-use Rattle.strings.specs.declared.Octets.{Octets}
 use Rattle.strings.specs.declared.Found.{Found}
 use Rattle.strings.specs.declared.Sides.{Sides}
-use Rattle.strings.specs.declared.Turn.{Turn}
 use Rattle.strings.proofs.ImageSteps.{images-low, unpacked-more}
 use Rattle.strings.proofs.Preparing.{image-letter, image-space, fold_space, folded-cons, folded-nil}
 
@@ -70,14 +69,14 @@ letters-more : (fold : Bool) (x : List ℕ) (i : ℕ) → i < length x → lette
 unfolding letters_at
 letters-more fold x i h = ap (folded fold) (rest-cons x i h) ∙ folded-cons fold (octet x i) (drop (i + 1) x)
 
-abbrev matched : Bool → List ℕ → List ℕ → Place → Bool
-matched fold x l Place.Nowhere = false
-matched fold x l (Place.At n) = same l (letters_at fold Form.Stored x n)
+abbrev matched : Bool → List ℕ → List ℕ → Option ℕ → Bool
+matched fold x l None = false
+matched fold x l (Some n) = same l (letters_at fold Form.Stored x n)
 
 octet-matched : (fold : Bool) (x : List ℕ) (i b : ℕ) (l : List ℕ) → matched fold x l (after_first fold b i (drop i x)) ≡ same (b ∷ l) (letters_at fold Form.Stored x i)
 octet-matched fold x i b l = go (leb (length x) i) refl
   where
-    picked : (u : Bool) → matched fold x l (pick u (Place.At (i + 1)) Place.Nowhere) ≡ both u (same l (letters_at fold Form.Stored x (i + 1)))
+    picked : (u : Bool) → matched fold x l (pick u (Some (i + 1)) None) ≡ both u (same l (letters_at fold Form.Stored x (i + 1)))
     picked true = refl
     picked false = refl
 
@@ -90,26 +89,26 @@ octet-matched fold x i b l = go (leb (length x) i) refl
         rw (rest-cons x i more, letters-more fold x i more) (picked (eqb b (fold_octet fold (octet x i)))
         ∙ sym (same-cons b (fold_octet fold (octet x i)) l (letters_at fold Form.Stored x (i + 1))))
 
-module _ (fold : Bool) (x : List ℕ) (i b : ℕ) (l : List ℕ) (r : Place) (told : r ≡ after_first fold b i (drop i x)) where
-  octet_differs : r ≡ Place.Nowhere → false ≡ same (b ∷ l) (letters_at fold Form.Stored x i)
+module _ (fold : Bool) (x : List ℕ) (i b : ℕ) (l : List ℕ) (r : Option ℕ) (told : r ≡ after_first fold b i (drop i x)) where
+  octet_differs : r ≡ None → false ≡ same (b ∷ l) (letters_at fold Form.Stored x i)
   octet_differs e = ap (matched fold x l) (sym e ∙ told) ∙ octet-matched fold x i b l
 
-  octet-on : (n : ℕ) → r ≡ Place.At n → same l (letters_at fold Form.Stored x n) ≡ same (b ∷ l) (letters_at fold Form.Stored x i)
+  octet-on : (n : ℕ) → r ≡ Some n → same l (letters_at fold Form.Stored x n) ≡ same (b ∷ l) (letters_at fold Form.Stored x i)
   octet-on n e = ap (matched fold x l) (sym e ∙ told) ∙ octet-matched fold x i b l
 
-abbrev place_of : Place → ℕ
-place_of Place.Nowhere = 0
-place_of (Place.At n) = n
+abbrev place_of : Option ℕ → ℕ
+place_of None = 0
+place_of (Some n) = n
 
 -- where there is a place after an octet, it is the next
-after-place : (fold : Bool) (b : ℕ) (x : List ℕ) (i n : ℕ) → Place.At n ≡ after_first fold b i (drop i x) → n ≡ i + 1
+after-place : (fold : Bool) (b : ℕ) (x : List ℕ) (i n : ℕ) → Some n ≡ after_first fold b i (drop i x) → n ≡ i + 1
 after-place fold b x i n e = go (drop i x) e
   where
-    pick_at : (u : Bool) → Place.At n ≡ pick u (Place.At (i + 1)) Place.Nowhere → n ≡ i + 1
+    pick_at : (u : Bool) → Some n ≡ pick u (Some (i + 1)) None → n ≡ i + 1
     pick_at true q = ap place_of q
     pick_at false q = absurd (let z : ◌≡◌ {A = ℕ} 0 1 = cc in omega arith)
 
-    go : (l : List ℕ) → Place.At n ≡ after_first fold b i l → n ≡ i + 1
+    go : (l : List ℕ) → Some n ≡ after_first fold b i l → n ≡ i + 1
     go [] q = absurd (let z : ◌≡◌ {A = ℕ} 0 1 = cc in omega arith)
     go (y ∷ l) q = pick_at (eqb b (fold_octet fold y)) q
 
@@ -120,18 +119,7 @@ none_left fold x i = go (leb (length x) i) refl
     go true e = rw (letters-none fold x i (leb-true (length x) i e)) (sym same-nil)
     go false e = rw (letters-more fold x i (leb-false (length x) i e)) (sym (same_shorter (fold_octet fold (octet x i)) (letters_at fold Form.Stored x (i + 1))))
 
--- ---- after_octet, is_kept, before_at
-module _ (fold : Bool) (b : ℕ) (x : List ℕ) (i : ℕ) where
-  pub after-end : length x ≤ i → Place.Nowhere ≡ after_first fold b i (drop i x)
-  after-end h = rw (rest-none x i h)
-
-  module _ (h : i < length x) (y : ℕ) (q : y ≡ fold_octet fold (octet x i)) where
-    pub after-other : (b ≡ y → ⊥) → Place.Nowhere ≡ after_first fold b i (drop i x)
-    after-other n = rw (rest-cons x i h, sym q, ne_eqb b y n)
-
-    pub after_same : b ≡ y → Place.At (i + 1) ≡ after_first fold b i (drop i x)
-    after_same e = rw (rest-cons x i h, sym q, eq-eqb b y e)
-
+-- ---- is_kept, before_at
 module _ (c : List ℕ) (i : ℕ) (h : i < length c) (u : Bool) (graphic : u ≡ within 33 126 (octet c i)) where
   pub kept_graphic : u ≡ true → true ≡ is_kept i (drop i c)
   unfolding is_kept
@@ -159,9 +147,6 @@ module _ (c : List ℕ) (i : ℕ) (h : i < length c) (u : Bool) (graphic : u ≡
         kept-space v l f = f ∙ sym (behind ∙ ap is_graphic_next (rest-cons c (i + 1) (omega arith)))
 
 module _ (i : ℕ) where
-  pub before-first : i ≡ 0 → Before.Nothing ≡ before_at i
-  before-first e = rw (eq-eqb i 0 e)
-
   pub before-other : (i ≡ 0 → ⊥) → Before.Character ≡ before_at i
   before-other n = rw (ne_eqb i 0 n)
 
@@ -180,23 +165,20 @@ module _ (fold : Bool) (c : List ℕ) (i : ℕ) where
       ∙ ap (λ (y : Before). fold_octet fold (octet c i) ∷ joined y (images fold (drop (i + 1) c))) (before-other (i + 1) (λ z. omega arith))
 
 -- ---- turns
-pub kept_told : (c : List ℕ) (i : ℕ) (u : Bool) → u ≡ is_kept i (drop i c) → u ≡ true → is_kept i (drop i c) ≡ true
-kept_told c i u e h = sym e ∙ h
-
 module _ (fold : Bool) (c x : List ℕ) (s : Sides) where
   -- an octet of an image
   module _ (h : 0 < s.count) where
     octet-ahead : ahead fold c s ≡ s.word % 256 ∷ ahead fold c (record { at = s.at; i = s.i; word = s.word / 256; count = s.count - 1 })
     octet-ahead = ap (λ (l : List ℕ). l ++ rest_at fold Form.Stored c s.at (before_at s.at)) (unpacked-more s.word s.count h)
 
-    module _ (r : Place) (told : r ≡ after_first fold (s.word % 256) s.i (drop s.i x)) where
-      pub turn_differs : r ≡ Place.Nowhere → false ≡ beside fold c x s
+    module _ (r : Option ℕ) (told : r ≡ after_first fold (s.word % 256) s.i (drop s.i x)) where
+      pub turn_differs : r ≡ None → false ≡ beside fold c x s
       unfolding beside
       turn_differs e =
           octet_differs fold x s.i (s.word % 256) (ahead fold c (record { at = s.at; i = s.i; word = s.word / 256; count = s.count - 1 })) r told e
           ∙ ap (λ (l : List ℕ). same l (letters_at fold Form.Stored x s.i)) (sym octet-ahead)
 
-      pub turn-octet : (n : ℕ) → r ≡ Place.At n → beside fold c x (record { at = s.at; i = n; word = s.word / 256; count = s.count - 1 }) ≡ beside fold c x s
+      pub turn-octet : (n : ℕ) → r ≡ Some n → beside fold c x (record { at = s.at; i = n; word = s.word / 256; count = s.count - 1 }) ≡ beside fold c x s
       unfolding beside
       turn-octet n e =
           octet-on fold x s.i (s.word % 256) (ahead fold c (record { at = s.at; i = s.i; word = s.word / 256; count = s.count - 1 })) r told n e
@@ -220,16 +202,16 @@ module _ (fold : Bool) (c x : List ℕ) (s : Sides) where
       kept-ahead : ahead fold c s ≡ fold_octet fold (octet c s.at) ∷ rest_at fold Form.Stored c (s.at + 1) (before_at (s.at + 1))
       kept-ahead = ahead-rest ∙ rest-kept fold c s.at h kept
 
-      module _ (b : ℕ) (folds : b ≡ fold_octet fold (octet c s.at)) (r : Place) (told : r ≡ after_first fold b s.i (drop s.i x)) where
+      module _ (b : ℕ) (folds : b ≡ fold_octet fold (octet c s.at)) (r : Option ℕ) (told : r ≡ after_first fold b s.i (drop s.i x)) where
         kept_sides : same (b ∷ rest_at fold Form.Stored c (s.at + 1) (before_at (s.at + 1))) (letters_at fold Form.Stored x s.i) ≡ beside fold c x s
         unfolding beside
         kept_sides = ap (λ (l : List ℕ). same l (letters_at fold Form.Stored x s.i))
             (ap (λ (y : ℕ). y ∷ rest_at fold Form.Stored c (s.at + 1) (before_at (s.at + 1))) folds ∙ sym kept-ahead)
 
-        pub turn-other : r ≡ Place.Nowhere → false ≡ beside fold c x s
+        pub turn-other : r ≡ None → false ≡ beside fold c x s
         turn-other e = octet_differs fold x s.i b (rest_at fold Form.Stored c (s.at + 1) (before_at (s.at + 1))) r told e ∙ kept_sides
 
-        pub turn-kept : (n : ℕ) → r ≡ Place.At n → beside fold c x (record { at = s.at + 1; i = n; word = 0; count = 0 }) ≡ beside fold c x s
+        pub turn-kept : (n : ℕ) → r ≡ Some n → beside fold c x (record { at = s.at + 1; i = n; word = 0; count = 0 }) ≡ beside fold c x s
         unfolding beside unpacked
         turn-kept n e = octet-on fold x s.i b (rest_at fold Form.Stored c (s.at + 1) (before_at (s.at + 1))) r told n e ∙ kept_sides
 
@@ -238,69 +220,66 @@ module _ (fold : Bool) (c x : List ℕ) (s : Sides) where
       turn_kept_less n = omega (arith, ap length kept-ahead, h, rest-length c s.at, rest-length c (s.at + 1))
 
     -- the next image
-    module _ (p : Before) (behind : p ≡ before_at s.at) (f : Found) (told : report_found fold Form.Stored c f ≡ rest_at fold Form.Stored c s.at p) where
+    module _ (p : Before) (behind : p ≡ before_at s.at) (f : Option Found) (told : report_found fold Form.Stored c f ≡ rest_at fold Form.Stored c s.at p) where
       found-ahead : report_found fold Form.Stored c f ≡ ahead fold c s
       found-ahead = told ∙ ap (rest_at fold Form.Stored c s.at) behind ∙ sym ahead-rest
 
-      pub turn_last : f ≡ Found.End → leb (length x) s.i ≡ beside fold c x s
+      pub turn_last : f ≡ None → leb (length x) s.i ≡ beside fold c x s
       unfolding beside
       turn_last e = none_left fold x s.i ∙ ap (λ (l : List ℕ). same l (letters_at fold Form.Stored x s.i)) (ap (report_found fold Form.Stored c) (sym e) ∙ found-ahead)
 
-      module _ (u : Bool) (o : Octets) (after : ℕ) (e : f ≡ Found.At u o after) (further : Further Form.Stored c s.at f) where
-        beyond : s.at < after
-        beyond = go f e further
-          where
-            go : (y : Found) → y ≡ Found.At u o after → Further Form.Stored c s.at y → s.at < after
-            go Found.End q g = absurd (let z : ◌≡◌ {A = ℕ} 0 1 = cc in omega arith)
-            go (Found.At v w k) q g = let z : k ≡ after = cc in omega (arith, g, z, rest-length c k, rest-length c s.at)
+      module _ (g : Found) (e : f ≡ Some g) (further : Further Form.Stored c s.at f) where
+        abbrev with_image : List ℕ
+        with_image = unpacked g.octets.word g.octets.count ++ rest_at fold Form.Stored c g.after (before_at g.after)
 
-        short : length (drop after c) < length (drop s.at c)
-        short = go f e further
-          where
-            go : (y : Found) → y ≡ Found.At u o after → Further Form.Stored c s.at y → length (drop after c) < length (drop s.at c)
-            go Found.End q g = absurd (let z : ◌≡◌ {A = ℕ} 0 1 = cc in omega arith)
-            go (Found.At v w k) q g = let z : k ≡ after = cc in omega (arith, g, ap (λ (y : ℕ). length (drop y c)) z)
+        short : length (drop g.after c) < length (drop s.at c)
+        short = subst (Further Form.Stored c s.at) e further
 
-        image-ahead : gap u (unpacked o.word o.count ++ rest_at fold Form.Stored c after (before_at after)) ≡ ahead fold c s
+        beyond : s.at < g.after
+        beyond = omega (arith, short, rest-length c g.after, rest-length c s.at)
+
+        image-ahead : gap g.space with_image ≡ ahead fold c s
         image-ahead =
-            ap (λ (y : Before). gap u (unpacked o.word o.count ++ rest_at fold Form.Stored c after y)) (sym (before-other after (λ z. omega (arith, beyond))))
+            ap (λ (y : Before). gap g.space (unpacked g.octets.word g.octets.count ++ rest_at fold Form.Stored c g.after y))
+            (sym (before-other g.after (λ z. omega (arith, beyond))))
             ∙ ap (report_found fold Form.Stored c) (sym e) ∙ found-ahead
 
-        module _ (q : not u ≡ true) where
-          joined-ahead : unpacked o.word o.count ++ rest_at fold Form.Stored c after (before_at after) ≡ ahead fold c s
-          joined-ahead = ap (λ (y : Bool). gap y (unpacked o.word o.count ++ rest_at fold Form.Stored c after (before_at after))) (sym (not-true u q))
+        module _ (q : not g.space ≡ true) where
+          joined-ahead : with_image ≡ ahead fold c s
+          joined-ahead = ap (λ (y : Bool). gap y with_image) (sym (not-true g.space q))
               ∙ image-ahead
 
-          pub turn-image : beside fold c x (record { at = after; i = s.i; word = o.word; count = o.count }) ≡ beside fold c x s
+          pub turn-image : beside fold c x (record { at = g.after; i = s.i; word = g.octets.word; count = g.octets.count }) ≡ beside fold c x s
           unfolding beside
           turn-image = ap (λ (l : List ℕ). same l (letters_at fold Form.Stored x s.i)) joined-ahead
 
-          pub turn_image_less : weight fold c (record { at = after; i = s.i; word = o.word; count = o.count }) < weight fold c s
+          pub turn_image_less : weight fold c (record { at = g.after; i = s.i; word = g.octets.word; count = g.octets.count }) < weight fold c s
           unfolding weight
           turn_image_less = omega (arith, ap length joined-ahead, short)
 
-        module _ (q : not u ≡ false) where
-          spaced-ahead : 32 ∷ (unpacked o.word o.count ++ rest_at fold Form.Stored c after (before_at after)) ≡ ahead fold c s
-          spaced-ahead = ap (λ (y : Bool). gap y (unpacked o.word o.count ++ rest_at fold Form.Stored c after (before_at after))) (sym (not-false u q))
+        module _ (q : not g.space ≡ false) where
+          spaced-ahead : 32 ∷ with_image ≡ ahead fold c s
+          spaced-ahead = ap (λ (y : Bool). gap y with_image) (sym (not-false g.space q))
               ∙ image-ahead
 
-          pub turn_space_less : (n : ℕ) → weight fold c (record { at = after; i = n; word = o.word; count = o.count }) < weight fold c s
+          pub turn_space_less : (n : ℕ) → weight fold c (record { at = g.after; i = n; word = g.octets.word; count = g.octets.count }) < weight fold c s
           unfolding weight
           turn_space_less n = omega (arith, ap length spaced-ahead, short)
 
-          module _ (r : Place) (answers : r ≡ after_first fold 32 s.i (drop s.i x)) where
-            spaced_sides : same (32 ∷ (unpacked o.word o.count ++ rest_at fold Form.Stored c after (before_at after))) (letters_at fold Form.Stored x s.i)
+          module _ (r : Option ℕ) (answers : r ≡ after_first fold 32 s.i (drop s.i x)) where
+            spaced_sides : same (32 ∷ with_image) (letters_at fold Form.Stored x s.i)
                 ≡ beside fold c x s
             unfolding beside
             spaced_sides = ap (λ (l : List ℕ). same l (letters_at fold Form.Stored x s.i)) spaced-ahead
 
-            pub turn_no_space : r ≡ Place.Nowhere → false ≡ beside fold c x s
-            turn_no_space g = octet_differs fold x s.i 32 (unpacked o.word o.count ++ rest_at fold Form.Stored c after (before_at after)) r answers g
+            pub turn_no_space : r ≡ None → false ≡ beside fold c x s
+            turn_no_space h = octet_differs fold x s.i 32 with_image r answers h
                 ∙ spaced_sides
 
-            pub turn-space : (n : ℕ) → r ≡ Place.At n → beside fold c x (record { at = after; i = n; word = o.word; count = o.count }) ≡ beside fold c x s
+            pub turn-space : (n : ℕ) → r ≡ Some n
+                → beside fold c x (record { at = g.after; i = n; word = g.octets.word; count = g.octets.count }) ≡ beside fold c x s
             unfolding beside
-            turn-space n g = octet-on fold x s.i 32 (unpacked o.word o.count ++ rest_at fold Form.Stored c after (before_at after)) r answers n g
+            turn-space n h = octet-on fold x s.i 32 with_image r answers n h
                 ∙ spaced_sides
 
 -- ---- same_from
@@ -308,16 +287,13 @@ pub sides_start : (fold : Bool) (c x : List ℕ) (first : ℕ) → beside fold c
 unfolding beside same_from unpacked
 sides_start fold c x first = refl
 
-module _ (fold : Bool) (c x : List ℕ) (m : Bool) (s : Sides) (inv : beside fold c x s ≡ m) (t : Turn) where
-  pub sides_end : (r : Bool) → report_turn fold c x t ≡ beside fold c x s → t ≡ Turn.Ended r → r ≡ m
-  sides_end r told e = ap (report_turn fold c x) (sym e) ∙ told ∙ inv
-
-  pub sides_on : (next : Sides) → report_turn fold c x t ≡ beside fold c x s → t ≡ Turn.On next → beside fold c x next ≡ m
+module _ (fold : Bool) (c x : List ℕ) (m : Bool) (s : Sides) (inv : beside fold c x s ≡ m) (t : ControlFlow Bool Sides) where
+  pub sides_on : (next : Sides) → report_turn fold c x t ≡ beside fold c x s → t ≡ Continue next → beside fold c x next ≡ m
   sides_on next told e = ap (report_turn fold c x) (sym e) ∙ told ∙ inv
 
-pub sides_less : (fold : Bool) (c : List ℕ) (s : Sides) (t : Turn) (next : Sides) → Less fold c s t → t ≡ Turn.On next → weight fold c next < weight fold c s
-sides_less fold c s (Turn.On n) next h e = let z : n ≡ next = cc in omega (arith, h, ap (weight fold c) z)
-sides_less fold c s (Turn.Ended r) next h e = absurd (let z : ◌≡◌ {A = ℕ} 0 1 = cc in omega arith)
+pub sides_less : (fold : Bool) (c : List ℕ) (s : Sides) (t : ControlFlow Bool Sides) (next : Sides)
+    → Less fold c s t → t ≡ Continue next → weight fold c next < weight fold c s
+sides_less fold c s t next h e = subst (Less fold c s) e h
 
 -- ---- same_prepared
 pub from_start : (fold : Bool) (c x : List ℕ) → same_from fold c x 0 ≡ same (prepared fold c) (folded fold x)
@@ -325,15 +301,14 @@ unfolding same_from rest_at images_at letters_at prepared
 from_start fold c x = refl
 
 module _ (fold : Bool) (c x : List ℕ) (i : ℕ) (m : Bool) (inv : same_from fold c x i ≡ m) where
-  pub from-there : (r : Bool) → r ≡ same_from fold c x i → r ≡ m
-  from-there r e = e ∙ inv
-
-  pub from_end : length c ≤ i → leb (length x) i ≡ m
+  pub from_end : i ≡ length c → leb (length x) (length c) ≡ m
   unfolding same_from
-  from_end h = none_left fold x i ∙ ap (λ (l : List ℕ). same l (letters_at fold Form.Stored x i)) (sym (rest-none_left fold c i h)) ∙ inv
+  from_end e =
+      let h : length c ≤ i = omega arith in
+      ap (leb (length x)) (sym e) ∙ none_left fold x i ∙ ap (λ (l : List ℕ). same l (letters_at fold Form.Stored x i)) (sym (rest-none_left fold c i h)) ∙ inv
 
   module _ (h : i < length c) (u : Bool) (told : u ≡ is_kept i (drop i c)) (e : not u ≡ false) (b : ℕ) (folds : b ≡ fold_octet fold (octet c i))
-      (r : Place) (answers : r ≡ after_first fold b i (drop i x)) where
+      (r : Option ℕ) (answers : r ≡ after_first fold b i (drop i x)) where
     here : same (b ∷ rest_at fold Form.Stored c (i + 1) (before_at (i + 1))) (letters_at fold Form.Stored x i) ≡ m
     unfolding same_from
     here =
@@ -341,18 +316,14 @@ module _ (fold : Bool) (c x : List ℕ) (i : ℕ) (m : Bool) (inv : same_from fo
         ∙ sym (rest-kept fold c i h (sym told ∙ not-false u e)))
         ∙ inv
 
-    next_place_lem : (n : ℕ) → r ≡ Place.At n → n ≡ i + 1
+    next_place_lem : (n : ℕ) → r ≡ Some n → n ≡ i + 1
     next_place_lem n g = after-place fold b x i n (sym g ∙ answers)
 
-    pub from_differs : r ≡ Place.Nowhere → false ≡ m
+    pub from_differs : r ≡ None → false ≡ m
     from_differs g = octet_differs fold x i b (rest_at fold Form.Stored c (i + 1) (before_at (i + 1))) r answers g ∙ here
 
-    pub from_more : (n : ℕ) → r ≡ Place.At n → same_from fold c x n ≡ m
+    pub from_more : (n : ℕ) → r ≡ Some n → same_from fold c x (i + 1) ≡ m
     unfolding same_from
     from_more n g =
-        ap (λ (y : ℕ). same (rest_at fold Form.Stored c y (before_at y)) (letters_at fold Form.Stored x n)) (next_place_lem n g)
+        ap (λ (y : ℕ). same (rest_at fold Form.Stored c (i + 1) (before_at (i + 1))) (letters_at fold Form.Stored x y)) (sym (next_place_lem n g))
         ∙ octet-on fold x i b (rest_at fold Form.Stored c (i + 1) (before_at (i + 1))) r answers n g ∙ here
-
-pub from_falls : (fold : Bool) (c x : List ℕ) (i b : ℕ) (r : Place) (n : ℕ) → i < length c → r ≡ after_first fold b i (drop i x) → r ≡ Place.At n
-    → length c - n < length c - i
-from_falls fold c x i b r n h e g = omega (arith, h, after-place fold b x i n (sym g ∙ e))

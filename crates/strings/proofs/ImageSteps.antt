@@ -6,20 +6,19 @@ use Prim.Native.Nat.{ℕ, zero, suc, ◌≤◌, ◌<◌, ◌+◌, ◌-◌, ◌*�
 use native.Mathlib.Omega.{arith}
 use borrow.Author.Tests.{lt-ltb, le-ltb, lt-leb, leb-true, not-true, not-false}
 use lib.Dec.{leb}
+use Rattle.std.specs.Prelude.{Some}
 use lib.ListN.{length, drop}
 use Rattle.octets.specs.Text.{within}
 use Rattle.octets.proofs.Laws.{both_true}
 use Rattle.strings.specs.Images.{Mark, shown, image}
 use Rattle.strings.specs.Prepared.{is_pair, pair_number, images, after_space, spaced, joined}
 use Rattle.strings.specs.Inner.Shapes.{unpacked, shape_marks, single, low_shape, high_shape}
-use Rattle.strings.specs.Inner.Comparing.{octets_of, report_octet, images_at, report_piece, left, rest_at, is_space, gap, report_found}
+use Rattle.strings.specs.Inner.Comparing.{octets_of, images_at, report_piece, left, rest_at, is_space, gap, report_found}
 use Rattle.strings.specs.declared.Form.{Form}
 use Rattle.strings.specs.declared.Before.{Before}
 use Rattle.strings.specs.declared.Octets.{Octets}
 use Rattle.strings.specs.declared.Shape.{Shape}
 use Rattle.strings.specs.declared.Piece.{Piece}
-use Rattle.strings.specs.declared.Letter.{Letter}
-use Rattle.strings.specs.declared.Found.{Found}
 use Rattle.strings.proofs.ImageLaws.{low-is, high_is}
 
 -- ---- images, octet by octet
@@ -80,41 +79,24 @@ module _ (a b : ℕ) (u : Bool) (pair : u ≡ is_pair a b) (h : not u ≡ false)
   is-paired : Paired a b
   is-paired = paired a b (sym pair ∙ not-false u h)
 
-  pub high_first_least : (x : ℕ) → x ≡ a → 192 ≤ x
-  high_first_least x e = let w = is-paired.first-least in omega arith
-
-  pub high_second_least : (y : ℕ) → y ≡ b → 128 ≤ y
-  high_second_least y e = let w = is-paired.second-least in omega arith
-
-  pub high-number : (x y : ℕ) → x ≡ a → y ≡ b → (x - 192) * 64 + (y - 128) < 2000
-  high-number x y e f = let w = is-paired.first-most in let z = is-paired.second-most in omega arith
-
-module _ (s : List ℕ) (form : Form) (fold : Bool) (a after : ℕ) (high : 128 ≤ a) (r : Letter) (told : report_octet form s r ≡ octets_of form (drop after s))
-    (sh : Shape) where
-  pub high-last : a ≤ 255 → r ≡ Letter.End → sh ≡ single a → report_piece fold form s (piece_of sh after) ≡ images fold (a ∷ octets_of form (drop after s))
+module _ (s : List ℕ) (form : Form) (fold : Bool) (a after : ℕ) (high : 128 ≤ a) (sh : Shape) where
+  pub high-last : a ≤ 255 → [] ≡ octets_of form (drop after s) → sh ≡ single a
+      → report_piece fold form s (piece_of sh after) ≡ images fold (a ∷ octets_of form (drop after s))
   unfolding images_at images
-  high-last octet e q =
-      let none : octets_of form (drop after s) ≡ [] = sym told ∙ ap (report_octet form s) e in
-      ap₂ (λ (x : Shape) (y : List ℕ). shape_marks x ++ images fold y) q none ∙ ap (λ (l : List Mark). l ++ []) (single-marks a octet)
-      ∙ sym (images-alone fold a high) ∙ ap (λ (y : List ℕ). images fold (a ∷ y)) (sym none)
+  high-last octet none q =
+      ap₂ (λ (x : Shape) (y : List ℕ). shape_marks x ++ images fold y) q (sym none) ∙ ap (λ (l : List Mark). l ++ []) (single-marks a octet)
+      ∙ sym (images-alone fold a high) ∙ ap (λ (y : List ℕ). images fold (a ∷ y)) none
 
-  module _ (b next : ℕ) (e : r ≡ Letter.Got b next) where
-    behind_it : octets_of form (drop after s) ≡ b ∷ octets_of form (drop next s)
-    behind_it = sym told ∙ ap (report_octet form s) e
-
+  module _ (b next : ℕ) (there : b ∷ octets_of form (drop next s) ≡ octets_of form (drop after s)) where
     pub high-single : (u : Bool) → a ≤ 255 → u ≡ is_pair a b → not u ≡ true → sh ≡ single a
         → report_piece fold form s (piece_of sh after) ≡ images fold (a ∷ octets_of form (drop after s))
     unfolding images_at
     high-single u octet pair h q =
-        ap₂ (λ (x : Shape) (y : List ℕ). shape_marks x ++ images fold y) q behind_it
+        ap₂ (λ (x : Shape) (y : List ℕ). shape_marks x ++ images fold y) q (sym there)
         ∙ ap (λ (l : List Mark). l ++ images fold (b ∷ octets_of form (drop next s))) (single-marks a octet)
-        ∙ sym (images-single fold a b (octets_of form (drop next s)) high (sym pair ∙ not-true u h)) ∙ ap (λ (y : List ℕ). images fold (a ∷ y)) (sym behind_it)
+        ∙ sym (images-single fold a b (octets_of form (drop next s)) high (sym pair ∙ not-true u h)) ∙ ap (λ (y : List ℕ). images fold (a ∷ y)) there
 
-module _ (s : List ℕ) (form : Form) (fold : Bool) (a after : ℕ) (r : Letter) (told : report_octet form s r ≡ octets_of form (drop after s)) (b next : ℕ)
-    (e : r ≡ Letter.Got b next) where
-  after_it : octets_of form (drop after s) ≡ b ∷ octets_of form (drop next s)
-  after_it = sym told ∙ ap (report_octet form s) e
-
+module _ (s : List ℕ) (form : Form) (fold : Bool) (a after b next : ℕ) (there : b ∷ octets_of form (drop next s) ≡ octets_of form (drop after s)) where
   pub high-pair : (sh : Shape) (u : Bool) (x y c : ℕ) → u ≡ is_pair a b → not u ≡ false → x ≡ a → y ≡ b → c ≡ (x - 192) * 64 + (y - 128) → sh ≡ high_shape fold c
       → report_piece fold form s (piece_of sh next) ≡ images fold (a ∷ octets_of form (drop after s))
   unfolding images_at
@@ -127,10 +109,10 @@ module _ (s : List ℕ) (form : Form) (fold : Bool) (a after : ℕ) (r : Letter)
       let number : c ≡ pair_number a b = omega arith in
       ap (λ (p : Shape). shape_marks p ++ images fold (octets_of form (drop next s))) z
       ∙ ap (λ (l : List Mark). l ++ images fold (octets_of form (drop next s))) (high_is fold c (omega arith) (omega arith) ∙ ap (image fold) number)
-      ∙ sym (images-pair fold a b (octets_of form (drop next s)) (sym pair ∙ not-false u h)) ∙ ap (λ (y : List ℕ). images fold (a ∷ y)) (sym after_it)
+      ∙ sym (images-pair fold a b (octets_of form (drop next s)) (sym pair ∙ not-false u h)) ∙ ap (λ (y : List ℕ). images fold (a ∷ y)) there
 
   pub high-on : left form s next ≤ left form s after
-  high-on = omega (arith, ap length after_it)
+  high-on = omega (arith, ap length there)
 
 pub high-stays : (form : Form) (s : List ℕ) (after : ℕ) → left form s after ≤ left form s after
 high-stays form s after = omega arith
@@ -198,21 +180,15 @@ pub record Seeking (fold : Bool) (form : Form) (s : List ℕ) (first : ℕ) (beh
   pub left_there : rest_at fold form s at p ≡ rest_at fold form s first behind
   pub not_more : left form s at ≤ left form s first
 
-pub seek_start : (fold : Bool) (form : Form) (s : List ℕ) (first : ℕ) (behind : Before) → Seeking fold form s first behind first behind
-seek_start fold form s first behind = record { left_there = refl; not_more = omega arith }
-
-module _ (fold : Bool) (form : Form) (s : List ℕ) (first : ℕ) (behind : Before) (at : ℕ) (p : Before) (inv : Seeking fold form s first behind at p)
-    (r : Letter) (read : report_octet form s r ≡ octets_of form (drop at s)) where
-  pub seek_end : r ≡ Letter.End → report_found fold form s Found.End ≡ rest_at fold form s first behind
+module _ (fold : Bool) (form : Form) (s : List ℕ) (first : ℕ) (behind : Before) (at : ℕ) (p : Before) (inv : Seeking fold form s first behind at p) where
+  pub seek_end : [] ≡ octets_of form (drop at s) → [] ≡ rest_at fold form s first behind
   unfolding rest_at images_at images joined
-  seek_end e = ap (λ (y : List ℕ). joined p (images fold y)) (ap (report_octet form s) (sym e) ∙ read) ∙ inv.left_there
+  seek_end none = ap (λ (y : List ℕ). joined p (images fold y)) none ∙ inv.left_there
 
-  module _ (b after : ℕ) (e : r ≡ Letter.Got b after) (piece : Piece) (on : left form s piece.after ≤ left form s after) where
-    octets-on : octets_of form (drop at s) ≡ b ∷ octets_of form (drop after s)
-    octets-on = sym read ∙ ap (report_octet form s) e
-
+  module _ (b after : ℕ) (there : b ∷ octets_of form (drop after s) ≡ octets_of form (drop at s)) (piece : Piece)
+      (on : left form s piece.after ≤ left form s after) where
     pub seek_falls : left form s piece.after < left form s at
-    seek_falls = omega (arith, on, ap length octets-on)
+    seek_falls = omega (arith, on, ap length there)
 
     pub seek_further : left form s piece.after < left form s first
     seek_further = omega (arith, seek_falls, inv.not_more)
@@ -220,7 +196,7 @@ module _ (fold : Bool) (form : Form) (s : List ℕ) (first : ℕ) (behind : Befo
     module _ (told : report_piece fold form s piece ≡ images fold (b ∷ octets_of form (drop after s))) where
       marks-here : images_at fold form s at ≡ shape_marks piece.shape ++ images_at fold form s piece.after
       unfolding images_at
-      marks-here = ap (images fold) octets-on ∙ sym told
+      marks-here = ap (images fold) (sym there) ∙ sym told
 
       pub seek_blank : (x : Before) → piece.shape ≡ Shape.Blank → x ≡ after_space p → Seeking fold form s first behind piece.after x
       seek_blank x q h = record {
@@ -235,6 +211,6 @@ module _ (fold : Bool) (form : Form) (s : List ℕ) (first : ℕ) (behind : Befo
       }
 
       pub seek_shown : (o : Octets) (u : Bool) → piece.shape ≡ Shape.Shown o → 0 < o.count → u ≡ is_space p
-          → report_found fold form s (Found.At u o piece.after) ≡ rest_at fold form s first behind
+          → report_found fold form s (Some (record { space = u; octets = o; after = piece.after })) ≡ rest_at fold form s first behind
       seek_shown o u q h k = shown-on fold form s at piece.after p (rest_at fold form s first behind) inv.left_there
           piece.shape marks-here o q h u k

@@ -1,4 +1,3 @@
-pub mod ShapeSteps
 pub mod ImageLaws
 pub mod Laws
 pub mod Steps

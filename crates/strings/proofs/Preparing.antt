@@ -1,12 +1,13 @@
 -- Octets that are as prepared, and a prepared string in memory: laws, and one lemma for each need of the code.
-use mathlib.Core.Path.{◌≡◌, refl, sym, ap, ◌∙◌}
+use mathlib.Core.Path.{◌≡◌, refl, sym, ap, subst, ◌∙◌}
 use mathlib.Core.Bool.{Bool, true, false, not, false≢true}
 use mathlib.Core.List.{List, [], ◌∷◌, ◌++◌, append_assoc, append-nil, map}
 use Prim.Native.Nat.{ℕ, ◌≤◌, ◌<◌, ◌+◌, ◌-◌, ◌*◌, ◌/◌, ◌%◌}
 use native.Mathlib.Omega.{arith}
 use native.Mathlib.Numerals.{add-one}
-use borrow.Author.Tests.{eq-eqb, ne_eqb, eqb-true, leb-true, le-ltb, ltb-true, ltb-false, not-true, not-false}
+use borrow.Author.Tests.{eq-eqb, ne_eqb, eqb-true, leb-true, le-ltb, ltb-true, ltb-false}
 use lib.Dec.{ltb, leb, eqb}
+use Rattle.std.specs.Prelude.{Option, None, Some}
 use lib.ListN.{length, length-append, take, drop, set, length-set}
 use lib.Seq.{take-suc-set}
 use Rattle.octets.specs.Pick.{pick, both, no}
@@ -24,7 +25,6 @@ use Rattle.strings.specs.Inner.Escaped.{unescaped}
 use Rattle.strings.specs.declared.Form.{Form}
 use Rattle.strings.specs.declared.Before.{Before}
 use Rattle.strings.specs.declared.Found.{Found}
-use Rattle.strings.specs.declared.Octets.{Octets}
 use Rattle.strings.proofs.ImageLaws.{low-is, low-short, high-short, is_small, all_small, image-small}
 use Rattle.strings.proofs.ImageSteps.{images-low, paired, single-marks, unpacked-more, unpacked-length}
 
@@ -150,21 +150,7 @@ not_plain space (b ∷ c ∷ s) e = go (both (eqb b 34) (eqb c 34)) (not_plain (
         behind true h = refl
         behind false h = f h
 
--- ---- is_loose, is_plain
-module _ (space : Bool) (b : ℕ) where
-  pub loose_quote : b ≡ 34 → true ≡ is_loose space b
-  loose_quote e = rw (eq-eqb b 34 e)
-
-  pub loose_space : (b ≡ 34 → ⊥) → b ≡ 32 → space ≡ is_loose space b
-  loose_space n e = rw (ne_eqb b 34 n, eq-eqb b 32 e)
-
-  pub loose_other : (u : Bool) → (b ≡ 34 → ⊥) → (b ≡ 32 → ⊥) → u ≡ within 33 126 b → not u ≡ is_loose space b
-  loose_other u n m e = rw (ne_eqb b 34 n, ne_eqb b 32 m, sym e) (go u)
-    where
-      go : (u : Bool) → not u ≡ no u
-      go true = refl
-      go false = refl
-
+-- ---- is_plain
 module _ (s : List ℕ) (space : Bool) (i : ℕ) (m : Bool) (inv : is_plain space (drop i s) ≡ m) where
   pub plain_end : length s ≤ i → not space ≡ m
   unfolding is_plain
@@ -340,59 +326,32 @@ prepared-length fold form p = omega (arith, short form, images-length fold (octe
     short Form.Quoted = undoubled-length p
     short Form.Escaped = unescaped-length p
 
--- ---- put_space, put_octets
-pub space-none : (m : List ℕ) (n : ℕ) (u : Bool) → not u ≡ true → take n m ≡ take n m ++ gap u []
-space-none m n u e = rw (not-true u e) (sym (append-nil (take n m)))
-
-pub space-stays : (n : ℕ) (u : Bool) → not u ≡ true → n ≡ n + length (gap u [])
-space-stays n u e = rw (not-true u e) (omega arith)
-
-module _ (m : List ℕ) (n : ℕ) (u : Bool) (e : not u ≡ false) (h : n + length (gap u []) ≤ 5120) where
-  pub space-room : n < 5120
-  space-room = omega (arith, h, ap (λ (y : Bool). length (gap y [])) (not-false u e))
-
-  pub space-written : length m ≡ 5120 → take (n + 1) (set m n 32) ≡ take n m ++ gap u []
-  space-written l = rw (not-false u e, add-one n) (take-suc-set m n 32 (omega (arith, space-room)))
-
-pub space-place : (n : ℕ) (u : Bool) → not u ≡ false → n + 1 ≡ n + length (gap u [])
-space-place n u e = rw (not-false u e) (omega arith)
-
--- of the `count` octets of a number the last k are left to be written at a place
-pub record Putting (word count n : ℕ) (m₀ : List ℕ) (w k at : ℕ) (m : List ℕ) : Type 0 where
+-- ---- put_octets
+-- of the `count` octets of a number, written from a place n on, those from a place `at` on are left to be written
+pub record Putting (word count n : ℕ) (m₀ : List ℕ) (w at : ℕ) (m : List ℕ) : Type 0 where
   pub long : length m ≡ 5120
-  pub rest : at + k ≡ n + count
-  pub start : take at m ++ unpacked w k ≡ take n m₀ ++ unpacked word count
+  pub start : take at m ++ unpacked w (n + count - at) ≡ take n m₀ ++ unpacked word count
 
-pub put-start : (word count n : ℕ) (m : List ℕ) → length m ≡ 5120 → Putting word count n m word count n m
-put-start word count n m l = record { long = l; rest = refl; start = refl }
-
-module _ (word count n : ℕ) (m₀ : List ℕ) (w k at : ℕ) (m : List ℕ) (v : Putting word count n m₀ w k at m) where
-  pub put-long : length m ≡ 5120
-  put-long = v.long
-
-  pub put-place : k ≤ 0 → at ≡ n + count
-  put-place h = omega (arith, v.rest)
-
-  pub put-end : k ≤ 0 → take at m ≡ take n m₀ ++ unpacked word count
+module _ (word count n : ℕ) (m₀ : List ℕ) (w at : ℕ) (m : List ℕ) (v : Putting word count n m₀ w at m) where
+  pub put-end : at ≡ n + count → take (n + count) m ≡ take n m₀ ++ unpacked word count
   unfolding unpacked
-  put-end h = let z : k ≡ 0 = omega arith in sym (append-nil (take at m)) ∙ ap (λ (y : ℕ). take at m ++ unpacked w y) (sym z) ∙ v.start
+  put-end e =
+      let z : n + count - at ≡ 0 = omega arith in
+      ap (λ (y : ℕ). take y m) (sym e) ∙ sym (append-nil (take at m)) ∙ ap (λ (y : ℕ). take at m ++ unpacked w y) (sym z) ∙ v.start
 
-  module _ (h : 0 < k) (room : n + count ≤ 5120) where
-    pub put-room : at < 5120
-    put-room = omega (arith, v.rest)
-
-    pub put-more : Putting word count n m₀ (w / 256) (k - 1) (at + 1) (set m at (w % 256))
-    put-more = record {
-      long = length-set m at (w % 256) ∙ v.long;
-      rest = omega (arith, v.rest);
-      start = rw (
-        add-one at,
-        take-suc-set m at (w % 256) (omega (arith, put-room, v.long)),
-        append_assoc (take at m) (w % 256 ∷ [])
-            (unpacked (w / 256) (k - 1)),
-      )
-          (ap (λ (l : List ℕ). take at m ++ l) (sym (unpacked-more w k h)) ∙ v.start);
-    }
+  pub put-more : at < n + count → n + count ≤ 5120 → Putting word count n m₀ (w / 256) (at + 1) (set m at (w % 256))
+  put-more h room = record {
+    long = length-set m at (w % 256) ∙ v.long;
+    start =
+        let e : n + count - (at + 1) ≡ n + count - at - 1 = omega arith in
+        rw (
+          e,
+          add-one at,
+          take-suc-set m at (w % 256) (omega (arith, v.long)),
+          append_assoc (take at m) (w % 256 ∷ []) (unpacked (w / 256) (n + count - at - 1)),
+        )
+        (ap (λ (l : List ℕ). take at m ++ l) (sym (unpacked-more w (n + count - at) (omega arith))) ∙ v.start);
+  }
 
 -- ---- prepare_behind: behind what stood in the memory m₀ up to `from`, octets of the prepared string stand up to n, the rest is to come from a place on
 pub record Preparing (fold : Bool) (form : Form) (p : List ℕ) (from : ℕ) (m₀ : List ℕ) (at : ℕ) (b : Before) (n : ℕ) (m : List ℕ) : Type 0 where
@@ -420,49 +379,53 @@ module _ (fold : Bool) (form : Form) (p : List ℕ) (from : ℕ) (m₀ : List �
   pub prepare_long : length m ≡ 5120
   prepare_long = v.long
 
-  module _ (r : Found) (told : report_found fold form p r ≡ rest_at fold form p at b) where
-    none_left : r ≡ Found.End → rest_at fold form p at b ≡ []
+  module _ (r : Option Found) (told : report_found fold form p r ≡ rest_at fold form p at b) where
+    none_left : r ≡ None → rest_at fold form p at b ≡ []
     none_left e = sym told ∙ ap (report_found fold form p) e
 
-    pub prepare_end : r ≡ Found.End → take n m ≡ take from m₀ ++ prepared fold (octets_of form p)
+    pub prepare_end : r ≡ None → take n m ≡ take from m₀ ++ prepared fold (octets_of form p)
     prepare_end e = sym (append-nil (take n m)) ∙ ap (λ (l : List ℕ). take n m ++ l) (sym (none_left e)) ∙ v.start
 
-    pub prepare_place : r ≡ Found.End → n ≡ from + length (prepared fold (octets_of form p))
+    pub prepare_place : r ≡ None → n ≡ from + length (prepared fold (octets_of form p))
     prepare_place e = omega (arith, v.count, ap length (none_left e))
 
-    pub prepare_most : r ≡ Found.End → 2 * n ≤ 2 * from + 5 * length p
+    pub prepare_most : r ≡ None → 2 * n ≤ 2 * from + 5 * length p
     prepare_most e = omega (arith, prepare_place e, prepared-length fold form p)
 
-    module _ (u : Bool) (o : Octets) (after : ℕ) (e : r ≡ Found.At u o after) where
-      next_is : rest_at fold form p at b ≡ gap u [] ++ (unpacked o.word o.count ++ rest_at fold form p after Before.Character)
-      next_is = sym told ∙ ap (report_found fold form p) e ∙ sym (gap-append u (unpacked o.word o.count ++ rest_at fold form p after Before.Character))
+    module _ (f : Found) (e : r ≡ Some f) where
+      abbrev image_octets : List ℕ
+      image_octets = unpacked f.octets.word f.octets.count
 
-      long-is : length (rest_at fold form p at b) ≡ length (gap u []) + (o.count + length (rest_at fold form p after Before.Character))
+      abbrev rest_after : List ℕ
+      rest_after = rest_at fold form p f.after Before.Character
+
+      next_is : rest_at fold form p at b ≡ gap f.space [] ++ (image_octets ++ rest_after)
+      next_is = sym told ∙ ap (report_found fold form p) e ∙ sym (gap-append f.space (image_octets ++ rest_after))
+
+      long-is : length (rest_at fold form p at b) ≡ length (gap f.space []) + (f.octets.count + length rest_after)
       long-is =
-          ap length next_is ∙ length-append (gap u []) (unpacked o.word o.count ++ rest_at fold form p after Before.Character)
-          ∙ ap (λ (y : ℕ). length (gap u []) + y) (length-append (unpacked o.word o.count) (rest_at fold form p after Before.Character)
-          ∙ ap (λ (y : ℕ). y + length (rest_at fold form p after Before.Character)) (unpacked-length o.word o.count))
+          ap length next_is ∙ length-append (gap f.space []) (image_octets ++ rest_after)
+          ∙ ap (λ (y : ℕ). length (gap f.space []) + y) (length-append image_octets rest_after
+          ∙ ap (λ (y : ℕ). y + length rest_after) (unpacked-length f.octets.word f.octets.count))
 
       module _ (short : 2 * from + 5 * length p ≤ 10240) where
-        pub prepare_space : n + length (gap u []) ≤ 5120
+        pub prepare_space : n + length (gap f.space []) ≤ 5120
         prepare_space = omega (arith, long-is, v.count, prepared-length fold form p)
 
-        pub prepare_octets : (start : ℕ) → start ≡ n + length (gap u []) → start + o.count ≤ 5120
+        pub prepare_octets : (start : ℕ) → start ≡ n + length (gap f.space []) → start + f.octets.count ≤ 5120
         prepare_octets start place = omega (arith, long-is, v.count, prepared-length fold form p)
 
-      pub prepare_more : (start : ℕ) (m₁ m₂ : List ℕ) (end : ℕ) → start ≡ n + length (gap u []) → take start m₁ ≡ take n m ++ gap u []
-          → take end m₂ ≡ take start m₁ ++ unpacked o.word o.count → end ≡ start + o.count → length m₂ ≡ 5120
-          → Preparing fold form p from m₀ after Before.Character end m₂
-      prepare_more start m₁ m₂ end place f g q l = record {
+      pub prepare_more : (start : ℕ) (m₁ m₂ : List ℕ) (end : ℕ) → start ≡ n + length (gap f.space []) → take start m₁ ≡ take n m ++ gap f.space []
+          → take end m₂ ≡ take start m₁ ++ image_octets → end ≡ start + f.octets.count → length m₂ ≡ 5120
+          → Preparing fold form p from m₀ f.after Before.Character end m₂
+      prepare_more start m₁ m₂ end place x g q l = record {
         long = l;
         count = omega (arith, long-is, v.count);
-        start = ap (λ (y : List ℕ). y ++ rest_at fold form p after Before.Character) (g ∙ ap (λ (y : List ℕ). y ++ unpacked o.word o.count) f)
-            ∙ append_assoc (take n m ++ gap u []) (unpacked o.word o.count) (rest_at fold form p after Before.Character)
-            ∙ append_assoc (take n m) (gap u []) (unpacked o.word o.count ++ rest_at fold form p after Before.Character)
+        start = ap (λ (y : List ℕ). y ++ rest_after) (g ∙ ap (λ (y : List ℕ). y ++ image_octets) x)
+            ∙ append_assoc (take n m ++ gap f.space []) image_octets rest_after
+            ∙ append_assoc (take n m) (gap f.space []) (image_octets ++ rest_after)
             ∙ ap (λ (y : List ℕ). take n m ++ y) (sym next_is) ∙ v.start;
       }
 
-pub prepare_falls : (form : Form) (p : List ℕ) (at : ℕ) (r : Found) (u : Bool) (o : Octets) (after : ℕ) → r ≡ Found.At u o after → Further form p at r
-    → left form p after < left form p at
-prepare_falls form p at Found.End u o after e f = absurd (let z : ◌≡◌ {A = ℕ} 0 1 = cc in omega arith)
-prepare_falls form p at (Found.At v q k) u o after e f = let z : k ≡ after = cc in omega (arith, f, ap (left form p) z)
+pub prepare_falls : (form : Form) (p : List ℕ) (at : ℕ) (r : Option Found) (f : Found) → r ≡ Some f → Further form p at r → left form p f.after < left form p at
+prepare_falls form p at r f e h = subst (Further form p at) e h

@@ -1,26 +1,25 @@
 -- Quoted strings and characters: one lemma for each return; its premises are the facts as the code has them.
+use Rattle.std.specs.Prelude.{Option}
 use mathlib.Core.Path.{◌≡◌, refl, sym, ap, ap₂, ◌∙◌}
-use mathlib.Core.Bool.{Bool, true, false, not, false≢true}
+use mathlib.Core.Bool.{Bool, true, false, false≢true}
 use Rattle.std.specs.Prelude.{None, Some}
 use mathlib.Core.List.{List, [], ◌∷◌}
 use Prim.Native.Nat.{ℕ, ◌≤◌, ◌<◌, ◌+◌, ◌-◌, ◌*◌}
 use native.Mathlib.Omega.{arith}
 use borrow.Author.Tests.{eq-eqb, ne_eqb, eqb-true, eqb-false}
 use lib.Dec.{eqb}
-use lib.ListN.{length, length-take, drop}
+use lib.ListN.{length, drop}
 use Rattle.octets.specs.Pick.{pick, both, no, is_some}
 use Rattle.octets.specs.Octets.{octet, part}
-use Rattle.octets.specs.Text.{is_digit, is_hex, hex_value, lower}
+use Rattle.octets.specs.Text.{is_digit, is_hex, hex_value}
 use Rattle.octets.specs.Quoted.{closing_at, undoubled, unquoted}
 use Rattle.octets.specs.Inner.Answers as answers
-use Rattle.octets.specs.declared.Place.{Place}
-use Rattle.octets.proofs.Laws.{rest-cons, rest-none, rest-length}
+use Rattle.octets.proofs.Laws.{rest-cons, rest-none}
 use Rattle.octets.proofs.QuotedLaws.{undoubled-nil, undoubled-one, undoubled-two, undoubled-other, unquoted-none, unquoted_longer, unquoted-whole}
 use Rattle.strings.specs.Asserted.{text_or, asserted_text}
-use Rattle.strings.specs.Inner.Comparing.{octets_of, is_itself, report_octet, fold_octet}
+use Rattle.strings.specs.Inner.Comparing.{octets_of, is_itself, report_octet}
 use Rattle.strings.specs.Inner.Escaped.{unescaped_at, unescaped}
 use Rattle.strings.specs.declared.Form.{Form}
-use Rattle.strings.specs.declared.Letter.{Letter}
 
 -- ---- what stands between the quotes
 text-none : (t : List ℕ) → unquoted t ≡ None → [] ≡ asserted_text t
@@ -30,13 +29,13 @@ text-none t e = rw e
 nothing : (t p : List ℕ) → p ≡ part t 0 0 → unquoted t ≡ None → undoubled p ≡ asserted_text t
 nothing t p e h = ap undoubled e ∙ undoubled-nil ∙ text-none t h
 
-module _ (t p : List ℕ) (r : Place) (told : answers.report_place r ≡ closing_at t 0) where
-  pub part_unclosed : r ≡ Place.Nowhere → p ≡ part t 0 0 → undoubled p ≡ asserted_text t
-  part_unclosed h e = nothing t p e (unquoted-none t (sym told ∙ ap answers.report_place h))
+module _ (t p : List ℕ) (r : Option ℕ) (told : r ≡ closing_at t 0) where
+  pub part_unclosed : r ≡ None → p ≡ part t 0 0 → undoubled p ≡ asserted_text t
+  part_unclosed h e = nothing t p e (unquoted-none t (sym told ∙ h))
 
-  module _ (close : ℕ) (h : r ≡ Place.At close) where
+  module _ (close : ℕ) (h : r ≡ Some close) where
     closed : closing_at t 0 ≡ Some close
-    closed = sym told ∙ ap answers.report_place h
+    closed = sym told ∙ h
 
     pub part-past : length t ≤ close → p ≡ part t 0 0 → undoubled p ≡ asserted_text t
     part-past l e = nothing t p e (unquoted_longer t close closed (λ q. omega arith))
@@ -57,13 +56,13 @@ module _ (t p : List ℕ) (r : Place) (told : answers.report_place r ≡ closing
         part-is e = ap undoubled e ∙ whole
 
 -- whether there are any
-module _ (t : List ℕ) (r : Place) (told : answers.report_place r ≡ closing_at t 0) where
-  pub is_unclosed : r ≡ Place.Nowhere → false ≡ is_some (unquoted t)
-  is_unclosed h = rw (unquoted-none t (sym told ∙ ap answers.report_place h))
+module _ (t : List ℕ) (r : Option ℕ) (told : r ≡ closing_at t 0) where
+  pub is_unclosed : r ≡ None → false ≡ is_some (unquoted t)
+  is_unclosed h = rw (unquoted-none t (sym told ∙ h))
 
-  module _ (close : ℕ) (h : r ≡ Place.At close) where
+  module _ (close : ℕ) (h : r ≡ Some close) where
     is-closed : closing_at t 0 ≡ Some close
-    is-closed = sym told ∙ ap answers.report_place h
+    is-closed = sym told ∙ h
 
     pub is-past : length t ≤ close → false ≡ is_some (unquoted t)
     is-past l = rw (unquoted_longer t close is-closed (λ q. omega arith))
@@ -74,9 +73,6 @@ module _ (t : List ℕ) (r : Place) (told : answers.report_place r ≡ closing_a
         go : (u : Bool) → eqb (length t - close) 1 ≡ u → u ≡ is_some (unquoted t)
         go true e = let q : close + 1 ≡ length t = omega (arith, eqb-true (length t - close) 1 e) in rw (unquoted-whole t close is-closed q)
         go false e = rw (unquoted_longer t close is-closed (λ q. eqb-false (length t - close) 1 e (omega arith)))
-
-pub part-short : (t p : List ℕ) (at n : ℕ) → p ≡ part t at n → length p ≤ length t
-part-short t p at n e = omega (arith, ap length e, length-take n (drop at t), rest-length t at)
 
 -- ---- octets of a quoted string
 module _ (s : List ℕ) (at : ℕ) (h : at < length s) where
@@ -177,12 +173,9 @@ module _ (s : List ℕ) (at : ℕ) (here : at + 2 < length s) (backslash : octet
     pub pair-other : u ≡ false → octet s (at + 1) ∷ unescaped (drop (at + 2) s) ≡ unescaped (drop at s)
     pair-other n = rw (ne_eqb c 34 e, sym told ∙ n) at (sym three)
 
-pub pair_told : (c d : ℕ) (u : Bool) → u ≡ both (is_hex c) (is_hex d) → u ≡ true → both (is_hex c) (is_hex d) ≡ true
-pair_told c d u told e = sym told ∙ e
-
 -- ---- octets of a string of a form
 module _ (s : List ℕ) (form : Form) (at : ℕ) where
-  pub octet-end : length s ≤ at → report_octet form s Letter.End ≡ octets_of form (drop at s)
+  pub octet-end : length s ≤ at → report_octet form s None ≡ octets_of form (drop at s)
   octet-end h = sym (ap (octets_of form) (rest-none s at h) ∙ go form)
     where
       go : (f : Form) → octets_of f [] ≡ []
@@ -190,44 +183,14 @@ module _ (s : List ℕ) (form : Form) (at : ℕ) where
       go Form.Quoted = undoubled-nil
       go Form.Escaped = unescaped-nil
 
-  pub octet-stored : at < length s → form ≡ Form.Stored → report_octet form s (Letter.Got (octet s at) (at + 1)) ≡ octets_of form (drop at s)
-  octet-stored h e = rw e (sym (rest-cons s at h))
-
-  pub octet-quoted : (r : Letter) → form ≡ Form.Quoted → report_octet Form.Quoted s r ≡ undoubled (drop at s) → report_octet form s r ≡ octets_of form (drop at s)
-  octet-quoted r e q = rw e q
-
-  pub octet-escaped : (r : Letter) → form ≡ Form.Escaped → report_octet Form.Escaped s r ≡ unescaped (drop at s) → report_octet form s r ≡ octets_of form (drop at s)
-  octet-escaped r e q = rw e q
-
   pub octet-itself : (u : Bool) → at < length s → u ≡ is_itself form (octet s at) → u ≡ true
-      → report_octet form s (Letter.Got (octet s at) (at + 1)) ≡ octets_of form (drop at s)
+      → report_octet form s (Some (octet s at, at + 1)) ≡ octets_of form (drop at s)
   octet-itself u h told e = go form (sym told ∙ e)
     where
       other : (b k : ℕ) → no (eqb b k) ≡ true → b ≡ k → ⊥
       other b k q f = false≢true (sym (ap no (eq-eqb b k f)) ∙ q)
 
-      go : (f : Form) → is_itself f (octet s at) ≡ true → report_octet f s (Letter.Got (octet s at) (at + 1)) ≡ octets_of f (drop at s)
+      go : (f : Form) → is_itself f (octet s at) ≡ true → report_octet f s (Some (octet s at, at + 1)) ≡ octets_of f (drop at s)
       go Form.Stored q = sym (rest-cons s at h)
       go Form.Quoted q = quoted-other s at h (other (octet s at) 34 q)
       go Form.Escaped q = escaped-other s at h (other (octet s at) 92 q)
-
-pub not_no : (u : Bool) → not u ≡ no u
-not_no true = refl
-not_no false = refl
-
-module _ (form : Form) (b : ℕ) where
-  pub itself-stored : form ≡ Form.Stored → true ≡ is_itself form b
-  itself-stored e = rw e
-
-  pub itself-quoted : form ≡ Form.Quoted → not (eqb b 34) ≡ is_itself form b
-  itself-quoted e = rw e (not_no (eqb b 34))
-
-  pub itself-escaped : form ≡ Form.Escaped → not (eqb b 92) ≡ is_itself form b
-  itself-escaped e = rw e (not_no (eqb b 92))
-
--- ---- folding
-pub fold_lower : (fold : Bool) (b r : ℕ) → fold ≡ true → r ≡ lower b → r ≡ fold_octet fold b
-fold_lower fold b r h e = rw h e
-
-pub fold_exact : (fold : Bool) (b : ℕ) → fold ≡ false → b ≡ fold_octet fold b
-fold_exact fold b h = rw h

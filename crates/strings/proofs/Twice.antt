@@ -1,4 +1,5 @@
 -- A prepared string prepared again: it is the same exactly where no space stands first, last or behind another; and so it is where NFKC put no space.
+use Rattle.std.specs.Prelude.{Option, Some, None}
 use mathlib.Core.Path.{◌≡◌, refl, sym, ap, ap₂, ◌∙◌, subst}
 use mathlib.Core.Bool.{Bool, true, false, false≢true}
 use mathlib.Core.List.{List, [], ◌∷◌, ◌++◌, append_assoc, append-nil, map}
@@ -9,7 +10,6 @@ use lib.Dec.{ltb, leb, eqb}
 use Rattle.octets.specs.Pick.{pick, both, no, all}
 use Rattle.octets.specs.Text.{within, is_upper, lower}
 use Rattle.octets.specs.Utf8.{awaits, after_first, after, utf8_from, utf8}
-use Rattle.octets.specs.declared.Awaiting.{Awaiting}
 use Rattle.octets.proofs.Laws.{all-at, both_true}
 use Rattle.strings.specs.Images.{Mark, blank, shown, table, image_in, encoded, all_encoded, marks, image}
 use Rattle.strings.specs.Prepared.{is_pair, pair_number, images, after_space, spaced, joined, prepared}
@@ -270,23 +270,23 @@ module _ (fold : Bool) (s : List ℕ) (whole : is_whole s ≡ true) where
   none_kept_twice e = prepared_twice (even_joined Before.Nothing (images fold s) e)
 
 -- ---- valid UTF-8 is whole
-broken-never : (s : List ℕ) → utf8_from Awaiting.Broken s ≡ true → ⊥
+broken-never : (s : List ℕ) → utf8_from None s ≡ true → ⊥
 unfolding utf8_from after
 broken-never [] e = false≢true e
 broken-never (b ∷ s) e = broken-never s e
 
 -- octets after the first of a character are 80 to BF
-abbrev Tail : Awaiting → Type 0
-Tail Awaiting.Broken = 0 ≤ 0
-Tail (Awaiting.Tails n least most) = (0x80 ≤ least) × (most ≤ 0xBF)
+abbrev Tail : Option (ℕ × ℕ × ℕ) → Type 0
+Tail None = 0 ≤ 0
+Tail (Some (n, least, most)) = (0x80 ≤ least) × (most ≤ 0xBF)
 
 first_tail : (b : ℕ) → Tail (after_first b)
 unfolding after_first
 first_tail b = go (ltb b 128) (ltb b 194) (ltb b 224) (eqb b 224) (eqb b 237) (ltb b 240) (eqb b 240) (ltb b 244) (eqb b 244)
   where
     go : (a c d e f g h i j : Bool)
-        → Tail (pick a (awaits 0) (pick c Awaiting.Broken (pick d (awaits 1) (pick e (Awaiting.Tails 2 160 191) (pick f (Awaiting.Tails 2 128 159)
-        (pick g (awaits 2) (pick h (Awaiting.Tails 3 144 191) (pick i (awaits 3) (pick j (Awaiting.Tails 3 128 143) Awaiting.Broken)))))))))
+        → Tail (pick a (awaits 0) (pick c None (pick d (awaits 1) (pick e (Some (2, 160, 191)) (pick f (Some (2, 128, 159))
+        (pick g (awaits 2) (pick h (Some (3, 144, 191)) (pick i (awaits 3) (pick j (Some (3, 128, 143)) None)))))))))
     go true c d e f g h i j = (omega arith, omega arith)
     go false true d e f g h i j = omega arith
     go false false true e f g h i j = (omega arith, omega arith)
@@ -298,12 +298,12 @@ first_tail b = go (ltb b 128) (ltb b 194) (ltb b 224) (eqb b 224) (eqb b 237) (l
     go false false false false false false false false true = (omega arith, omega arith)
     go false false false false false false false false false = omega arith
 
-after_tail : (a : Awaiting) (b : ℕ) → Tail (after a b)
+after_tail : (a : Option (ℕ × ℕ × ℕ)) (b : ℕ) → Tail (after a b)
 unfolding after
-after_tail Awaiting.Broken b = omega arith
-after_tail (Awaiting.Tails n least most) b = go (eqb n 0) (within least most b) (first_tail b)
+after_tail None b = omega arith
+after_tail (Some (n, least, most)) b = go (eqb n 0) (within least most b) (first_tail b)
   where
-    go : (u v : Bool) → Tail (after_first b) → Tail (pick u (after_first b) (pick v (awaits (n - 1)) Awaiting.Broken))
+    go : (u v : Bool) → Tail (after_first b) → Tail (pick u (after_first b) (pick v (awaits (n - 1)) None))
     go true v h = h
     go false true h = (omega arith, omega arith)
     go false false h = omega arith
@@ -317,14 +317,14 @@ lead-first b e =
     let m = leb-true b 0xC5 w.1 in
     rw (le-ltb b 128 (omega arith), le-ltb b 194 (omega arith), lt-ltb b 224 (omega arith))
 
-lead_next : (a : Awaiting) (b : ℕ) (s : List ℕ) → Tail a → within 0xC2 0xC5 b ≡ true → utf8_from (after a b) s ≡ true → utf8_from (awaits 1) s ≡ true
+lead_next : (a : Option (ℕ × ℕ × ℕ)) (b : ℕ) (s : List ℕ) → Tail a → within 0xC2 0xC5 b ≡ true → utf8_from (after a b) s ≡ true → utf8_from (awaits 1) s ≡ true
 unfolding after
-lead_next Awaiting.Broken b s h e f = absurd (broken-never s f)
-lead_next (Awaiting.Tails n least most) b s h e f = go (eqb n 0) (within least most b) refl f
+lead_next None b s h e f = absurd (broken-never s f)
+lead_next (Some (n, least, most)) b s h e f = go (eqb n 0) (within least most b) refl f
   where
-    go : (u v : Bool) → within least most b ≡ v → utf8_from (pick u (after_first b) (pick v (awaits (n - 1)) Awaiting.Broken)) s ≡ true
+    go : (u v : Bool) → within least most b ≡ v → utf8_from (pick u (after_first b) (pick v (awaits (n - 1)) None)) s ≡ true
         → utf8_from (awaits 1) s ≡ true
-    go true v q f = ap (λ (y : Awaiting). utf8_from y s) (sym (lead-first b e)) ∙ f
+    go true v q f = ap (λ (y : Option (ℕ × ℕ × ℕ)). utf8_from y s) (sym (lead-first b e)) ∙ f
     go false true q f =
         let w = both_true (leb 0xC2 b) (leb b 0xC5) e in
         let l = leb-true 0xC2 b w.0 in
@@ -338,11 +338,11 @@ lead-pair : (a b : ℕ) (s : List ℕ) → within 0xC2 0xC5 a ≡ true → utf8_
 unfolding utf8_from after
 lead-pair a b s e f = rw e (go (within 128 191 b) f)
   where
-    go : (v : Bool) → utf8_from (pick v (awaits 0) Awaiting.Broken) s ≡ true → v ≡ true
+    go : (v : Bool) → utf8_from (pick v (awaits 0) None) s ≡ true → v ≡ true
     go true f = refl
     go false f = absurd (broken-never s f)
 
-whole_from : (st : Awaiting) (s : List ℕ) → Tail st → utf8_from st s ≡ true → is_whole s ≡ true
+whole_from : (st : Option (ℕ × ℕ × ℕ)) (s : List ℕ) → Tail st → utf8_from st s ≡ true → is_whole s ≡ true
 unfolding is_whole utf8_from
 whole_from st [] h e = refl
 whole_from st (a ∷ []) h e = go (within 0xC2 0xC5 a) refl

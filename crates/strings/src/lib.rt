@@ -12,7 +12,7 @@ ghost use Rattle.strings.specs.Inner.Comparing as inner;
 ghost use Rattle.strings.specs.Inner.Escaped.{unescaped};
 ghost use Rattle.strings.specs.declared.Form.{Form};
 
-use octets::Place;
+use std::ops::ControlFlow;
 
 // How a string stands: stored; between quotes, two quotes for one; or there with escapes too (RFC 4514).
 #[derive(Clone, Copy)]
@@ -51,11 +51,12 @@ pub struct Piece {
     pub after: usize,
 }
 
-// The next image of a string that has octets: whether a space comes before it, its octets, and the place after its character; or the string's end.
+// The next image of a string that has octets: whether a space comes before it, its octets, and the place after its character.
 #[derive(Clone, Copy)]
-pub enum Found {
-    At(bool, Octets, usize),
-    End,
+pub struct Found {
+    pub space: bool,
+    pub octets: Octets,
+    pub after: usize,
 }
 
 // A stored string beside other octets: a place in each, and the octets of an image that come before what stands at the place in the string.
@@ -67,27 +68,13 @@ pub struct Sides {
     pub count: usize,
 }
 
-// What two sides come to: others, or whether they are the same.
-#[derive(Clone, Copy)]
-pub enum Turn {
-    On(Sides),
-    Ended(bool),
-}
-
-// An octet of a string and the place after it, or its end.
-#[derive(Clone, Copy)]
-pub enum Letter {
-    Got(u8, usize),
-    End,
-}
-
 // ---- quoted strings
 // What stands between the quotes of a text that is one quoted string; of any other text, nothing.
 pub fn quoted_part(t: &[u8]) -> &[u8]
     ensures characters { undoubled result.now ≡ asserted.asserted_text t.now }
     ensures short { length result.now ≤ length t.now }
 {
-    let Place::At(close) = octets::closing_at(t, 0) else {
+    let Some(close) = octets::closing_at(t, 0) else {
         return octets::part(t, 0, 0);
     };
     if t.len() <= close {
@@ -106,13 +93,10 @@ pub fn quoted_part(t: &[u8]) -> &[u8]
 pub fn is_quoted(t: &[u8]) -> bool
     ensures { result ≡ is_some (unquoted t.now) }
 {
-    let Place::At(close) = octets::closing_at(t, 0) else {
+    let Some(close) = octets::closing_at(t, 0) else {
         return false;
     };
-    if t.len() <= close {
-        return false;
-    }
-    t.len() - close == 1
+    close < t.len() && t.len() - close == 1
 }
 
 // Whether a value text conforms: one quoted string of at least one character.
@@ -124,68 +108,68 @@ pub fn is_text(t: &[u8]) -> bool
 }
 
 // ---- octets of a string
-// The octet at a place of a quoted string, where two quotes are one.
-fn quoted_octet(s: &[u8], at: usize) -> Letter
+// The octet at a place of a quoted string, where two quotes are one, and the place after it.
+fn quoted_octet(s: &[u8], at: usize) -> Option<(u8, usize)>
     requires { at < length s.now }
     ensures { inner.report_octet Form.Quoted s.now result ≡ undoubled (drop at s.now) }
 {
-    if s[at] != 34 {
-        return Letter::Got(s[at], at + 1);
+    if s[at] != b'"' {
+        return Some((s[at], at + 1));
     }
     if s.len() - at < 2 {
-        return Letter::Got(34, at + 1);
+        return Some((b'"', at + 1));
     }
-    if s[at + 1] != 34 {
-        return Letter::Got(34, at + 1);
+    if s[at + 1] != b'"' {
+        return Some((b'"', at + 1));
     }
-    Letter::Got(34, at + 2)
+    Some((b'"', at + 2))
 }
 
 // The octet behind a backslash at a place of an escaped string: what three octets, the backslash among them, stand for.
-fn pair_octet(s: &[u8], at: usize) -> Letter
+fn pair_octet(s: &[u8], at: usize) -> Option<(u8, usize)>
     requires here { at + 2 < length s.now }
     requires backslash { octet s.now at ≡ 92 }
     ensures { inner.report_octet Form.Escaped s.now result ≡ unescaped (drop at s.now) }
 {
     let c = s[at + 1];
     let d = s[at + 2];
-    if c == 34 {
-        if d == 34 {
-            return Letter::Got(34, at + 3);
+    if c == b'"' {
+        if d == b'"' {
+            return Some((b'"', at + 3));
         }
-        return Letter::Got(34, at + 2);
+        return Some((b'"', at + 2));
     }
     if octets::is_hex_pair(c, d) {
-        return Letter::Got(octets::hex_octet(c, d), at + 3);
+        return Some((octets::hex_octet(c, d), at + 3));
     }
-    Letter::Got(c, at + 2)
+    Some((c, at + 2))
 }
 
-fn escaped_octet(s: &[u8], at: usize) -> Letter
+fn escaped_octet(s: &[u8], at: usize) -> Option<(u8, usize)>
     requires { at < length s.now }
     ensures { inner.report_octet Form.Escaped s.now result ≡ unescaped (drop at s.now) }
 {
-    if s[at] != 92 {
-        return Letter::Got(s[at], at + 1);
+    if s[at] != b'\\' {
+        return Some((s[at], at + 1));
     }
     if s.len() - at == 1 {
-        return Letter::Got(92, at + 1);
+        return Some((b'\\', at + 1));
     }
     if s.len() - at == 2 {
-        return Letter::Got(s[at + 1], at + 2);
+        return Some((s[at + 1], at + 2));
     }
     pair_octet(s, at)
 }
 
 // The octet at a place of a string of a form.
-fn read_octet(s: &[u8], form: Form, at: usize) -> Letter
+fn read_octet(s: &[u8], form: Form, at: usize) -> Option<(u8, usize)>
     ensures { inner.report_octet form s.now result ≡ inner.octets_of form (drop at s.now) }
 {
     if s.len() <= at {
-        return Letter::End;
+        return None;
     }
     match form {
-        Form::Stored => Letter::Got(s[at], at + 1),
+        Form::Stored => Some((s[at], at + 1)),
         Form::Quoted => quoted_octet(s, at),
         Form::Escaped => escaped_octet(s, at),
     }
@@ -197,21 +181,21 @@ fn is_itself(form: Form, b: u8) -> bool
 {
     match form {
         Form::Stored => true,
-        Form::Quoted => b != 34,
-        Form::Escaped => b != 92,
+        Form::Quoted => b != b'"',
+        Form::Escaped => b != b'\\',
     }
 }
 
 // The octet at a place of a string of a form; most stand for themselves.
-fn read_letter(s: &[u8], form: Form, at: usize) -> Letter
+fn read_letter(s: &[u8], form: Form, at: usize) -> Option<(u8, usize)>
     ensures { inner.report_octet form s.now result ≡ inner.octets_of form (drop at s.now) }
 {
     if s.len() <= at {
-        return Letter::End;
+        return None;
     }
     let b = s[at];
     if is_itself(form, b) {
-        return Letter::Got(b, at + 1);
+        return Some((b, at + 1));
     }
     read_octet(s, form, at)
 }
@@ -237,7 +221,7 @@ fn single(b: u8) -> Shape
     ensures shape { result ≡ shapes.single b }
     ensures octet { b ≤ 255 }
 {
-    several(octets::wide64(b), 1)
+    several(u64::from(b), 1)
 }
 
 // The two octets of a character below U+0800.
@@ -258,13 +242,14 @@ fn control_shape(b: u8) -> Shape
 }
 
 // Up to U+007F.
+#[tactic(auto, using(octets::proofs::Tests::tests), unfolding(crate::specs::Inner::Shapes::low_shape))]
 fn low_shape(b: u8, fold: bool) -> Shape
     ensures { result ≡ shapes.low_shape fold b }
 {
-    if b == 32 {
+    if b == b' ' {
         return Shape::Blank;
     }
-    if b < 32 {
+    if b < b' ' {
         return control_shape(b);
     }
     if b == 127 {
@@ -274,64 +259,43 @@ fn low_shape(b: u8, fold: bool) -> Shape
 }
 
 // Accents that stand alone, and fractions.
+#[tactic(auto, using(octets::proofs::Tests::tests), unfolding(crate::specs::Inner::Shapes::mark_shape))]
 fn mark_shape(c: u64) -> Shape
     requires { c < 2048 }
     ensures { result ≡ shapes.mark_shape c }
 {
-    if c == 0xA8 {
-        return several(0x88CC20, 3);
+    match c {
+        0xA8 => several(0x88CC20, 3),
+        0xAF => several(0x84CC20, 3),
+        0xB4 => several(0x81CC20, 3),
+        0xB8 => several(0xA7CC20, 3),
+        0xBC => several(0x348481E231, 5),
+        0xBD => several(0x328481E231, 5),
+        0xBE => several(0x348481E233, 5),
+        _ => double(c),
     }
-    if c == 0xAF {
-        return several(0x84CC20, 3);
-    }
-    if c == 0xB4 {
-        return several(0x81CC20, 3);
-    }
-    if c == 0xB8 {
-        return several(0xA7CC20, 3);
-    }
-    if c == 0xBC {
-        return several(0x348481E231, 5);
-    }
-    if c == 0xBD {
-        return several(0x328481E231, 5);
-    }
-    if c == 0xBE {
-        return several(0x348481E233, 5);
-    }
-    double(c)
 }
 
 // U+00A1 to U+00BF.
+#[tactic(auto, using(octets::proofs::Tests::tests), unfolding(crate::specs::Inner::Shapes::sign_shape))]
 fn sign_shape(c: u64) -> Shape
     requires { c < 2048 }
     ensures { result ≡ shapes.sign_shape c }
 {
-    if c == 0xAA {
-        return single(97);
+    match c {
+        0xAA => single(97),
+        0xAD => several(0, 0),
+        0xB2 => single(50),
+        0xB3 => single(51),
+        0xB5 => several(0xBCCE, 2),
+        0xB9 => single(49),
+        0xBA => single(111),
+        _ => mark_shape(c),
     }
-    if c == 0xAD {
-        return several(0, 0);
-    }
-    if c == 0xB2 {
-        return single(50);
-    }
-    if c == 0xB3 {
-        return single(51);
-    }
-    if c == 0xB5 {
-        return several(0xBCCE, 2);
-    }
-    if c == 0xB9 {
-        return single(49);
-    }
-    if c == 0xBA {
-        return single(111);
-    }
-    mark_shape(c)
 }
 
 // U+0080 to U+00BF.
+#[tactic(auto, using(octets::proofs::Tests::tests), unfolding(crate::specs::Inner::Shapes::middle_shape))]
 fn middle_shape(c: u64) -> Shape
     requires { c < 2048 }
     ensures { result ≡ shapes.middle_shape c }
@@ -349,32 +313,24 @@ fn middle_shape(c: u64) -> Shape
 }
 
 // From U+00C0 on, not folded.
+#[tactic(auto, using(octets::proofs::Tests::tests), unfolding(crate::specs::Inner::Shapes::exact_shape))]
 fn exact_shape(c: u64) -> Shape
     requires { c < 2048 }
     ensures { result ≡ shapes.exact_shape c }
 {
-    if c == 0x0132 {
-        return several(0x4A49, 2);
+    match c {
+        0x0132 => several(0x4A49, 2),
+        0x0133 => several(0x6A69, 2),
+        0x013F => several(0xB7C24C, 3),
+        0x0140 => several(0xB7C26C, 3),
+        0x0149 => several(0x6EBCCA, 3),
+        0x017F => single(115),
+        _ => double(c),
     }
-    if c == 0x0133 {
-        return several(0x6A69, 2);
-    }
-    if c == 0x013F {
-        return several(0xB7C24C, 3);
-    }
-    if c == 0x0140 {
-        return several(0xB7C26C, 3);
-    }
-    if c == 0x0149 {
-        return several(0x6EBCCA, 3);
-    }
-    if c == 0x017F {
-        return single(115);
-    }
-    double(c)
 }
 
 // Whether the small letter of a capital one comes next to it.
+#[tactic(auto, using(octets::proofs::Tests::tests), unfolding(crate::specs::Inner::Shapes::is_capital))]
 fn is_capital(c: u64) -> bool
     ensures { result ≡ shapes.is_capital c }
 {
@@ -401,29 +357,23 @@ fn paired_shape(c: u64) -> Shape
 }
 
 // From U+0100 on, folded.
+#[tactic(auto, using(octets::proofs::Tests::tests), unfolding(crate::specs::Inner::Shapes::extended_shape))]
 fn extended_shape(c: u64) -> Shape
     requires { c < 2047 }
     ensures { result ≡ shapes.extended_shape c }
 {
-    if c == 0x0130 {
-        return several(0x87CC69, 3);
+    match c {
+        0x0130 => several(0x87CC69, 3),
+        0x0132 => several(0x6A69, 2),
+        0x013F => several(0xB7C26C, 3),
+        0x0178 => several(0xBFC3, 2),
+        0x017F => single(115),
+        _ => paired_shape(c),
     }
-    if c == 0x0132 {
-        return several(0x6A69, 2);
-    }
-    if c == 0x013F {
-        return several(0xB7C26C, 3);
-    }
-    if c == 0x0178 {
-        return several(0xBFC3, 2);
-    }
-    if c == 0x017F {
-        return single(115);
-    }
-    paired_shape(c)
 }
 
 // U+00C0 to U+00FF, folded.
+#[tactic(auto, using(octets::proofs::Tests::tests), unfolding(crate::specs::Inner::Shapes::latin_shape))]
 fn latin_shape(c: u64) -> Shape
     requires { c < 2000 }
     ensures { result ≡ shapes.latin_shape c }
@@ -441,6 +391,7 @@ fn latin_shape(c: u64) -> Shape
 }
 
 // From U+0080 to U+017F.
+#[tactic(auto, using(octets::proofs::Tests::tests), unfolding(crate::specs::Inner::Shapes::high_shape, crate::specs::Inner::Shapes::folded_shape))]
 fn high_shape(c: u64, fold: bool) -> Shape
     requires { c < 2000 }
     ensures { result ≡ shapes.high_shape fold c }
@@ -461,10 +412,7 @@ fn high_shape(c: u64, fold: bool) -> Shape
 fn is_pair(a: u8, b: u8) -> bool
     ensures { result ≡ is_pair a b }
 {
-    if !octets::within(194, 197, a) {
-        return false;
-    }
-    octets::within(128, 191, b)
+    octets::within(194, 197, a) && octets::within(128, 191, b)
 }
 
 // ---- the images of a string, one after another
@@ -474,7 +422,7 @@ fn read_high(s: &[u8], form: Form, fold: bool, a: u8, after: usize) -> Piece
     ensures image { inner.report_piece fold form s.now result ≡ images fold (a ∷ inner.octets_of form (drop after s.now)) }
     ensures on { inner.left form s.now result.after ≤ inner.left form s.now after }
 {
-    let Letter::Got(b, end) = read_octet(s, form, after) else {
+    let Some((b, end)) = read_octet(s, form, after) else {
         return Piece {
             shape: single(a),
             after,
@@ -486,7 +434,7 @@ fn read_high(s: &[u8], form: Form, fold: bool, a: u8, after: usize) -> Piece
             after,
         };
     }
-    let c = (octets::wide64(a) - 192) * 64 + (octets::wide64(b) - 128);
+    let c = (u64::from(a) - 192) * 64 + (u64::from(b) - 128);
     Piece {
         shape: high_shape(c, fold),
         after: end,
@@ -513,32 +461,26 @@ fn after_space(p: Before) -> Before
 {
     match p {
         Before::Nothing => Before::Nothing,
-        Before::Character => Before::Space,
-        Before::Space => Before::Space,
+        Before::Character | Before::Space => Before::Space,
     }
 }
 
 fn is_space(p: Before) -> bool
     ensures { result ≡ inner.is_space p }
 {
-    match p {
-        Before::Space => true,
-        Before::Nothing => false,
-        Before::Character => false,
-    }
+    matches!(p, Before::Space)
 }
 
 // The next image that has octets, from a place on.
-fn next_image(s: &[u8], form: Form, fold: bool, first: usize, behind: Before) -> Found
+fn next_image(s: &[u8], form: Form, fold: bool, first: usize, behind: Before) -> Option<Found>
     ensures rest { inner.report_found fold form s.now result ≡ inner.rest_at fold form s.now first behind }
     ensures on { inner.Further form s.now first result }
 {
     let mut at = first;
     let mut before = behind;
+    // A cursor: each character says where the next one starts.
     loop {
-        let Letter::Got(b, after) = read_letter(s, form, at) else {
-            return Found::End;
-        };
+        let (b, after) = read_letter(s, form, at)?;
         let piece = read_piece(s, form, fold, b, after);
         let shape = piece.shape;
         match shape {
@@ -547,7 +489,11 @@ fn next_image(s: &[u8], form: Form, fold: bool, first: usize, behind: Before) ->
             }
             Shape::Shown(o) => {
                 if 0 < o.count {
-                    return Found::At(is_space(before), o, piece.after);
+                    return Some(Found {
+                        space: is_space(before),
+                        octets: o,
+                        after: piece.after,
+                    });
                 }
             }
         }
@@ -564,7 +510,7 @@ fn is_kept(c: &[u8], i: usize) -> bool
     if octets::within(33, 126, c[i]) {
         return true;
     }
-    if c[i] != 32 {
+    if c[i] != b' ' {
         return false;
     }
     if i == 0 {
@@ -577,19 +523,20 @@ fn is_kept(c: &[u8], i: usize) -> bool
 }
 
 // The place after an octet, if it is the one at a place, folded.
-fn after_octet(b: u8, x: &[u8], fold: bool, i: usize) -> Place
+fn after_octet(b: u8, x: &[u8], fold: bool, i: usize) -> Option<usize>
     ensures { result ≡ inner.after_first fold b i (drop i x.now) }
 {
     if x.len() <= i {
-        return Place::Nowhere;
+        return None;
     }
     if b != fold_octet(fold, x[i]) {
-        return Place::Nowhere;
+        return None;
     }
-    Place::At(i + 1)
+    Some(i + 1)
 }
 
 // What stands before a place of a string whose octets before it are kept.
+#[tactic(auto, using(octets::proofs::Tests::tests))]
 fn before_at(i: usize) -> Before
     ensures { result ≡ inner.before_at i }
 {
@@ -600,7 +547,7 @@ fn before_at(i: usize) -> Before
 }
 
 // An octet that is kept, beside the next one.
-fn kept_turn(c: &[u8], x: &[u8], fold: bool, s: Sides) -> Turn
+fn kept_turn(c: &[u8], x: &[u8], fold: bool, s: Sides) -> ControlFlow<bool, Sides>
     requires none { s.count ≤ 0 }
     requires inside { s.at < length c.now }
     requires kept { inner.is_kept s.at (drop s.at c.now) ≡ true }
@@ -608,10 +555,10 @@ fn kept_turn(c: &[u8], x: &[u8], fold: bool, s: Sides) -> Turn
     ensures on { inner.Less fold c.now s result }
 {
     let at = s.at;
-    let Place::At(next) = after_octet(fold_octet(fold, c[at]), x, fold, s.i) else {
-        return Turn::Ended(false);
+    let Some(next) = after_octet(fold_octet(fold, c[at]), x, fold, s.i) else {
+        return ControlFlow::Break(false);
     };
-    Turn::On(Sides {
+    ControlFlow::Continue(Sides {
         at: at + 1,
         i: next,
         word: 0,
@@ -620,42 +567,42 @@ fn kept_turn(c: &[u8], x: &[u8], fold: bool, s: Sides) -> Turn
 }
 
 // The next image, with its octets to come; a space before it, beside the next octet.
-fn image_turn(c: &[u8], x: &[u8], fold: bool, s: Sides) -> Turn
+fn image_turn(c: &[u8], x: &[u8], fold: bool, s: Sides) -> ControlFlow<bool, Sides>
     requires { s.count ≤ 0 }
     ensures same { inner.report_turn fold c.now x.now result ≡ inner.beside fold c.now x.now s }
     ensures on { inner.Less fold c.now s result }
 {
-    let Found::At(space, o, after) = next_image(c, Form::Stored, fold, s.at, before_at(s.at)) else {
-        return Turn::Ended(x.len() <= s.i);
+    let Some(found) = next_image(c, Form::Stored, fold, s.at, before_at(s.at)) else {
+        return ControlFlow::Break(x.len() <= s.i);
     };
-    if !space {
-        return Turn::On(Sides {
-            at: after,
+    if !found.space {
+        return ControlFlow::Continue(Sides {
+            at: found.after,
             i: s.i,
-            word: o.word,
-            count: o.count,
+            word: found.octets.word,
+            count: found.octets.count,
         });
     }
-    let Place::At(next) = after_octet(32, x, fold, s.i) else {
-        return Turn::Ended(false);
+    let Some(next) = after_octet(b' ', x, fold, s.i) else {
+        return ControlFlow::Break(false);
     };
-    Turn::On(Sides {
-        at: after,
+    ControlFlow::Continue(Sides {
+        at: found.after,
         i: next,
-        word: o.word,
-        count: o.count,
+        word: found.octets.word,
+        count: found.octets.count,
     })
 }
 
-fn next_turn(c: &[u8], x: &[u8], fold: bool, s: Sides) -> Turn
+fn next_turn(c: &[u8], x: &[u8], fold: bool, s: Sides) -> ControlFlow<bool, Sides>
     ensures same { inner.report_turn fold c.now x.now result ≡ inner.beside fold c.now x.now s }
     ensures on { inner.Less fold c.now s result }
 {
     if 0 < s.count {
-        let Place::At(next) = after_octet((s.word % 256) as u8, x, fold, s.i) else {
-            return Turn::Ended(false);
+        let Some(next) = after_octet((s.word % 256) as u8, x, fold, s.i) else {
+            return ControlFlow::Break(false);
         };
-        return Turn::On(Sides {
+        return ControlFlow::Continue(Sides {
             at: s.at,
             i: next,
             word: s.word / 256,
@@ -663,7 +610,7 @@ fn next_turn(c: &[u8], x: &[u8], fold: bool, s: Sides) -> Turn
         });
     }
     if c.len() <= s.at {
-        return Turn::Ended(x.len() <= s.i);
+        return ControlFlow::Break(x.len() <= s.i);
     }
     if is_kept(c, s.at) {
         return kept_turn(c, x, fold, s);
@@ -681,15 +628,11 @@ fn same_from(c: &[u8], x: &[u8], fold: bool, first: usize) -> bool
         word: 0,
         count: 0,
     };
+    // A cursor: each turn says where both sides go on.
     loop {
-        let turned = next_turn(c, x, fold, s);
-        match turned {
-            Turn::Ended(r) => {
-                return r;
-            }
-            Turn::On(next) => {
-                s = next;
-            }
+        match next_turn(c, x, fold, s) {
+            ControlFlow::Break(same) => return same,
+            ControlFlow::Continue(next) => s = next,
         }
     }
 }
@@ -698,31 +641,28 @@ fn same_from(c: &[u8], x: &[u8], fold: bool, first: usize) -> bool
 pub fn same_prepared(c: &[u8], x: &[u8], fold: bool) -> bool
     ensures { result ≡ same (prepared fold c.now) (inner.folded fold x.now) }
 {
-    let mut i = 0;
-    while i < c.len() {
+    for (i, b) in c.iter().enumerate() {
         if !is_kept(c, i) {
             return same_from(c, x, fold, i);
         }
-        let Place::At(next) = after_octet(fold_octet(fold, c[i]), x, fold, i) else {
+        let Some(_) = after_octet(fold_octet(fold, *b), x, fold, i) else {
             return false;
         };
-        i = next;
     }
-    x.len() <= i
+    x.len() <= c.len()
 }
 
 // Whether an octet keeps what stands between quotes from being as prepared but for folding: a quote, a control, an octet from 7F on, or a space behind another
 // or at the start.
+#[tactic(auto, using(octets::proofs::Tests::tests))]
 fn is_loose(space: bool, b: u8) -> bool
     ensures { result ≡ inner.is_loose space b }
 {
-    if b == 34 {
-        return true;
+    match b {
+        b'"' => true,
+        b' ' => space,
+        _ => !octets::within(33, 126, b),
     }
-    if b == 32 {
-        return space;
-    }
-    !octets::within(33, 126, b)
 }
 
 // Whether what stands between quotes is as prepared but for folding: no quote, no control, nothing from U+007F on, no space first, last or twice.
@@ -730,51 +670,41 @@ pub fn is_plain(p: &[u8]) -> bool
     ensures { result ≡ inner.is_plain true p.now }
 {
     let mut space = true;
-    let mut i = 0;
-    while i < p.len() {
-        let b = p[i];
-        if is_loose(space, b) {
+    for b in p {
+        if is_loose(space, *b) {
             return false;
         }
-        space = b == 32;
-        i += 1;
+        space = *b == b' ';
     }
     !space
 }
 
 // Writes a space where one is due, and answers the place after it.
 fn put_space(space: bool, n: usize, memory: &mut [u8; 5120]) -> usize
-    requires room { length memory.old ≡ 5120 }
-    requires short { n + length (inner.gap space []) ≤ 5120 }
+    requires { n + length (inner.gap space []) ≤ 5120 }
     ensures written { part memory.new 0 result ≡ part memory.old 0 n ++ inner.gap space [] }
     ensures place { result ≡ n + length (inner.gap space []) }
-    ensures room { length memory.new ≡ 5120 }
 {
     if !space {
         return n;
     }
-    memory[n] = 32;
+    memory[n] = b' ';
     n + 1
 }
 
 // Writes octets, and answers the place after them.
 fn put_octets(o: Octets, n: usize, memory: &mut [u8; 5120]) -> usize
-    requires room { length memory.old ≡ 5120 }
-    requires short { n + o.count ≤ 5120 }
+    requires { n + o.count ≤ 5120 }
     ensures written { part memory.new 0 result ≡ part memory.old 0 n ++ shapes.unpacked o.word o.count }
     ensures place { result ≡ n + o.count }
-    ensures room { length memory.new ≡ 5120 }
 {
     let mut word = o.word;
-    let mut left = o.count;
-    let mut at = n;
-    while 0 < left {
+    let end = n + o.count;
+    for at in n..end {
         memory[at] = (word % 256) as u8;
-        word = word / 256;
-        left -= 1;
-        at += 1;
+        word /= 256;
     }
-    at
+    end
 }
 
 // Writes a string as prepared behind what stands in memory up to a place, and answers the place after it.
@@ -785,33 +715,28 @@ pub fn prepare_behind(
     from: usize,
     memory: &mut [u8; 5120],
 ) -> usize
-    requires room { length memory.old ≡ 5120 }
-    requires short { 2 * from + 5 * length p.now ≤ 10240 }
+    requires { 2 * from + 5 * length p.now ≤ 10240 }
     ensures written { part memory.new 0 result ≡ part memory.old 0 from ++ prepared fold (inner.octets_of form p.now) }
     ensures place { result ≡ from + length (prepared fold (inner.octets_of form p.now)) }
     ensures most { 2 * result ≤ 2 * from + 5 * length p.now }
-    ensures room { length memory.new ≡ 5120 }
 {
     let mut at = 0;
     let mut before = Before::Nothing;
     let mut n = from;
-    loop {
-        let Found::At(space, o, after) = next_image(p, form, fold, at, before) else {
-            return n;
-        };
-        let start = put_space(space, n, memory);
-        n = put_octets(o, start, memory);
-        at = after;
+    // A cursor: each image says where the next one starts.
+    while let Some(found) = next_image(p, form, fold, at, before) {
+        let start = put_space(found.space, n, memory);
+        n = put_octets(found.octets, start, memory);
+        at = found.after;
         before = Before::Character;
     }
+    n
 }
 
 // Writes what stands between quotes as prepared, and answers its length.
 pub fn prepare(p: &[u8], fold: bool, memory: &mut [u8; 5120]) -> usize
-    requires room { length memory.old ≡ 5120 }
-    requires short { length p.now ≤ 2048 }
-    ensures written { part memory.new 0 result ≡ prepared fold (undoubled p.now) }
-    ensures room { length memory.new ≡ 5120 }
+    requires { length p.now ≤ 2048 }
+    ensures { part memory.new 0 result ≡ prepared fold (undoubled p.now) }
 {
     prepare_behind(p, Form::Quoted, fold, 0, memory)
 }

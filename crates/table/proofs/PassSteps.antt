@@ -4,13 +4,16 @@ use mathlib.Core.Bool.{Bool, true, false, not, false≢true}
 use mathlib.Core.List.{List}
 use Prim.Native.Nat.{ℕ, zero, suc, ◌≤◌, ◌<◌, ◌+◌, ◌-◌, ◌*◌, ◌%◌, ◌^◌}
 use native.Mathlib.Omega.{arith}
-use borrow.Author.Tests.{not-true, not-false, eq-eqb, ne_eqb, lt-ltb, le-ltb, lt-leb, le-leb}
+use borrow.Author.Tests.{not-true, not-false, eq-eqb, ne_eqb, lt-ltb, le-ltb, lt-leb, le-leb, ltb-true, ltb-false}
 use lib.ListN.{length, get_or, length-take}
 use lib.Dec.{ltb, leb, eqb}
 use lib.Bits.{bit_and, bit_or}
+use Rattle.std.specs.Prelude.{Option, None, Some, max, MatchBool}
+use Rattle.std.specs.List.{AllWithin, HoldsAt, range_with_len}
+use Rattle.std.proofs.lemmas.List.FromFn.{length-range_with_len, get_or-range_with_len}
 use Rattle.octets.specs.Pick.{pick, both, either, all}
 use Rattle.octets.specs.Octets.{larger, base_from}
-use Rattle.octets.proofs.Laws.{octet-past, all_more, all-bad, both_true}
+use Rattle.octets.proofs.Laws.{octet-past, all-is, all_not, both_true}
 use Rattle.der.specs.Tag.{universal}
 use Rattle.rows.specs.Paper.{table_limits}
 use Rattle.rows.specs.Inner.Sizes.{WholeFollower, WholeMember}
@@ -26,8 +29,6 @@ use Rattle.types.specs.Admitted.{tags_differ}
 use Rattle.types.specs.Inner.Work.{bit_of, context_bit, apart_from, union_from, never, row_fits}
 use Rattle.types.proofs.BitSets.{bit_none}
 use Rattle.types.proofs.TagLaws.{apart-choice, apart-sequence, union-bits, union-small, one-small, bits-one, bits-choice, apart_of_choice, apart_of_sequence, apart_of_other}
-use Rattle.table.specs.declared.Made.{Made}
-use Rattle.table.specs.declared.Tags.{Tags}
 use Rattle.table.specs.Inner.Rows.{table_rows, place_at, MemberRow, TypeRow}
 use Rattle.table.specs.Inner.Fields.{kind_of, first_of, target_of, chain_of, presence_of, Packed}
 use Rattle.table.specs.Inner.Words.{first_octet, TypeWord, MemberWord}
@@ -64,20 +65,32 @@ module _ (w : List ℕ) (j x : ℕ) (read : x ≡ first_at w j) where
   mandatory-is o e = ap (λ (y : ℕ). eqb y 0) (e ∙ ap (λ (y : ℕ). presence_of y) read)
 
 -- ---- the members of a row
-pub longest_more : (w : List ℕ) (first j m x r : ℕ) → m ≡ tallest (chain_after w first) j → x ≡ type_chain w (first + j) → r ≡ larger x m → r ≡ tallest (chain_after w first) (j + 1)
+larger_is : (a b : ℕ) → max b a ≡ larger a b
+unfolding larger
+larger_is a b = go (ltb a b) refl
+  where
+    go : (x : Bool) → ltb a b ≡ x → max b a ≡ pick x b a
+    go true e = let l = ltb-true a b e in omega arith
+    go false e = let l = ltb-false a b e in omega arith
+
+pub longest_more : (w : List ℕ) (first j m x r : ℕ) → m ≡ tallest (chain_after w first) j → x ≡ type_chain w (first + j) → r ≡ max m x → r ≡ tallest (chain_after w first) (j + 1)
 unfolding chain_after
-longest_more w first j m x r e q h = tallest-more (chain_after w first) j m x r e q h
+longest_more w first j m x r e q h = tallest-more (chain_after w first) j m x r e q (h ∙ larger_is x m)
 
-module _ (w : List ℕ) (first j : ℕ) (r : Bool) (told : r ≡ mandatory_in w (first + j)) where
-  told_after : r ≡ mandatory_after w first j
-  unfolding mandatory_after
-  told_after = told
-
-  pub mandatory-bad : (n : ℕ) → j < n → not r ≡ true → false ≡ all (mandatory_after w first) n
-  mandatory-bad n h e = all-bad (mandatory_after w first) j r told_after n h e
-
-  pub mandatory-more : all (mandatory_after w first) j ≡ true → not r ≡ false → all (mandatory_after w first) (j + 1) ≡ true
-  mandatory-more a e = all_more (mandatory_after w first) j r told_after a e
+-- what `all` answers over the numbers below n, by the test f of each
+pub all_told : (f : ℕ → Bool) (n : ℕ) (r : Bool)
+    → MatchBool r (AllWithin (λ x. f x ≡ true) (range_with_len 0 n) 0 (length (range_with_len 0 n)))
+    ((k : ℕ) × (k < length (range_with_len 0 n)) × HoldsAt (λ x. f x ≡ false) (range_with_len 0 n) k)
+    → r ≡ all f n
+all_told f n true every = sym (all-is f n (λ i h.
+    let l = length-range_with_len 0 n in
+    let e : get_or (range_with_len 0 n) i 0 ≡ i = omega (arith, get_or-range_with_len 0 n i 0 h) in
+    sym (ap f e) ∙ every i 0 (omega arith) (omega arith)))
+all_told f n false (k, l, not_here) =
+    let s = length-range_with_len 0 n in
+    let h : k < n = omega arith in
+    let e : get_or (range_with_len 0 n) k 0 ≡ k = omega (arith, get_or-range_with_len 0 n k 0 h) in
+    sym (all_not f n k h (sym (ap f e) ∙ not_here 0))
 
 pub gathered_none : (w : List ℕ) (j x : ℕ) (r : Bool) → r ≡ mandatory_in w j → r ≡ true → 0 ≡ pick (mandatory_in w j) 0 x
 gathered_none w j x r e h = rw (sym e ∙ h)
@@ -138,7 +151,7 @@ module _ (w : List ℕ) (first n last x j : ℕ) (so_far : Gathers w (mandatory_
 -- of a CHOICE
 module _ (w : List ℕ) (first n last x j : ℕ) (so_far : Gathers w never first n last x j) where
   module _ (more : ℕ) (inside : j < last) (read : more ≡ set_at w j) where
-    pub choice-bad : (bit_and x more ≡ 0 → ⊥) → Tags.Common ≡ pick (apart_from (set_at w) never n first 0) (Tags.Of (union_from (set_at w) n first 0)) Tags.Common
+    pub choice-bad : (bit_and x more ≡ 0 → ⊥) → None ≡ pick (apart_from (set_at w) never n first 0) (Some (union_from (set_at w) n first 0)) None
     choice-bad h = rw (gather_bad w never first n last x j so_far more inside read h)
 
     pub choice_again : bit_and x more ≡ 0 → Gathers w never first n last (bit_or x more) (j + 1)
@@ -149,10 +162,10 @@ module _ (w : List ℕ) (first n last x j : ℕ) (so_far : Gathers w never first
     join_again v = let q : last - j ≡ suc (last - (j + 1)) = omega arith in
         record { union = rw read (sym (ap (λ (k : ℕ). union_from (set_at w) k j x) q) ∙ v.union) }
 
-  pub choice-done : Joins w first n last x j → last ≤ j → Tags.Of x ≡ pick (apart_from (set_at w) never n first 0) (Tags.Of (union_from (set_at w) n first 0)) Tags.Common
+  pub choice-done : Joins w first n last x j → last ≤ j → Some x ≡ pick (apart_from (set_at w) never n first 0) (Some (union_from (set_at w) n first 0)) None
   unfolding union_from
   choice-done v h = let q : last - j ≡ 0 = omega arith in
-      rw (gather_all w never first n last x j so_far h) (ap (λ (k : ℕ). Tags.Of k) (sym (ap (λ (k : ℕ). union_from (set_at w) k j x) q) ∙ v.union))
+      rw (gather_all w never first n last x j so_far h) (ap (λ (k : ℕ). Some k) (sym (ap (λ (k : ℕ). union_from (set_at w) k j x) q) ∙ v.union))
 
 -- ---- the member row at p
 module _ (t : List ℕ) (p k m : ℕ) (read : m ≡ mode_at t p) where
@@ -160,7 +173,7 @@ module _ (t : List ℕ) (p k m : ℕ) (read : m ≡ mode_at t p) where
   unfolding implicit_choice
   implicit-is h = rw (← read, eq-eqb m 2 h)
 
-  pub implicit_not : (m ≡ 2 → ⊥) → false ≡ implicit_choice t p k
+  pub implicit_not : (m ≡ 2 → ⊥) → eqb m 2 ≡ implicit_choice t p k
   unfolding implicit_choice
   implicit_not h = rw (← read, ne_eqb m 2 h)
 
@@ -191,17 +204,17 @@ pub default-short : (t d : List ℕ) (p : ℕ) → d ≡ default_at t p → leng
 default-short t d p e l = rw e l
 
 -- ---- answers
-pub refused_says : (t w : List ℕ) (i : ℕ) → row_fits 16 t (table_rows t) i ≡ false → Says t w i Made.Refused
+pub refused_says : (t w : List ℕ) (i : ℕ) → row_fits 16 t (table_rows t) i ≡ false → Says t w i None
 refused_says t w i e = record { fits = sym e; words = λ x y q. absurd (let z : ◌≡◌ {A = ℕ} 0 1 = cc in omega arith) }
 
-pub made-says : (t w : List ℕ) (i x y : ℕ) → row_fits 16 t (table_rows t) i ≡ true → RowWords t w i x y → Says t w i (Made.Words x y)
-made-says t w i x y e v = record { fits = sym e; words = λ a b q. let k : x ≡ a = cc in let l : y ≡ b = cc in rw (← k, ← l) v }
+pub made-says : (t w : List ℕ) (i x y : ℕ) → row_fits 16 t (table_rows t) i ≡ true → RowWords t w i x y → Says t w i (Some (x, y))
+made-says t w i x y e v = record { fits = sym e; words = λ a b q. let k : ◌≡◌ {A = ℕ × ℕ} (x, y) (a, b) = cc in rw (← ap (λ (z : ℕ × ℕ). z.0) k, ← ap (λ (z : ℕ × ℕ). z.1) k) v }
 
 type-says : (t w : List ℕ) (i p d x y : ℕ) → p ≡ place_at t i → row_fits 16 t (table_rows t) i ≡ true → TypeRow t i
     → Packed x (kind_at t p) (first_octet untagged (kind_at t p)) (members_at t p) (named_at t p) d 0 0 0 p
     → ((k : ℕ) → chain_fits k t (table_rows t) i ≡ leb d k) → y < 2 ^ 64
     → ((k : ℕ) → chain_fits k t (table_rows t) i ≡ true → (g : ℕ) → g < 64 → bit_of y g ≡ begins (type_from k t (table_rows t) i) g)
-    → Says t w i (Made.Words x y)
+    → Says t w i (Some (x, y))
 type-says t w i p d x y placed ok typed packed chain small tags = made-says t w i x y ok (record {
   shape = record { of-type = λ _. type_word; of-member = λ h. absurd (typed h) };
   chain = λ _ k. chain k ∙ ap (λ (z : ℕ). leb z k) (sym packed.typed);
@@ -291,7 +304,7 @@ module _ (t w : List ℕ) (n i p : ℕ) (next : Next t w n i p) where
     points_as : points_later t (table_rows t) i ≡ r
     points_as = points_row 16 t (table_rows t) i (member-names t (place_at t i) is_member_lem) ∙ ap (later_type t (table_rows t) i) (sym (points ∙ ap (named_at t) next.placed)) ∙ sym told
 
-    pub member_unnamed : not r ≡ true → Says t w i Made.Refused
+    pub member_unnamed : not r ≡ true → Says t w i None
     member_unnamed e = refused_says t w i (unfit 16 t (table_rows t) i (points_later t (table_rows t) i) (fits_points 16 t (table_rows t) i) (points_as ∙ not-true r e))
 
     module _ (later : not r ≡ false) where
@@ -319,7 +332,7 @@ module _ (t w : List ℕ) (n i p : ℕ) (next : Next t w n i p) where
         allowed-is : both (no_implicit_choice t (table_rows t) i) (default_legal t (table_rows t) i) ≡ u
         allowed-is = allowed_as 16 t (table_rows t) i is_member_lem ∙ sym (allowed ∙ ap₂ (member_allowed t) next.placed the_type)
 
-        pub member_unallowed : not u ≡ true → Says t w i Made.Refused
+        pub member_unallowed : not u ≡ true → Says t w i None
         member_unallowed e = refused_says t w i (unfit 16 t (table_rows t) i (both (no_implicit_choice t (table_rows t) i) (default_legal t (table_rows t) i))
             (λ q. ap₂ both (fits-implicit 16 t (table_rows t) i q) (fits-default 16 t (table_rows t) i q)) (allowed-is ∙ not-true u e))
 
@@ -335,7 +348,7 @@ module _ (t w : List ℕ) (n i p : ℕ) (next : Next t w n i p) where
             short : (kind_at t (place_at t i) ≡ 12 → ⊥) → (kind_at t (place_at t i) ≡ 13 → ⊥) → leb (tallest (chain_after w (i + 1)) (members_at t (place_at t i)) + 1) 16 ≡ true
             short a b = ap (λ (z : ℕ). leb (tallest (chain_after w (i + 1)) z + 1) 16) (no-members t (place_at t i) a b) ∙ one-row (chain_after w (i + 1))
 
-        pub member-made : (a y b : ℕ) → not u ≡ false → MemberWord t p k a → y ≡ second_at w j → b ≡ member_second t p y → Says t w i (Made.Words a b)
+        pub member-made : (a y b : ℕ) → not u ≡ false → MemberWord t p k a → y ≡ second_at w j → b ≡ member_second t p y → Says t w i (Some (a, b))
         member-made a y b e v q f = made-says t w i a b (fits-member e) (record {
           shape = record { of-type = λ h. absurd (h is_member_lem); of-member = λ _. rw (← the_type, ← next.placed) v };
           chain = λ h. absurd (h is_member_lem);
@@ -358,7 +371,7 @@ module _ (t w : List ℕ) (n i p : ℕ) (next : Next t w n i p) where
     element_as : points_later t (table_rows t) i ≡ r
     element_as = points_row 16 t (table_rows t) i (list-names t (place_at t i) is-list) ∙ ap (later_type t (table_rows t) i) (sym (points ∙ ap (named_at t) next.placed)) ∙ sym told
 
-    pub list_unnamed : not r ≡ true → Says t w i Made.Refused
+    pub list_unnamed : not r ≡ true → Says t w i None
     list_unnamed e = refused_says t w i (unfit 16 t (table_rows t) i (points_later t (table_rows t) i) (fits_points 16 t (table_rows t) i) (element_as ∙ not-true r e))
 
     module _ (later : not r ≡ false) where
@@ -375,11 +388,11 @@ module _ (t w : List ℕ) (n i p : ℕ) (next : Next t w n i p) where
             let h : Named t i (named_at t (place_at t i)) = rw e at element-named in
             element-chain t w i next.going k is-list h ∙ ap (λ (z : ℕ). leb (z + 1) k) (sym (below ∙ ap (λ (z : ℕ). chain_of z) (read ∙ ap (first_at w) e)))
 
-        pub list-long : 16 ≤ d → Says t w i Made.Refused
+        pub list-long : 16 ≤ d → Says t w i None
         list-long h = refused_says t w i (unfit 16 t (table_rows t) i (chain_fits 16 t (table_rows t) i) (fits-chain 16 t (table_rows t) i) (list-chain 16 ∙ lt-leb (d + 1) 16 (omega arith)))
 
         pub list-made : (a b : ℕ) → d < 16 → Packed a (kind_at t p) (first_octet untagged (kind_at t p)) (members_at t p) (named_at t p) (d + 1) 0 0 0 p → b ≡ 2 ^ universal (kind_at t p)
-            → Says t w i (Made.Words a b)
+            → Says t w i (Some (a, b))
         list-made a b h v q =
             let no-choice = list_no_choice (kind_at t (place_at t i)) is-list in
             let no_member = list_no_member (kind_at t (place_at t i)) is-list in
@@ -390,7 +403,7 @@ module _ (t w : List ℕ) (n i p : ℕ) (next : Next t w n i p) where
 
   -- ---- a row without members or element
   pub basic_made : (a b : ℕ) → Basic (kind_at t p) → Packed a (kind_at t p) (first_octet untagged (kind_at t p)) (members_at t p) (named_at t p) 1 0 0 0 p → b ≡ 2 ^ universal (kind_at t p)
-      → Says t w i (Made.Words a b)
+      → Says t w i (Some (a, b))
   basic_made a b basic v q =
       type-says t w i p 1 a b next.placed
       (fit 16 t (table_rows t) i (points_none 16 t (table_rows t) i (names-none t (place_at t i) no-list no_member)) (alternatives-none 16 t (table_rows t) i no-choice) (implicit-none 16 t (table_rows t) i no_member) (default_none 16 t (table_rows t) i no_member)
@@ -420,7 +433,7 @@ module _ (t w : List ℕ) (n i p : ℕ) (next : Next t w n i p) where
     the-chain : is_list (kind_at t (place_at t i)) ≡ false → (k : ℕ) → chain_fits k t (table_rows t) i ≡ leb (d + 1) k
     the-chain e k = group_chain t w i next.going next.here e k ∙ ap (λ (z : ℕ). leb (z + 1) k) (sym (below ∙ ap (tallest (chain_after w (i + 1))) the-count))
 
-    long : is_list (kind_at t (place_at t i)) ≡ false → 16 ≤ d → Says t w i Made.Refused
+    long : is_list (kind_at t (place_at t i)) ≡ false → 16 ≤ d → Says t w i None
     long e h = refused_says t w i (unfit 16 t (table_rows t) i (chain_fits 16 t (table_rows t) i) (fits-chain 16 t (table_rows t) i) (the-chain e 16 ∙ lt-leb (d + 1) 16 (omega arith)))
 
     right : (k : ℕ) → chain_fits (suc k) t (table_rows t) i ≡ true → (j : ℕ) → i + 1 ≤ j → j < i + 1 + members_at t (place_at t i) → (g : ℕ) → g < 64
@@ -435,7 +448,7 @@ module _ (t w : List ℕ) (n i p : ℕ) (next : Next t w n i p) where
       no-list : is_list (kind_at t (place_at t i)) ≡ false
       no-list = sequence_no_list (kind_at t (place_at t i)) (the-kind 12 sequence)
 
-      pub sequence-long : 16 ≤ d → Says t w i Made.Refused
+      pub sequence-long : 16 ≤ d → Says t w i None
       sequence-long h = long no-list h
 
       module _ (short : d < 16) (r : Bool) (told : r ≡ apart_from (set_at w) (mandatory_in w) m (i + 1) 0) where
@@ -450,11 +463,11 @@ module _ (t w : List ℕ) (n i p : ℕ) (next : Next t w n i p) where
             (group_mandatory t w i next.going next.here) (members_at t (place_at t i)) (omega arith))
             ∙ sym (told ∙ ap (λ (z : ℕ). apart_from (set_at w) (mandatory_in w) z (i + 1) 0) the-count)
 
-        pub sequence_common : not r ≡ true → Says t w i Made.Refused
+        pub sequence_common : not r ≡ true → Says t w i None
         sequence_common e = refused_says t w i (unfit 16 t (table_rows t) i (tags_differ 16 t (table_rows t) i) (fits-tags 16 t (table_rows t) i) (tags_as ∙ not-true r e))
 
         pub sequence-made : (a b : ℕ) → not r ≡ false → Packed a (kind_at t p) (first_octet untagged (kind_at t p)) (members_at t p) (named_at t p) (d + 1) 0 0 0 p → b ≡ 2 ^ universal (kind_at t p)
-            → Says t w i (Made.Words a b)
+            → Says t w i (Some (a, b))
         sequence-made a b e v q =
             let no-choice = other-kind (kind_at t (place_at t i)) 12 13 (the-kind 12 sequence) (λ z. omega arith) in
             let no_member = sequence_no_member (kind_at t (place_at t i)) (the-kind 12 sequence) in
@@ -471,7 +484,7 @@ module _ (t w : List ℕ) (n i p : ℕ) (next : Next t w n i p) where
       choice-list : is_list (kind_at t (place_at t i)) ≡ false
       choice-list = choice_no_list (kind_at t (place_at t i)) is-choice
 
-      pub choice-long : 16 ≤ d → Says t w i Made.Refused
+      pub choice-long : 16 ≤ d → Says t w i None
       choice-long h = long choice-list h
 
       module _ (short : d < 16) (u : Bool) (mandatory : u ≡ all (mandatory_after w (i + 1)) m) where
@@ -480,10 +493,10 @@ module _ (t w : List ℕ) (n i p : ℕ) (next : Next t w n i p) where
             alternatives-all 16 t (table_rows t) i is-choice ∙ sym (alternatives_as t w i next.going next.here)
             ∙ sym (mandatory ∙ ap (all (mandatory_after w (i + 1))) the-count)
 
-        pub choice-optional : not u ≡ true → Says t w i Made.Refused
+        pub choice-optional : not u ≡ true → Says t w i None
         choice-optional e = refused_says t w i (unfit 16 t (table_rows t) i (alternatives_mandatory t (table_rows t) i) (fits-alternatives 16 t (table_rows t) i) (mandatory_as ∙ not-true u e))
 
-        module _ (g : Tags) (told : g ≡ pick (apart_from (set_at w) never m (i + 1) 0) (Tags.Of (union_from (set_at w) m (i + 1) 0)) Tags.Common) where
+        module _ (g : Option ℕ) (told : g ≡ pick (apart_from (set_at w) never m (i + 1) 0) (Some (union_from (set_at w) m (i + 1) 0)) None) where
           choice-chain : chain_fits 16 t (table_rows t) i ≡ true
           choice-chain = the-chain choice-list 16 ∙ le-leb (d + 1) 16 (omega arith)
 
@@ -494,15 +507,15 @@ module _ (t w : List ℕ) (n i p : ℕ) (next : Next t w n i p) where
               ∙ sym (apart-choice t (table_rows t) (i + 1) (i + 1 + members_at t (place_at t i)) (set_at w) (type_from 15 t (table_rows t)) small (right 15 choice-chain) (members_at t (place_at t i)) (omega arith))
               ∙ ap (λ (z : ℕ). apart_from (set_at w) never z (i + 1) 0) (sym the-count)
 
-          pub choice_common : g ≡ Tags.Common → Says t w i Made.Refused
+          pub choice_common : g ≡ None → Says t w i None
           choice_common e = refused_says t w i (unfit 16 t (table_rows t) i (tags_differ 16 t (table_rows t) i) (fits-tags 16 t (table_rows t) i) (choice_as ∙ go (apart_from (set_at w) never m (i + 1) 0) (sym told ∙ e)))
             where
-              go : (b : Bool) → pick b (Tags.Of (union_from (set_at w) m (i + 1) 0)) Tags.Common ≡ Tags.Common → b ≡ false
+              go : (b : Bool) → pick b (Some (union_from (set_at w) m (i + 1) 0)) None ≡ None → b ≡ false
               go true q = absurd (let z : ◌≡◌ {A = ℕ} 0 1 = cc in omega arith)
               go false q = refl
 
-          pub choice-made : (a b : ℕ) → not u ≡ false → g ≡ Tags.Of b → Packed a (kind_at t p) (first_octet untagged (kind_at t p)) (members_at t p) (named_at t p) (d + 1) 0 0 0 p
-              → Says t w i (Made.Words a b)
+          pub choice-made : (a b : ℕ) → not u ≡ false → g ≡ Some b → Packed a (kind_at t p) (first_octet untagged (kind_at t p)) (members_at t p) (named_at t p) (d + 1) 0 0 0 p
+              → Says t w i (Some (a, b))
           choice-made a b e f v =
               let found = go (apart_from (set_at w) never m (i + 1) 0) (sym told ∙ f) in
               let no_member = choice_no_member (kind_at t (place_at t i)) is-choice in
@@ -511,7 +524,7 @@ module _ (t w : List ℕ) (n i p : ℕ) (next : Next t w n i p) where
               choice-chain (choice_as ∙ found.0))
               no_member v (the-chain choice-list) (rw (the-set found.1) union-fits) (λ k c h l. ap (λ (x : ℕ). bit_of x h) (the-set found.1) ∙ bits k c h l)
             where
-              go : (x : Bool) → pick x (Tags.Of (union_from (set_at w) m (i + 1) 0)) Tags.Common ≡ Tags.Of b → (x ≡ true) × (b ≡ union_from (set_at w) m (i + 1) 0)
+              go : (x : Bool) → pick x (Some (union_from (set_at w) m (i + 1) 0)) None ≡ Some b → (x ≡ true) × (b ≡ union_from (set_at w) m (i + 1) 0)
               go true q = (refl, cc)
               go false q = absurd (let z : ◌≡◌ {A = ℕ} 0 1 = cc in omega arith)
 

@@ -10,7 +10,8 @@ use borrow.Author.Tests.{not-true, not-false}
 use lib.ListN.{length, get_or, set, length-set}
 use lib.Seq.{get_or-set_same, get_or-set_other}
 use lib.Dec.{eqb}
-use Rattle.octets.specs.Pick.{pick, both}
+use Rattle.std.specs.Prelude.{Option, None, Some}
+use Rattle.octets.specs.Pick.{pick, both, is_some}
 use Rattle.octets.specs.Octets.{base_from}
 use Rattle.octets.proofs.Laws.{all-is, all_not}
 use Rattle.der.specs.Tag.{universal}
@@ -28,10 +29,9 @@ use Rattle.types.proofs.AdmitSteps.{in_passes}
 use Rattle.types.proofs.Laws.{row_count_lem}
 use Rattle.types.proofs.TagLaws.{bits-one}
 use Rattle.rows.specs.declared.Table.{Table}
-use Rattle.table.specs.declared.Made.{Made}
 use Rattle.table.specs.Inner.Rows.{table_rows, place_at, MemberRow, TypeRow}
 use Rattle.table.specs.Inner.Words.{second_of, Worded}
-use Rattle.table.specs.Inner.Pass.{first_at, second_at, member_second, is_made, RowWords, Going, Next, Says, Leaves}
+use Rattle.table.specs.Inner.Pass.{first_at, second_at, member_second, RowWords, Going, Next, Says, Leaves}
 use Rattle.table.proofs.KindLaws.{is_false_lem, choice_no_member}
 use Rattle.table.proofs.PassLaws.{Named, some_rows, few-rows, is-named, fits_points, fits-chain, points_row}
 use Rattle.table.proofs.Reading.{ready}
@@ -67,14 +67,14 @@ module _ (t w : List ℕ) (n i : ℕ) (going : Going t w i) (count : n ≡ lengt
     placed = e ∙ going.places (i - 1) (omega arith);
   }
 
-  module _ (r : Made) (says : Says t w (i - 1) r) where
-    pub going-bad : r ≡ Made.Refused → false ≡ second_pass table_limits.chain t (table_rows t)
+  module _ (r : Option (ℕ × ℕ)) (says : Says t w (i - 1) r) where
+    pub going-bad : r ≡ None → false ≡ second_pass table_limits.chain t (table_rows t)
     unfolding second_pass
-    going-bad e = sym (all_not (row_fits 16 t (table_rows t)) (length (table_rows t)) (i - 1) below (sym says.fits ∙ ap is_made e))
+    going-bad e = sym (all_not (row_fits 16 t (table_rows t)) (length (table_rows t)) (i - 1) below (sym says.fits ∙ ap is_some e))
 
-    module _ (x y : ℕ) (made : r ≡ Made.Words x y) where
+    module _ (x y : ℕ) (made : r ≡ Some (x, y)) where
       fits-here : row_fits 16 t (table_rows t) (i - 1) ≡ true
-      fits-here = sym says.fits ∙ ap is_made made
+      fits-here = sym says.fits ∙ ap is_some made
 
       few : 2 * (i - 1) + 1 < length w
       few = let a = going.size in let b = few-rows t going.first in omega arith

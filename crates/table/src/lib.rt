@@ -1,10 +1,10 @@
 // Row words: two numbers for each row of a table, written by admission and read by what they say of the table.
 #![tactic(auto)]
 
-ghost use Rattle.std.specs.Prelude.{◌≡◌, true, ◌≤◌, ◌<◌, ◌+◌, ◌-◌, ◌*◌, ◌^◌, length, get_or};
+ghost use Rattle.std.specs.Prelude.{◌≡◌, Some, None, true, ◌≤◌, ◌<◌, ◌+◌, ◌-◌, ◌*◌, ◌^◌, length, get_or};
 ghost use Rattle.std.specs.Int.Bits.{bit_or};
 ghost use Rattle.octets.specs.Pick.{pick, all};
-ghost use Rattle.octets.specs.Octets.{base_from, larger};
+ghost use Rattle.octets.specs.Octets.{base_from};
 ghost use Rattle.der.specs.Kind as kind;
 ghost use Rattle.der.specs.Tag.{universal};
 ghost use Rattle.rows.specs.Row as row;
@@ -15,8 +15,7 @@ ghost use Rattle.clauses.specs.Inner.Work.{tallest};
 ghost use Rattle.types.specs.Types.{untagged, tagging_of};
 ghost use Rattle.types.specs.Check.{table_report};
 ghost use Rattle.types.specs.Inner.Work.{apart_from, union_from, never, second_pass, row_count};
-ghost use Rattle.table.specs.Check.{report};
-ghost use Rattle.table.specs.declared.Tags.{Tags};
+ghost use Rattle.table.specs.Check.{report, refusal_number};
 ghost use Rattle.table.specs.Inner.Rows.{table_rows, MemberRow, TypeRow, place_at, tagging_at, member_kind_at};
 ghost use Rattle.table.specs.Inner.Fields as field;
 ghost use Rattle.table.specs.Inner.Words as word;
@@ -27,25 +26,37 @@ ghost use Rattle.table.specs.Inner.Pass.{Next, Says};
 use der::Kind;
 use rows::Table;
 
-// The answer of the table check: the table, or a refusal.
-#[derive(Clone, Copy)]
-pub enum TableCheck {
-    Admitted(Table),
-    Refused(u8),
+// Why an entry gives no answer, in the order of checking but for the last two.
+#[derive(Clone, Copy, Debug, PartialEq, Eq)]
+pub enum Refusal {
+    // A size or the budget is not within its limits.
+    Size,
+    // The table is not admitted.
+    Table,
+    // A filter is not of its form, or over depth or items; a reference is malformed or not allowed.
+    Form,
+    // The value is not one of the table's type; a part passes the value's end.
+    Value,
+    // The tests needed exceed the budget.
+    Tests,
+    // The room is under three numbers for each named value.
+    Room,
 }
 
-// The words of a row, or none where its clauses of "Admitted" do not hold.
-#[derive(Clone, Copy)]
-enum Made {
-    Words(u64, u64),
-    Refused,
-}
-
-// The tags of the alternatives of a CHOICE, or that two have one in common.
-#[derive(Clone, Copy)]
-enum Tags {
-    Of(u64),
-    Common,
+impl Refusal {
+    // Its number.
+    pub fn number(self) -> u8
+        ensures { result ≡ refusal_number self }
+    {
+        match self {
+            Refusal::Size => 1,
+            Refusal::Table => 2,
+            Refusal::Form => 3,
+            Refusal::Value => 4,
+            Refusal::Tests => 5,
+            Refusal::Room => 6,
+        }
+    }
 }
 
 // ---- the fields of a word
@@ -242,28 +253,19 @@ fn member_word(t: &[u8], p: usize, kind: u8) -> u64
 
 // ---- the second pass: what it reads of the words of later rows
 fn first_at(w: &[u64; 256], j: usize) -> u64
-    requires space { length w.now ≡ 256 }
     ensures { result ≡ pass.first_at w.now j }
 {
-    if Table::MAX_ROWS <= j {
-        return 0;
-    }
-    w[2 * j]
+    if j < Table::MAX_ROWS { w[2 * j] } else { 0 }
 }
 
 fn second_at(w: &[u64; 256], j: usize) -> u64
-    requires space { length w.now ≡ 256 }
     ensures { result ≡ pass.second_at w.now j }
 {
-    if Table::MAX_ROWS <= j {
-        return 0;
-    }
-    w[2 * j + 1]
+    if j < Table::MAX_ROWS { w[2 * j + 1] } else { 0 }
 }
 
 // The set of tags of member row j.
 fn set_at(w: &[u64; 256], j: usize) -> u64
-    requires space { length w.now ≡ 256 }
     ensures { result ≡ pass.set_at w.now j }
 {
     let x = first_at(w, j);
@@ -276,62 +278,39 @@ fn set_at(w: &[u64; 256], j: usize) -> u64
 
 // The longest chain from the type of member row j on.
 fn type_chain(w: &[u64; 256], j: usize) -> usize
-    requires space { length w.now ≡ 256 }
     ensures { result ≡ pass.type_chain w.now j }
 {
     chain_of(first_at(w, target_of(first_at(w, j))))
 }
 
 fn is_mandatory(w: &[u64; 256], j: usize) -> bool
-    requires space { length w.now ≡ 256 }
     ensures { result ≡ pass.mandatory_in w.now j }
 {
     presence_of(first_at(w, j)) == 0
 }
 
 // ---- the n members from row first on
-fn larger(a: usize, b: usize) -> usize
-    ensures { result ≡ larger a b }
-{
-    if a < b {
-        return b;
-    }
-    a
-}
-
 // The longest chain from their types on.
 fn longest(w: &[u64; 256], first: usize, n: usize) -> usize
-    requires space { length w.now ≡ 256 }
-    requires room { first + n ≤ table_limits.rows }
+    requires { first + n ≤ table_limits.rows }
     ensures { result ≡ tallest (pass.chain_after w.now first) n }
 {
-    let mut most = 0;
-    let mut j = 0;
-    while j < n {
-        most = larger(type_chain(w, first + j), most);
-        j += 1;
+    let mut most: usize = 0;
+    for j in 0..n {
+        most = most.max(type_chain(w, first + j));
     }
     most
 }
 
 fn all_mandatory(w: &[u64; 256], first: usize, n: usize) -> bool
-    requires space { length w.now ≡ 256 }
-    requires room { first + n ≤ table_limits.rows }
+    requires { first + n ≤ table_limits.rows }
     ensures { result ≡ all (pass.mandatory_after w.now first) n }
 {
-    let mut j = 0;
-    while j < n {
-        if !is_mandatory(w, first + j) {
-            return false;
-        }
-        j += 1;
-    }
-    true
+    (0..n).all(|j| is_mandatory(w, first + j))
 }
 
 // The tags gathered behind member row j, whose own are `more`: none behind a mandatory member.
 fn gathered(w: &[u64; 256], j: usize, set: u64, more: u64) -> u64
-    requires space { length w.now ≡ 256 }
     ensures { result ≡ pick (pass.mandatory_in w.now j) 0 (bit_or set more) }
 {
     if is_mandatory(w, j) {
@@ -342,43 +321,37 @@ fn gathered(w: &[u64; 256], j: usize, set: u64, more: u64) -> u64
 
 // Whether tags differ in each run of members and the mandatory one after it.
 fn runs_differ(w: &[u64; 256], first: usize, n: usize) -> bool
-    requires space { length w.now ≡ 256 }
-    requires room { first + n ≤ table_limits.rows }
+    requires { first + n ≤ table_limits.rows }
     ensures { result ≡ apart_from (pass.set_at w.now) (pass.mandatory_in w.now) n first 0 }
 {
     let last = first + n;
     let mut set = 0;
-    let mut j = first;
-    while j < last {
+    for j in first..last {
         let more = set_at(w, j);
         if set & more != 0 {
             return false;
         }
         set = gathered(w, j, set, more);
-        j += 1;
     }
     true
 }
 
 // The tags of alternatives, where they differ.
-fn choice_tags(w: &[u64; 256], first: usize, n: usize) -> Tags
-    requires space { length w.now ≡ 256 }
-    requires room { first + n ≤ table_limits.rows }
+fn choice_tags(w: &[u64; 256], first: usize, n: usize) -> Option<u64>
+    requires { first + n ≤ table_limits.rows }
     ensures { result
-        ≡ pick (apart_from (pass.set_at w.now) never n first 0) (Tags.Of (union_from (pass.set_at w.now) n first 0)) Tags.Common }
+        ≡ pick (apart_from (pass.set_at w.now) never n first 0) (Some (union_from (pass.set_at w.now) n first 0)) None }
 {
     let last = first + n;
     let mut set = 0;
-    let mut j = first;
-    while j < last {
+    for j in first..last {
         let more = set_at(w, j);
         if set & more != 0 {
-            return Tags::Common;
+            return None;
         }
-        set = set | more;
-        j += 1;
+        set |= more;
     }
-    Tags::Of(set)
+    Some(set)
 }
 
 // ---- one row of n, row i at p: the rows after it are done
@@ -400,10 +373,7 @@ fn implicit_choice(t: &[u8], p: usize, kind: u8) -> bool
     requires { WholeMember t.now p }
     ensures { result ≡ pass.implicit_choice t.now p kind }
 {
-    if rows::member_mode(t, p) == 2 {
-        return kind == Kind::CHOICE;
-    }
-    false
+    rows::member_mode(t, p) == 2 && kind == Kind::CHOICE
 }
 
 // Whether the member row at p, whose type is of a kind, may be tagged and have a default as it has.
@@ -432,23 +402,23 @@ fn member_second(t: &[u8], p: usize, y: u64) -> u64
     y
 }
 
-fn member_row(t: &[u8], w: &[u64; 256], n: usize, i: usize, p: usize) -> Made
+fn member_row(t: &[u8], w: &[u64; 256], n: usize, i: usize, p: usize) -> Option<(u64, u64)>
     requires next { Next t.now w.now n i p }
     requires member { row.is_member (row.kind_at t.now p) ≡ true }
     ensures { Says t.now w.now i result }
 {
     let j = rows::member_type_row(t, p);
     if !later_type(t, w, n, i, p, j) {
-        return Made::Refused;
+        return None;
     }
     let kind = kind_of(first_at(w, j));
     if !member_allowed(t, p, kind) {
-        return Made::Refused;
+        return None;
     }
-    Made::Words(
+    Some((
         member_word(t, p, kind),
         member_second(t, p, second_at(w, j)),
-    )
+    ))
 }
 
 // The set of the universal tag of the type row at p.
@@ -458,31 +428,31 @@ fn own_set(t: &[u8], p: usize) -> u64
     types::bit(der::universal(rows::kind_at(t, p)))
 }
 
-fn basic_row(t: &[u8], w: &[u64; 256], n: usize, i: usize, p: usize) -> Made
+fn basic_row(t: &[u8], w: &[u64; 256], n: usize, i: usize, p: usize) -> Option<(u64, u64)>
     requires next { Next t.now w.now n i p }
     requires basic { pass.Basic (row.kind_at t.now p) }
     ensures { Says t.now w.now i result }
 {
-    Made::Words(type_word(t, p, 0, 1), own_set(t, p))
+    Some((type_word(t, p, 0, 1), own_set(t, p)))
 }
 
-fn list_row(t: &[u8], w: &[u64; 256], n: usize, i: usize, p: usize) -> Made
+fn list_row(t: &[u8], w: &[u64; 256], n: usize, i: usize, p: usize) -> Option<(u64, u64)>
     requires next { Next t.now w.now n i p }
     requires list { row.is_list (row.kind_at t.now p) ≡ true }
     ensures { Says t.now w.now i result }
 {
     let j = rows::element_at(t, p);
     if !later_type(t, w, n, i, p, j) {
-        return Made::Refused;
+        return None;
     }
     let below = chain_of(first_at(w, j));
     if Table::MAX_CHAIN <= below {
-        return Made::Refused;
+        return None;
     }
-    Made::Words(type_word(t, p, j, below + 1), own_set(t, p))
+    Some((type_word(t, p, j, below + 1), own_set(t, p)))
 }
 
-fn sequence_row(t: &[u8], w: &[u64; 256], n: usize, i: usize, p: usize) -> Made
+fn sequence_row(t: &[u8], w: &[u64; 256], n: usize, i: usize, p: usize) -> Option<(u64, u64)>
     requires next { Next t.now w.now n i p }
     requires sequence { row.kind_at t.now p ≡ kind.sequence }
     ensures { Says t.now w.now i result }
@@ -490,15 +460,15 @@ fn sequence_row(t: &[u8], w: &[u64; 256], n: usize, i: usize, p: usize) -> Made
     let count = rows::members_at(t, p);
     let below = longest(w, i + 1, count);
     if Table::MAX_CHAIN <= below {
-        return Made::Refused;
+        return None;
     }
     if !runs_differ(w, i + 1, count) {
-        return Made::Refused;
+        return None;
     }
-    Made::Words(type_word(t, p, 0, below + 1), own_set(t, p))
+    Some((type_word(t, p, 0, below + 1), own_set(t, p)))
 }
 
-fn choice_row(t: &[u8], w: &[u64; 256], n: usize, i: usize, p: usize) -> Made
+fn choice_row(t: &[u8], w: &[u64; 256], n: usize, i: usize, p: usize) -> Option<(u64, u64)>
     requires next { Next t.now w.now n i p }
     requires choice { row.kind_at t.now p ≡ kind.choice }
     ensures { Says t.now w.now i result }
@@ -506,18 +476,18 @@ fn choice_row(t: &[u8], w: &[u64; 256], n: usize, i: usize, p: usize) -> Made
     let count = rows::members_at(t, p);
     let below = longest(w, i + 1, count);
     if Table::MAX_CHAIN <= below {
-        return Made::Refused;
+        return None;
     }
     if !all_mandatory(w, i + 1, count) {
-        return Made::Refused;
+        return None;
     }
-    let Tags::Of(set) = choice_tags(w, i + 1, count) else {
-        return Made::Refused;
+    let Some(set) = choice_tags(w, i + 1, count) else {
+        return None;
     };
-    Made::Words(type_word(t, p, 0, below + 1), set)
+    Some((type_word(t, p, 0, below + 1), set))
 }
 
-fn one_row(t: &[u8], w: &[u64; 256], n: usize, i: usize, p: usize) -> Made
+fn one_row(t: &[u8], w: &[u64; 256], n: usize, i: usize, p: usize) -> Option<(u64, u64)>
     requires next { Next t.now w.now n i p }
     ensures { Says t.now w.now i result }
 {
@@ -545,11 +515,9 @@ fn write_rows(t: &[u8], w: &mut [u64; 256], n: usize) -> bool
     ensures told { result ≡ second_pass table_limits.chain t.now (table_rows t.now) }
     ensures left { result ≡ true → Worded t.now w.new }
 {
-    let mut i = n;
-    while 0 < i {
-        i -= 1;
+    for i in (0..n).rev() {
         let p = first_at(w, i) as usize;
-        let Made::Words(x, y) = one_row(t, w, n, i, p) else {
+        let Some((x, y)) = one_row(t, w, n, i, p) else {
             return false;
         };
         w[2 * i] = x;
@@ -560,7 +528,6 @@ fn write_rows(t: &[u8], w: &mut [u64; 256], n: usize) -> bool
 
 // How many rows an admitted table has, with their words; 0 where it is not admitted.
 pub fn admit_table(t: &[u8], w: &mut [u64; 256]) -> usize
-    requires space { length w.old ≡ 256 }
     ensures count { result ≡ row_count table_limits t.now }
     ensures leaves { pass.Leaves t.now w.new result }
 {
@@ -575,18 +542,18 @@ pub fn admit_table(t: &[u8], w: &mut [u64; 256]) -> usize
 }
 
 // The table check: any octets.
-pub fn check_table(table: &[u8]) -> TableCheck
+pub fn check_table(table: &[u8]) -> Result<Table, Refusal>
     ensures { report result ≡ table_report table_limits table.now }
 {
     if !Table::fits(table) {
-        return TableCheck::Refused(1);
+        return Err(Refusal::Size);
     }
     let mut w = [0u64; 256];
     let n = admit_table(table, &mut w);
     if n == 0 {
-        return TableCheck::Refused(2);
+        return Err(Refusal::Table);
     }
-    TableCheck::Admitted(Table::of(n))
+    Ok(Table::of(n))
 }
 
 // ---- what the words of an admitted table say

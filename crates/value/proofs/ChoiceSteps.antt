@@ -14,7 +14,6 @@ use Rattle.types.specs.Types.{Tagging, tagging_of, Member, member_of, Ty, member
 use Rattle.types.specs.Inner.Work.{Sound}
 use Rattle.value.specs.Decode.{Decoded, choice_of, unwrapped, alternative_from, decode}
 use Rattle.value.specs.Inner.Work.{checked, first, starts_of}
-use Rattle.value.specs.declared.Checked.{Checked}
 use Rattle.value.proofs.Decodes.{framed_by, decodes-tagged}
 use Rattle.value.proofs.LeafSteps.{first-none, first_step_lem}
 
@@ -75,7 +74,7 @@ module _ (chain : ℕ) (t s m : List ℕ) (row : ℕ) (ok : Sound chain t s m) (
         ∙ by_first n 0
         ∙ ap₂ (λ (x y : ℕ). pick (ltb x y) (taken x) None) (sym found) d
 
-    pub choice-none : n ≤ j → Checked.Bad ≡ checked (alternative_from (members_from (type_from chain t s) t s (row + 1) (members_at t (row_at s row))) v at end)
+    pub choice-none : n ≤ j → None ≡ checked (alternative_from (members_from (type_from chain t s) t s (row + 1) (members_at t (row_at s row))) v at end)
     choice-none h = sym (ap checked (whole ∙ ap (λ (x : Bool). pick x (taken j) None) (le-ltb j n h)))
 
     module _ (l : j < n) where
@@ -88,6 +87,6 @@ module _ (chain : ℕ) (t s m : List ℕ) (row : ℕ) (ok : Sound chain t s m) (
       pub choice-member : is_member (kind_at t (row_at s (row + 1 + j))) ≡ true
       choice-member = ok.members row here j in_row
 
-      pub choice-is : (r : Checked) → r ≡ checked (alternative j) → r ≡ checked (alternative_from (members_from (type_from chain t s) t s (row + 1) (members_at t (row_at s row))) v at end)
+      pub choice-is : (r : Option ℕ) → r ≡ checked (alternative j) → r ≡ checked (alternative_from (members_from (type_from chain t s) t s (row + 1) (members_at t (row_at s row))) v at end)
       choice-is r e = e ∙ sym (ap checked (whole ∙ ap (λ (x : Bool). pick x (taken j) None) (lt-ltb j n l))
           ∙ told_choice (member_of t (row + 1 + j) (row_at s (row + 1 + j))) (type_from chain t s (named_at t (row_at s (row + 1 + j)))) (tagging_of (mode_at t (row_at s (row + 1 + j))) (number_at t (row_at s (row + 1 + j)))) v at end)

@@ -11,9 +11,7 @@ use Rattle.octets.specs.Pick.{pick}
 use Rattle.octets.specs.Octets.{octet}
 use Rattle.der.specs.Tag.{wrapper_octet}
 use Rattle.der.specs.Header.{header_at, inside_at, any_tag}
-use Rattle.der.specs.declared.Header.{Header}
-use Rattle.der.specs.declared.Inside.{Inside}
-use Rattle.der.proofs.Laws.{inside_view, any-view}
+use Rattle.der.proofs.Laws.{inside_view, any-view, some_triple_parts}
 use Rattle.types.specs.Types.{Tagging, untagged, explicit, implicit, Ty, basic, sequence, choice, list_of, Members, no_more, more}
 use Rattle.value.specs.Value.{spot_at, spot_of, Value}
 use Rattle.value.specs.Value.{Fields, end_fields, Values, end_values}
@@ -29,7 +27,7 @@ pub record Framed (v : List ℕ) (at end after : ℕ) : Type 0 where
   pub octet : ℕ
   pub start : ℕ
   pub n : ℕ
-  pub header : header_at v at end ≡ Header.Found octet start n
+  pub header : header_at v at end ≡ Some (octet, start, n)
   pub ends : start + n ≡ after
 
 -- a value's own spot is that of the header at its place
@@ -65,14 +63,14 @@ framed_by {v = v} (filling {k = k} {at = at} {end = end} {start = start} {n = n}
     record { octet = wrapper_octet k; start = start; n = n; header = inside_view (wrapper_octet k) v at end start n e; ends = sym q }
 
 -- ---- made from the decoder's equations
-behind : {v : List ℕ} {octet at end start n : ℕ} → inside_at octet v at end ≡ Inside.Of start n → Behind v octet at end start n (spot_at v at start n) (start + n)
+behind : {v : List ℕ} {octet at end start n : ℕ} → inside_at octet v at end ≡ Some (start, n) → Behind v octet at end start n (spot_at v at start n) (start + n)
 behind e = record { header = e; spot = refl; ends = refl }
 
-found-same : (a b c x y z : ℕ) → ◌≡◌ {A = Header} (Header.Found a b c) (Header.Found x y z) → b + c ≡ y + z
-found-same a b c x y z e = let p : b ≡ y = cc in let q : c ≡ z = cc in ap₂ ◌+◌ p q
+found-same : (a b c x y z : ℕ) → ◌≡◌ {A = Option (ℕ × ℕ × ℕ)} (Some (a, b, c)) (Some (x, y, z)) → b + c ≡ y + z
+found-same a b c x y z e = let p = some_triple_parts a x b y c z e in ap₂ ◌+◌ p.1 p.2
 
 -- any header there, where what is decoded ends with it
-behind_any : (v : List ℕ) (at end start n after : ℕ) → any_tag (header_at v at end) ≡ Inside.Of start n → Framed v at end after
+behind_any : (v : List ℕ) (at end start n after : ℕ) → any_tag (header_at v at end) ≡ Some (start, n) → Framed v at end after
     → Behind v (octet v at) at end start n (spot_at v at start n) after
 unfolding inside_at
 behind_any v at end start n after e w =

@@ -1,4 +1,5 @@
 -- Defaults by their words: one lemma for each return; its premises are the facts as the code has them.
+use Rattle.std.specs.Prelude.{Option, Some, None}
 use mathlib.Core.Path.{◌≡◌, refl, sym, ap, ap₂, ◌∙◌}
 use mathlib.Core.Bool.{Bool, true, false}
 use mathlib.Core.List.{List, [], ◌∷◌}
@@ -13,7 +14,6 @@ use Rattle.octets.specs.Pick.{pick, both}
 use Rattle.octets.specs.Octets.{octet, part, same, base_from}
 use Rattle.der.specs.Tag.{own_octet, wrapper_octet}
 use Rattle.der.specs.Header.{inside_at}
-use Rattle.der.specs.declared.Inside.{Inside}
 use Rattle.rows.proofs.NumberSteps.{part_bytes}
 use Rattle.rows.specs.Row.{kind_at, behind_name, is_member, mode_at, number_at, presence_at, default_length_at, default_at}
 use Rattle.types.specs.Types.{Tagging, tagging_of}
@@ -87,8 +87,8 @@ module _ (t w : List ℕ) (row : ℕ) (ok : Worded t w) (here : row < length (ta
   g = tagging_at t row
 
   module _ (c : List ℕ) (n : ℕ) (sized : n ≡ length (default_at t (place_at t row))) where
-    pub default_longer : (length c ≡ n → ⊥) → false ≡ same c (default_at t (place_at t row))
-    default_longer h = sym (same-long c (default_at t p) (λ z. h (z ∙ sym sized)))
+    pub default_longer : (length c ≡ n → ⊥) → eqb (length c) n ≡ same c (default_at t (place_at t row))
+    default_longer h = ne_eqb (length c) n h ∙ sym (same-long c (default_at t p) (λ z. h (z ∙ sym sized)))
 
     pub default-short : length c ≡ n → length c ≤ 8
     default-short e = let a = ok.ready.size row here member in let q : n ≤ 8 = rw sized (simp length-take (omega arith)) in omega arith
@@ -104,11 +104,11 @@ module _ (t w : List ℕ) (row : ℕ) (ok : Worded t w) (here : row < length (ta
   unfolding first_octet tagging_of
   first_wrapper f h e = e ∙ rw h
 
-  module _ (v : List ℕ) (at end f : ℕ) (h : Inside) (explicitly : mode_at t p ≡ 1) (first : f ≡ first_octet g k) (opening : h ≡ inside_at f v at end) where
-    pub wrapped_none : h ≡ Inside.Misfit → Inside.Misfit ≡ contents_at g k v at end
+  module _ (v : List ℕ) (at end f : ℕ) (h : Option (ℕ × ℕ)) (explicitly : mode_at t p ≡ 1) (first : f ≡ first_octet g k) (opening : h ≡ inside_at f v at end) where
+    pub wrapped_none : h ≡ None → None ≡ contents_at g k v at end
     wrapped_none e = contents-misfit (mode_at t p) (number_at t p) k v at end f h explicitly (first_wrapper f explicitly first) opening e
 
-    pub wrapped_found : (start c q o : ℕ) (r : Inside) → h ≡ Inside.Of start c → q ≡ member_kind_at t row → o ≡ own_octet q → r ≡ inside_at o v start (start + c)
+    pub wrapped_found : (start c q o : ℕ) (r : Option (ℕ × ℕ)) → h ≡ Some (start, c) → q ≡ member_kind_at t row → o ≡ own_octet q → r ≡ inside_at o v start (start + c)
         → r ≡ contents_at g k v at end
     wrapped_found start c q o r m j i told =
         contents-inside (mode_at t p) (number_at t p) k v at end f h explicitly (first_wrapper f explicitly first) opening start c o r m (i ∙ ap own_octet j) told

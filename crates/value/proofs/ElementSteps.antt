@@ -21,7 +21,6 @@ use Rattle.value.specs.Value.{Value, Values, end_values, next, encoding}
 use Rattle.value.specs.Order.{rising}
 use Rattle.value.specs.Decode.{Decoded, next_then, many, unwrapped}
 use Rattle.value.specs.Inner.Work.{checked, up_to, in_order, elements_checked, rising_after, order_after, neighbours, Answers}
-use Rattle.value.specs.declared.Checked.{Checked}
 use Rattle.value.proofs.ModeSteps.{own_tag}
 use Rattle.value.proofs.Views.{many-end, many_more}
 use Rattle.value.proofs.Decodes.{Own, own, framed, decodes}
@@ -55,11 +54,11 @@ order_next k v p x (Some xs) = go (eqb k kind.sequence_of) (not_above p (encodin
     go true b c = refl
     go false b c = refl
 
-told_at : (o : Option Decoded) (x : ℕ) → Checked.At x ≡ checked o → (d : Decoded) × (o ≡ Some d) × (d.after ≡ x)
+told_at : (o : Option Decoded) (x : ℕ) → Some x ≡ checked o → (d : Decoded) × (o ≡ Some d) × (d.after ≡ x)
 told_at None x e = absurd (let z : ◌≡◌ {A = ℕ} 0 1 = cc in omega arith)
 told_at (Some d) x e = (d, refl, cc)
 
-told_bad : (o : Option Decoded) → Checked.Bad ≡ checked o → o ≡ None
+told_bad : (o : Option Decoded) → None ≡ checked o → o ≡ None
 told_bad None e = refl
 told_bad (Some d) e = absurd (let z : ◌≡◌ {A = ℕ} 0 1 = cc in omega arith)
 
@@ -97,7 +96,7 @@ module _ (chain : ℕ) (t s m : List ℕ) (row : ℕ) (ok : Sound chain t s m) (
     pub element_falls : (z : ℕ) → 5 * (length s - row) + 2 ≡ z → 5 * (length s - e) + 3 < z
     element_falls z q = let a = ok.later.of_row row here (list-names t (row_at s row) list) in let b = a.0 in let d = a.1 in omega arith
 
-    module _ (before i : ℕ) (w : Listed chain t s row v start stop before i) (l : i < stop) (c : Checked) (tag : ℕ)
+    module _ (before i : ℕ) (w : Listed chain t s row v start stop before i) (l : i < stop) (c : Option ℕ) (tag : ℕ)
         (tagged : tag ≡ first_octet untagged (kind_at t (row_at s e)))
         (answered : Answers (type_from chain t s e) (kind_at t (row_at s e)) tag v i stop c) where
       asks : c ≡ checked (one i stop)
@@ -116,10 +115,10 @@ module _ (chain : ℕ) (t s m : List ℕ) (row : ℕ) (ok : Sound chain t s m) (
       unfolding elements_checked
       answer = ap (up_to stop) (sym w.same ∙ ap (order_after k v (part v before (i - before))) opens.2)
 
-      pub elements_bad : c ≡ Checked.Bad → Checked.Bad ≡ elements_checked k element v stop start
+      pub elements_bad : c ≡ None → None ≡ elements_checked k element v stop start
       elements_bad b = sym (answer ∙ ap (λ (o : Option Decoded). up_to stop (order_after k v (part v before (i - before)) (next_then (λ j. many one opens.0 stop j) o))) (told_bad (one i stop) (sym b ∙ asks)))
 
-      module _ (after : ℕ) (found : c ≡ Checked.At after) where
+      module _ (after : ℕ) (found : c ≡ Some after) where
         value_there_lem : (d : Decoded) × (one i stop ≡ Some d) × (d.after ≡ after)
         value_there_lem = told_at (one i stop) after (sym found ∙ asks)
 
@@ -155,7 +154,7 @@ module _ (chain : ℕ) (t s m : List ℕ) (row : ℕ) (ok : Sound chain t s m) (
           in_order_lem : neighbours k v before i after ≡ o
           in_order_lem = sym (ordered ∙ ap (λ (x : ℕ). neighbours x v before i after) kinded)
 
-          pub elements_disorder : not o ≡ true → Checked.Bad ≡ elements_checked k element v stop start
+          pub elements_disorder : not o ≡ true → None ≡ elements_checked k element v stop start
           elements_disorder h = sym (answer ∙ ap (up_to stop) (split ∙ ap (λ (x : Bool). both x (order_after k v (part v i (after - i)) (many one opens.0 stop after))) (in_order_lem ∙ not-true o h)))
 
           pub elements_again : not o ≡ false → Listed chain t s row v start stop i after
@@ -172,7 +171,7 @@ module _ (chain : ℕ) (t s m : List ℕ) (row : ℕ) (ok : Sound chain t s m) (
                 same = sym (split ∙ ap (λ (x : Bool). both x (order_after k v (part v i (after - i)) (many one opens.0 stop after))) (in_order_lem ∙ not-false o h)) ∙ ap (order_after k v (part v before (i - before))) (sym opens.2) ∙ w.same;
               }
 
-  pub elements_done : (before i : ℕ) → Listed chain t s row v start stop before i → stop ≤ i → Checked.At stop ≡ elements_checked k element v stop start
+  pub elements_done : (before i : ℕ) → Listed chain t s row v start stop before i → stop ≤ i → Some stop ≡ elements_checked k element v stop start
   unfolding elements_checked rising_after
   elements_done before i w h = ap (up_to stop) (sym (either_true (eqb k kind.sequence_of)) ∙ ap (order_after k v (part v before (i - before))) (sym (many-end one stop i w.n h)) ∙ w.same)
     where

@@ -1,7 +1,7 @@
 -- The value check: one lemma for each return; its premises are the facts as the code has them.
 use mathlib.Core.Path.{◌≡◌, refl, sym, ap, ◌∙◌}
 use mathlib.Core.Bool.{Bool, true, false, not}
-use Rattle.std.specs.Prelude.{Option, None, Some}
+use Rattle.std.specs.Prelude.{⊤, Result, Option, None, Some}
 use mathlib.Core.List.{List}
 use Prim.Native.Nat.{ℕ, ◌<◌}
 use native.Mathlib.Omega.{arith}
@@ -24,12 +24,11 @@ use Rattle.value.specs.Paper.{value_limits}
 use Rattle.value.specs.Decode.{Decoded, unwrapped, decode, in_wrapper, stored_value}
 use Rattle.value.specs.Check.{good, refused, report, value_fits, is_stored, storage, value_report}
 use Rattle.value.specs.Inner.Work.{checked, Answers}
-use Rattle.value.specs.declared.Checked.{Checked}
-use Rattle.value.specs.declared.ValueCheck.{ValueCheck}
+use Rattle.table.specs.declared.Refusal.{Refusal}
 use Rattle.value.proofs.ModeSteps.{own_tag}
 
 -- ---- the whole buffer
-module _ (ty : Ty) (v : List ℕ) (k tag : ℕ) (c : Checked) (tagged : tag ≡ first_octet untagged k) (answered : Answers ty k tag v 0 (length v) c) where
+module _ (ty : Ty) (v : List ℕ) (k tag : ℕ) (c : Option ℕ) (tagged : tag ≡ first_octet untagged k) (answered : Answers ty k tag v 0 (length v) c) where
   stored-by : is_some (stored_value ty v) ≡ is_some (bind (unwrapped ty untagged v 0 (length v)) (λ d. pick (eqb d.after (length v)) (Some d.value) None))
   unfolding stored_value decode in_wrapper
   stored-by = refl
@@ -38,11 +37,11 @@ module _ (ty : Ty) (v : List ℕ) (k tag : ℕ) (c : Checked) (tagged : tag ≡ 
   unfolding tagging_of
   asks = answered.says 0 0 (λ z. (own_tag tag k 0 tagged z).0)
 
-  by-none : (o : Option Decoded) → Checked.Bad ≡ checked o → false ≡ is_some (bind o (λ d. pick (eqb d.after (length v)) (Some d.value) None))
+  by-none : (o : Option Decoded) → None ≡ checked o → false ≡ is_some (bind o (λ d. pick (eqb d.after (length v)) (Some d.value) None))
   by-none None e = refl
   by-none (Some d) e = absurd (let z : ◌≡◌ {A = ℕ} 0 1 = cc in omega arith)
 
-  by_some : (o : Option Decoded) (x : ℕ) → Checked.At x ≡ checked o → eqb x (length v) ≡ is_some (bind o (λ d. pick (eqb d.after (length v)) (Some d.value) None))
+  by_some : (o : Option Decoded) (x : ℕ) → Some x ≡ checked o → eqb x (length v) ≡ is_some (bind o (λ d. pick (eqb d.after (length v)) (Some d.value) None))
   by_some None x e = absurd (let z : ◌≡◌ {A = ℕ} 0 1 = cc in omega arith)
   by_some (Some d) x e = let q : x ≡ d.after = cc in ap (λ (y : ℕ). eqb y (length v)) q ∙ go (eqb d.after (length v))
     where
@@ -50,10 +49,10 @@ module _ (ty : Ty) (v : List ℕ) (k tag : ℕ) (c : Checked) (tagged : tag ≡ 
       go true = refl
       go false = refl
 
-  pub stored-bad : c ≡ Checked.Bad → false ≡ is_some (stored_value ty v)
+  pub stored-bad : c ≡ None → false ≡ is_some (stored_value ty v)
   stored-bad e = by-none (unwrapped ty untagged v 0 (length v)) (sym e ∙ asks) ∙ sym stored-by
 
-  pub stored-whole : (next : ℕ) → c ≡ Checked.At next → eqb next (length v) ≡ is_some (stored_value ty v)
+  pub stored-whole : (next : ℕ) → c ≡ Some next → eqb next (length v) ≡ is_some (stored_value ty v)
   stored-whole next e = by_some (unwrapped ty untagged v 0 (length v)) next (sym e ∙ asks) ∙ sym stored-by
 
 -- ---- the table's rows and sets
@@ -115,6 +114,6 @@ module _ (t v : List ℕ) (x : Bool) (fits : x ≡ table_fits table_limits t) wh
     unfolding value_report
     sizes-value f = rw (sym fits ∙ not-false x e, sym fits-value ∙ not-true y f)
 
-    pub sizes-fit : (r : ValueCheck) → not y ≡ false → report r ≡ storage table_limits t v → report r ≡ value_report table_limits value_limits t v
+    pub sizes-fit : (r : Result ⊤ Refusal) → not y ≡ false → report r ≡ storage table_limits t v → report r ≡ value_report table_limits value_limits t v
     unfolding value_report
     sizes-fit r f q = rw (sym fits ∙ not-false x e, sym fits-value ∙ not-false y f) q

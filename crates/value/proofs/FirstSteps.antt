@@ -5,6 +5,7 @@ use mathlib.Core.List.{List}
 use Prim.Native.Nat.{ℕ, ◌≤◌, ◌<◌}
 use borrow.Author.Tests.{eq-eqb}
 use lib.ListN.{length}
+use Rattle.std.specs.Prelude.{Option, None}
 use Rattle.octets.specs.Octets.{octet}
 use Rattle.der.specs.Tag.{class, number}
 use Rattle.der.specs.Header.{inside_at}
@@ -16,7 +17,6 @@ use Rattle.table.specs.Inner.Rows.{table_rows, place_at, member_at, tagging_at, 
 use Rattle.table.specs.Inner.Words.{first_octet, how, Worded}
 use Rattle.value.specs.Decode.{starts_here}
 use Rattle.value.specs.Inner.Work.{same_tag, plain_of, plain_checked, absent_checked, member_checked}
-use Rattle.value.specs.declared.Checked.{Checked}
 use Rattle.value.proofs.ModeSteps.{plain-choice, plain_tag}
 use Rattle.value.proofs.TagSteps.{begins-same, first_usable, starts-past, starts_is}
 use Rattle.value.proofs.MemberSteps.{member_absent, by-plain}
@@ -32,7 +32,7 @@ module _ (t w : List ℕ) (row : ℕ) (ok : Worded t w) (here : row < length (ta
   abbrev g : Tagging
   g = tagging_at t row
 
-  pub plain-past : (r : Checked) → stop ≤ i → r ≡ absent_checked t p i → r ≡ member_checked (member_at t row) (member_type_at t row) v stop i
+  pub plain-past : (r : Option ℕ) → stop ≤ i → r ≡ absent_checked t p i → r ≡ member_checked (member_at t row) (member_type_at t row) v stop i
   plain-past r h e =
       member_absent table_limits.chain t (table_rows t) ok.m row ok.ready here member v i stop false
       (starts-past t w row ok here member v stop i h) r refl e
@@ -50,18 +50,18 @@ module _ (t w : List ℕ) (row : ℕ) (ok : Worded t w) (here : row < length (ta
         ∙ starts_is t w row ok here member v stop i (same_tag f (octet v i)) l
         (begins-same t w row ok here member f (octet v i) first (plain-choice k (mode_at t p) plain))
 
-    pub plain_absent : (x : Bool) (r : Checked) → x ≡ same_tag f u → x ≡ false → r ≡ absent_checked t p i
+    pub plain_absent : (x : Bool) (r : Option ℕ) → x ≡ same_tag f u → x ≡ false → r ≡ absent_checked t p i
         → r ≡ member_checked (member_at t row) (member_type_at t row) v stop i
     plain_absent x r a h e = member_absent table_limits.chain t (table_rows t) ok.m row ok.ready here member v i stop x (a ∙ starts) r (ap not h) e
 
     there : same_tag f u ≡ true → plain_checked t p k g v i stop ≡ member_checked (member_at t row) (member_type_at t row) v stop i
     there h = by-plain table_limits.chain t (table_rows t) ok.m row ok.ready here member v i stop (same_tag f u) starts h plain
 
-    pub plain_here : (r : Checked) → u ≡ f → r ≡ plain_checked t p k g v i stop → r ≡ member_checked (member_at t row) (member_type_at t row) v stop i
+    pub plain_here : (r : Option ℕ) → u ≡ f → r ≡ plain_checked t p k g v i stop → r ≡ member_checked (member_at t row) (member_type_at t row) v stop i
     unfolding same_tag
     plain_here r h e = e ∙ there (rw (h, eq-eqb (number f) (number f) refl, eq-eqb (class f) (class f) refl))
 
-    pub plain-wrong : (x : Bool) → (u ≡ f → ⊥) → x ≡ same_tag f u → x ≡ true → Checked.Bad ≡ member_checked (member_at t row) (member_type_at t row) v stop i
+    pub plain-wrong : (x : Bool) → (u ≡ f → ⊥) → x ≡ same_tag f u → x ≡ true → None ≡ member_checked (member_at t row) (member_type_at t row) v stop i
     unfolding plain_checked
     plain-wrong x h a b =
         ap (plain_of t p k v)

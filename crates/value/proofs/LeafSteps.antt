@@ -1,4 +1,5 @@
 -- The functions outside the cycle: one lemma for each return and each turn of a loop; its premises are the facts as the code has them.
+use Rattle.std.specs.Prelude.{Option}
 use mathlib.Core.Path.{◌≡◌, refl, sym, ap, ◌∙◌}
 use mathlib.Core.Bool.{Bool, true, false}
 use mathlib.Core.List.{List}
@@ -7,18 +8,17 @@ use native.Mathlib.Omega.{arith}
 use borrow.Author.Tests.{eq-eqb, ne_eqb}
 use lib.ListN.{length}
 use lib.Dec.{eqb}
+use Rattle.std.specs.Prelude.{None, Some}
 use Rattle.octets.specs.Pick.{pick}
 use Rattle.octets.specs.Octets.{part, same}
 use Rattle.rows.specs.Row.{row_at, named_at, presence_at}
 use Rattle.der.specs.Tag.{own_octet, implicit_octet, wrapper_octet}
 use Rattle.der.specs.Header.{inside_at}
 use Rattle.der.specs.Order.{not_above}
-use Rattle.der.specs.declared.Inside.{Inside}
 use Rattle.der.proofs.Laws.{inside-within}
 use Rattle.types.specs.Types.{Tagging, untagged, explicit, implicit, tagging_of, member_of, type_from}
 use Rattle.value.specs.Decode.{tag_octet, starts_here}
 use Rattle.value.specs.Inner.Work.{up_to, first, starts_of, contents_at, holds, within, stored_default, absent_checked, neighbours}
-use Rattle.value.specs.declared.Checked.{Checked}
 
 -- ---- tags
 module _ (mode n k : ℕ) where
@@ -37,7 +37,7 @@ module _ (mode n k : ℕ) where
 
   -- ---- contents under a tag mode
   module _ (v : List ℕ) (at end : ℕ) where
-    pub contents-plain : (o : ℕ) (r : Inside) → (mode ≡ 1 → ⊥) → o ≡ tag_octet (tagging_of mode n) k → r ≡ inside_at o v at end → r ≡ contents_at (tagging_of mode n) k v at end
+    pub contents-plain : (o : ℕ) (r : Option (ℕ × ℕ)) → (mode ≡ 1 → ⊥) → o ≡ tag_octet (tagging_of mode n) k → r ≡ inside_at o v at end → r ≡ contents_at (tagging_of mode n) k v at end
     unfolding contents_at tagging_of
     contents-plain o r g e q = go (eqb mode 0) (e' ∙ refl)
       where
@@ -51,74 +51,74 @@ module _ (mode n k : ℕ) where
         go true f = q ∙ ap (λ (y : ℕ). inside_at y v at end) f
         go false f = rw off (q ∙ ap (λ (y : ℕ). inside_at y v at end) (rw off at f))
 
-    module _ (w : ℕ) (h : Inside) (g : mode ≡ 1) (e : w ≡ wrapper_octet n) (told : h ≡ inside_at w v at end) where
+    module _ (w : ℕ) (h : Option (ℕ × ℕ)) (g : mode ≡ 1) (e : w ≡ wrapper_octet n) (told : h ≡ inside_at w v at end) where
       is-explicit : tagging_of mode n ≡ explicit n
       unfolding tagging_of
       is-explicit = rw g
 
-      pub contents-misfit : h ≡ Inside.Misfit → Inside.Misfit ≡ contents_at (tagging_of mode n) k v at end
+      pub contents-misfit : h ≡ None → None ≡ contents_at (tagging_of mode n) k v at end
       unfolding contents_at
       contents-misfit m = rw (is-explicit, ← e, ← told, m)
 
-      pub contents-inside : (start c o : ℕ) (r : Inside) → h ≡ Inside.Of start c → o ≡ own_octet k → r ≡ inside_at o v start (start + c) → r ≡ contents_at (tagging_of mode n) k v at end
+      pub contents-inside : (start c o : ℕ) (r : Option (ℕ × ℕ)) → h ≡ Some (start, c) → o ≡ own_octet k → r ≡ inside_at o v start (start + c) → r ≡ contents_at (tagging_of mode n) k v at end
       unfolding contents_at
       contents-inside start c o r m f q = rw (is-explicit, ← e, ← told, m) (q ∙ ap (λ (y : ℕ). inside_at y v start (start + c)) f)
 
 -- contents lie within an end, which is one of the language's numbers
-pub inside-fits : (o : ℕ) (v : List ℕ) (at end start n : ℕ) (h : Inside) → h ≡ inside_at o v at end → h ≡ Inside.Of start n → end < 18446744073709551616 → start + n < 18446744073709551616
+pub inside-fits : (o : ℕ) (v : List ℕ) (at end start n : ℕ) (h : Option (ℕ × ℕ)) → h ≡ inside_at o v at end → h ≡ Some (start, n) → end < 18446744073709551616 → start + n < 18446744073709551616
 inside-fits o v at end start n h e q l = let w = inside-within o v at end start n (sym e ∙ q) in omega arith
 
 -- and within the octets, where the end does
-pub inside-ends : (o : ℕ) (v : List ℕ) (at end start n : ℕ) (h : Inside) → h ≡ inside_at o v at end → h ≡ Inside.Of start n → end ≤ length v → start + n ≤ length v
+pub inside-ends : (o : ℕ) (v : List ℕ) (at end start n : ℕ) (h : Option (ℕ × ℕ)) → h ≡ inside_at o v at end → h ≡ Some (start, n) → end ≤ length v → start + n ≤ length v
 inside-ends o v at end start n h e q l = let w = inside-within o v at end start n (sym e ∙ q) in omega arith
 
-contents-within : (g : Tagging) (k : ℕ) (v : List ℕ) (at end start n : ℕ) → contents_at g k v at end ≡ Inside.Of start n → start + n ≤ end
+contents-within : (g : Tagging) (k : ℕ) (v : List ℕ) (at end start n : ℕ) → contents_at g k v at end ≡ Some (start, n) → start + n ≤ end
 unfolding contents_at
 contents-within untagged k v at end start n e = inside-within (tag_octet untagged k) v at end start n e
 contents-within (implicit m) k v at end start n e = inside-within (tag_octet (implicit m) k) v at end start n e
 contents-within (explicit m) k v at end start n e = go (inside_at (wrapper_octet m) v at end) refl e
   where
-    go : (i : Inside) → inside_at (wrapper_octet m) v at end ≡ i → within (inside_at (tag_octet (explicit m) k) v) i ≡ Inside.Of start n → start + n ≤ end
-    go Inside.Misfit q f = absurd (let z : ◌≡◌ {A = ℕ} 0 1 = cc in omega arith)
-    go (Inside.Of a c) q f =
+    go : (i : Option (ℕ × ℕ)) → inside_at (wrapper_octet m) v at end ≡ i → within (inside_at (tag_octet (explicit m) k) v) i ≡ Some (start, n) → start + n ≤ end
+    go None q f = absurd (let z : ◌≡◌ {A = ℕ} 0 1 = cc in omega arith)
+    go (Some (a, c)) q f =
         let x = inside-within (wrapper_octet m) v at end a c q in
         let y = inside-within (tag_octet (explicit m) k) v a (a + c) start n f in
         omega arith
 
 -- ---- a default that is stored
-module _ (v d : List ℕ) (g : Tagging) (k at end : ℕ) (h : Inside) (e : h ≡ contents_at g k v at end) where
-  pub holds-none : h ≡ Inside.Misfit → false ≡ holds v d (contents_at g k v at end)
+module _ (v d : List ℕ) (g : Tagging) (k at end : ℕ) (h : Option (ℕ × ℕ)) (e : h ≡ contents_at g k v at end) where
+  pub holds-none : h ≡ None → false ≡ holds v d (contents_at g k v at end)
   holds-none m = rw (← e, m)
 
-  pub contents-ends : (start n : ℕ) → h ≡ Inside.Of start n → end ≤ length v → start + n ≤ length v
+  pub contents-ends : (start n : ℕ) → h ≡ Some (start, n) → end ≤ length v → start + n ≤ length v
   contents-ends start n m l = let w = contents-within g k v at end start n (sym e ∙ m) in omega arith
 
-  pub contents-fits : (start n : ℕ) → h ≡ Inside.Of start n → end < 18446744073709551616 → start + n < 18446744073709551616
+  pub contents-fits : (start n : ℕ) → h ≡ Some (start, n) → end < 18446744073709551616 → start + n < 18446744073709551616
   contents-fits start n m l = let w = contents-within g k v at end start n (sym e ∙ m) in omega arith
 
-  pub holds_same : (start n : ℕ) (r : Bool) → h ≡ Inside.Of start n → r ≡ same (part v start (start + n - start)) d → r ≡ holds v d (contents_at g k v at end)
+  pub holds_same : (start n : ℕ) (r : Bool) → h ≡ Some (start, n) → r ≡ same (part v start (start + n - start)) d → r ≡ holds v d (contents_at g k v at end)
   holds_same start n r m q =
       let l : start + n - start ≡ n = omega arith in
       q ∙ ap (λ (x : ℕ). same (part v start x) d) l ∙ sym (ap (holds v d) (sym e ∙ m))
 
 module _ (t s : List ℕ) (p : ℕ) (v : List ℕ) (at end pr : ℕ) (read : pr ≡ presence_at t p) where
-  pub stored_not : (pr ≡ 2 → ⊥) → false ≡ stored_default t s p v at end
+  pub stored_not : (pr ≡ 2 → ⊥) → eqb pr 2 ≡ stored_default t s p v at end
   unfolding stored_default
   stored_not h = rw (← read, ne_eqb pr 2 h)
 
 -- a member that is not there
 module _ (t : List ℕ) (p i pr : ℕ) (read : pr ≡ presence_at t p) where
-  pub absent_bad : pr ≡ 0 → Checked.Bad ≡ absent_checked t p i
+  pub absent_bad : pr ≡ 0 → None ≡ absent_checked t p i
   unfolding absent_checked
   absent_bad h = rw (← read, eq-eqb pr 0 h)
 
-  pub absent_is : (pr ≡ 0 → ⊥) → Checked.At i ≡ absent_checked t p i
+  pub absent_is : (pr ≡ 0 → ⊥) → Some i ≡ absent_checked t p i
   unfolding absent_checked
   absent_is h = rw (← read, ne_eqb pr 0 h)
 
 -- ---- neighbours
 module _ (k : ℕ) (v : List ℕ) (before i next : ℕ) where
-  pub order_any : k ≡ 14 → true ≡ neighbours k v before i next
+  pub order_any : k ≡ 14 → eqb k 14 ≡ neighbours k v before i next
   unfolding neighbours
   order_any h = rw (eq-eqb k 14 h)
 
@@ -128,10 +128,10 @@ module _ (k : ℕ) (v : List ℕ) (before i next : ℕ) where
 
 -- ---- contents of a basic kind
 module _ (stop : ℕ) (r x : Bool) (e : r ≡ x) where
-  pub up_checked : r ≡ true → Checked.At stop ≡ up_to stop x
+  pub up_checked : r ≡ true → Some stop ≡ up_to stop x
   up_checked h = rw (sym e ∙ h)
 
-  pub up_not : r ≡ false → Checked.Bad ≡ up_to stop x
+  pub up_not : r ≡ false → None ≡ up_to stop x
   up_not h = rw (sym e ∙ h)
 
 pub first-none : (f : ℕ → Bool) (a : ℕ) → a ≡ first f 0 a

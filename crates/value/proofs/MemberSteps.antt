@@ -12,7 +12,6 @@ use Rattle.octets.specs.Pick.{pick, both, bind, is_some}
 use Rattle.octets.specs.Octets.{part, same}
 use Rattle.octets.proofs.Laws.{both_true}
 use Rattle.der.specs.Header.{inside_at}
-use Rattle.der.specs.declared.Inside.{Inside}
 use Rattle.rows.specs.Row.{row_at, kind_at, is_member, named_at, members_at, mode_at, number_at, presence_at, default_at}
 use Rattle.clauses.specs.Clauses.{type_kind, default_allowed, default_legal}
 use Rattle.types.specs.Types.{Tagging, untagged, explicit, implicit, mandatory, optional, default, tagging_of, presence_of, Member, member_of, NamedBit, Ty}
@@ -25,7 +24,6 @@ use Rattle.types.proofs.TagLaws.{mandatory_as}
 use Rattle.value.specs.Value.{spot_at, spot_of, Fields, end_fields, present, absent}
 use Rattle.value.specs.Decode.{Decoded, after_of, tag_octet, in_wrapper, starts_here, is_default, unless_default, present_then, absent_then, unwrapped, fields_from, decode}
 use Rattle.value.specs.Inner.Work.{checked, up_to, within, contents_at, holds, stored_default, plain_checked, absent_checked, member_checked, fields_checked}
-use Rattle.value.specs.declared.Checked.{Checked}
 use Rattle.value.proofs.Views.{leaf_view, wrapper_view}
 use Rattle.rows.proofs.KindLaws.{member-names}
 use Rattle.types.proofs.TypeCases.{typed_basic}
@@ -34,7 +32,7 @@ use Rattle.value.proofs.PlainSteps.{plain-decoded}
 
 -- ---- a default that is stored: the contents of a basic value under a tag mode
 contents_are : (g : Tagging) (k : ℕ) (names : List NamedBit) (v : List ℕ) (at end : ℕ) (d : Decoded) → decode (basic k names) g v at end ≡ Some d
-    → (start : ℕ) × (n : ℕ) × (contents_at g k v at end ≡ Inside.Of start n) × ((spot_of d.value).contents ≡ part v start n)
+    → (start : ℕ) × (n : ℕ) × (contents_at g k v at end ≡ Some (start, n)) × ((spot_of d.value).contents ≡ part v start n)
 unfolding decode in_wrapper contents_at spot_at
 contents_are untagged k names v at end d e = let w = leaf_view v at end d k names untagged e in
     (w.0, w.1, w.2, ap (λ (y : Decoded). (spot_of y.value).contents) (sym w.4))
@@ -129,11 +127,11 @@ module _ (chain : ℕ) (t s m : List ℕ) (row : ℕ) (ok : Ready chain t s m) (
             (eqb-false (presence_at t place) 2 u))
 
     module _ (x : Bool) (starting : x ≡ starts_here (member_of t row (row_at s row)) (type_from chain t s (named_at t (row_at s row))) v stop i) where
-      pub member_absent : (r : Checked) → not x ≡ true → r ≡ absent_checked t place i → r ≡ member_checked the_member target-type v stop i
+      pub member_absent : (r : Option ℕ) → not x ≡ true → r ≡ absent_checked t place i → r ≡ member_checked the_member target-type v stop i
       unfolding member_checked absent_checked member_of
       member_absent r h e =
           let off : starts_here the_member target-type v stop i ≡ false = sym starting ∙ not-true x h in
-          rw off (e ∙ ap (λ (y : Bool). pick y Checked.Bad (Checked.At i)) (sym (mandatory_as (presence_at t place) (default_at t place))))
+          rw off (e ∙ ap (λ (y : Bool). pick y None (Some i)) (sym (mandatory_as (presence_at t place) (default_at t place))))
 
       module _ (on : not x ≡ false) (y : Bool) (stored : y ≡ stored_default t s (row_at s row) v i stop) where
         there : member_checked the_member target-type v stop i ≡ checked (bind (decode target-type tagging v i stop) (λ d. pick (is_default (presence_of (presence_at t place) (default_at t place)) (spot_of d.value).contents) None (Some d)))
@@ -141,26 +139,26 @@ module _ (chain : ℕ) (t s m : List ℕ) (row : ℕ) (ok : Ready chain t s m) (
         there = let h : starts_here the_member target-type v stop i ≡ true = sym starting ∙ not-false x on in rw h
 
         by_default_lem : (o : Option Decoded) → decode target-type tagging v i stop ≡ o
-            → checked (bind o (λ d. pick (is_default (presence_of (presence_at t place) (default_at t place)) (spot_of d.value).contents) None (Some d))) ≡ pick y Checked.Bad (checked o)
+            → checked (bind o (λ d. pick (is_default (presence_of (presence_at t place) (default_at t place)) (spot_of d.value).contents) None (Some d))) ≡ pick y None (checked o)
         by_default_lem None q = go y
           where
-            go : (z : Bool) → Checked.Bad ≡ pick z Checked.Bad Checked.Bad
+            go : (z : Bool) → ◌≡◌ {A = Option ℕ} None (pick z None None)
             go true = refl
             go false = refl
         by_default_lem (Some d) q = ap (λ (z : Bool). checked (pick z None (Some d))) (is-default d q ∙ sym stored) ∙ go y
           where
-            go : (z : Bool) → checked (pick z None (Some d)) ≡ pick z Checked.Bad (Checked.At d.after)
+            go : (z : Bool) → checked (pick z None (Some d)) ≡ pick z None (Some d.after)
             go true = refl
             go false = refl
 
-        by-stored : member_checked the_member target-type v stop i ≡ pick y Checked.Bad (checked (decode target-type tagging v i stop))
+        by-stored : member_checked the_member target-type v stop i ≡ pick y None (checked (decode target-type tagging v i stop))
         by-stored = there ∙ by_default_lem (decode target-type tagging v i stop) refl
 
-        pub member-default : y ≡ true → Checked.Bad ≡ member_checked the_member target-type v stop i
-        member-default h = sym (by-stored ∙ ap (λ (z : Bool). pick z Checked.Bad (checked (decode target-type tagging v i stop))) h)
+        pub member-default : y ≡ true → None ≡ member_checked the_member target-type v stop i
+        member-default h = sym (by-stored ∙ ap (λ (z : Bool). pick z None (checked (decode target-type tagging v i stop))) h)
 
-        pub member_is : (r : Checked) → y ≡ false → r ≡ checked (decode target-type tagging v i stop) → r ≡ member_checked the_member target-type v stop i
-        member_is r h e = e ∙ sym (by-stored ∙ ap (λ (z : Bool). pick z Checked.Bad (checked (decode target-type tagging v i stop))) h)
+        pub member_is : (r : Option ℕ) → y ≡ false → r ≡ checked (decode target-type tagging v i stop) → r ≡ member_checked the_member target-type v stop i
+        member_is r h e = e ∙ sym (by-stored ∙ ap (λ (z : Bool). pick z None (checked (decode target-type tagging v i stop))) h)
 
       -- a plain member
       pub by-plain : x ≡ true → how (type_kind t s row) (mode_at t place) ≡ 0
@@ -168,14 +166,14 @@ module _ (chain : ℕ) (t s m : List ℕ) (row : ℕ) (ok : Ready chain t s m) (
       unfolding stored_default
       by-plain on h =
           plain-decoded (type_kind t s row) (mode_at t place) h (bits_after t s target_row) t place (number_at t place) v i stop
-          ∙ ap (λ (ty : Ty). pick (stored_default t s place v i stop) Checked.Bad (checked (decode ty tagging v i stop)))
+          ∙ ap (λ (ty : Ty). pick (stored_default t s place v i stop) None (checked (decode ty tagging v i stop)))
           (sym (basic_type (plain_basic (type_kind t s row) (mode_at t place) h)))
           ∙ sym (by-stored (ap not on) (stored_default t s place v i stop) refl)
 
 -- ---- members in turn
-abbrev then_fields : Members → List ℕ → ℕ → Checked → Bool
-then_fields ms v stop Checked.Bad = false
-then_fields ms v stop (Checked.At x) = is_some (fields_from ms v stop x)
+abbrev then_fields : Members → List ℕ → ℕ → Option ℕ → Bool
+then_fields ms v stop None = false
+then_fields ms v stop (Some x) = is_some (fields_from ms v stop x)
 
 fields_next : (mem : Member) (ty : Ty) (ms : Members) (v : List ℕ) (stop i : ℕ) → is_some (fields_from (more mem ty ms) v stop i) ≡ then_fields ms v stop (member_checked mem ty v stop i)
 unfolding unwrapped member_checked decode
@@ -189,7 +187,7 @@ fields_next mem ty ms v stop i = go (starts_here mem ty v stop i) (in_wrapper af
         rest None = refl
         rest (Some fs) = refl
 
-    missing : (x : Bool) → is_some (pick x None (bind (fields_from ms v stop i) (λ fs. Some (absent mem fs)))) ≡ then_fields ms v stop (pick x Checked.Bad (Checked.At i))
+    missing : (x : Bool) → is_some (pick x None (bind (fields_from ms v stop i) (λ fs. Some (absent mem fs)))) ≡ then_fields ms v stop (pick x None (Some i))
     missing true = refl
     missing false = rest (fields_from ms v stop i)
       where
@@ -198,7 +196,7 @@ fields_next mem ty ms v stop i = go (starts_here mem ty v stop i) (in_wrapper af
         rest (Some fs) = refl
 
     go : (x : Bool) (o : Option Decoded) → is_some (pick x (present_then mem (λ i. fields_from ms v stop i) o) (absent_then mem (fields_from ms v stop i)))
-        ≡ then_fields ms v stop (pick x (checked (bind o (unless_default mem))) (pick (is_mandatory mem.presence) Checked.Bad (Checked.At i)))
+        ≡ then_fields ms v stop (pick x (checked (bind o (unless_default mem))) (pick (is_mandatory mem.presence) None (Some i)))
     go true None = refl
     go true (Some d) = found (is_default mem.presence (spot_of d.value).contents) d
     go false o = missing (is_mandatory mem.presence)
@@ -243,11 +241,11 @@ module _ (chain : ℕ) (t s m : List ℕ) (row : ℕ) (ok : Sound chain t s m) (
           ap (λ (x : ℕ). is_some (fields_from (members_from (type_from chain t s) t s (row + 1 + j) x) v stop i)) q
           ∙ fields_next (member_of t (row + 1 + j) (row_at s (row + 1 + j))) (type_from chain t s (named_at t (row_at s (row + 1 + j)))) (members_from (type_from chain t s) t s (row + 1 + j + 1) (n - (j + 1))) v stop i
 
-      module _ (c : Checked) (told-member : c ≡ member_checked (member_of t (row + 1 + j) (row_at s (row + 1 + j))) (type_from chain t s (named_at t (row_at s (row + 1 + j)))) v stop i) where
-        pub fields_bad : c ≡ Checked.Bad → Checked.Bad ≡ fields_checked (members_from (type_from chain t s) t s (row + 1) (members_at t (row_at s row))) v stop start
+      module _ (c : Option ℕ) (told-member : c ≡ member_checked (member_of t (row + 1 + j) (row_at s (row + 1 + j))) (type_from chain t s (named_at t (row_at s (row + 1 + j)))) v stop i) where
+        pub fields_bad : c ≡ None → None ≡ fields_checked (members_from (type_from chain t s) t s (row + 1) (members_at t (row_at s row))) v stop start
         fields_bad e = ap (up_to stop) (sym (opens ∙ ap (then_fields (members_from (type_from chain t s) t s (row + 1 + j + 1) (n - (j + 1))) v stop) (sym told-member ∙ e))) ∙ whole
 
-        pub fields_again : (next : ℕ) → c ≡ Checked.At next → Fielded chain t s row v start stop n next (j + 1)
+        pub fields_again : (next : ℕ) → c ≡ Some next → Fielded chain t s row v start stop n next (j + 1)
         fields_again next e =
             let a : row + 1 + (j + 1) ≡ row + 1 + j + 1 = omega arith in
             record {
@@ -262,8 +260,8 @@ module _ (chain : ℕ) (t s m : List ℕ) (row : ℕ) (ok : Sound chain t s m) (
       unfolding members_from unwrapped
       ending = let q : n - j ≡ 0 = omega arith in ap (λ (x : ℕ). is_some (fields_from (members_from (type_from chain t s) t s (row + 1 + j) x) v stop i)) q
 
-      pub fields_short : (i ≡ stop → ⊥) → Checked.Bad ≡ fields_checked (members_from (type_from chain t s) t s (row + 1) (members_at t (row_at s row))) v stop start
+      pub fields_short : (i ≡ stop → ⊥) → None ≡ fields_checked (members_from (type_from chain t s) t s (row + 1) (members_at t (row_at s row))) v stop start
       fields_short h = ap (up_to stop) (sym (ending ∙ ap (λ (x : Bool). is_some (pick x (Some end_fields) None)) (ne_eqb i stop h))) ∙ whole
 
-      pub fields_done : i ≡ stop → Checked.At stop ≡ fields_checked (members_from (type_from chain t s) t s (row + 1) (members_at t (row_at s row))) v stop start
+      pub fields_done : i ≡ stop → Some stop ≡ fields_checked (members_from (type_from chain t s) t s (row + 1) (members_at t (row_at s row))) v stop start
       fields_done h = ap (up_to stop) (sym (ending ∙ ap (λ (x : Bool). is_some (pick x (Some end_fields) None)) (eq-eqb i stop h))) ∙ whole

@@ -7,6 +7,7 @@ use native.Mathlib.Omega.{arith}
 use borrow.Author.Tests.{not-false, eq-eqb, ne_eqb, eqb-true, eqb-false}
 use lib.ListN.{length}
 use lib.Dec.{eqb}
+use Rattle.std.specs.Prelude.{Option, None, Some}
 use Rattle.octets.specs.Pick.{no}
 use Rattle.octets.proofs.Laws.{both_true}
 use Rattle.rows.specs.Paper.{table_limits}
@@ -16,8 +17,6 @@ use Rattle.table.specs.Inner.Rows.{table_rows, place_at, MemberRow, members_afte
 use Rattle.table.specs.Inner.Words.{how, Worded}
 use Rattle.value.specs.Decode.{alternative_from, decode}
 use Rattle.value.specs.Inner.Work.{checked, first, starts_of, is_nested, ChosenRow, Chooses}
-use Rattle.value.specs.declared.Alternative.{Alternative}
-use Rattle.value.specs.declared.Checked.{Checked}
 use Rattle.value.proofs.CheckSteps.{check_by_choice, bare-decode}
 use Rattle.value.proofs.ChoiceSteps.{choice-none, choice-here, choice-member, choice-is}
 use Rattle.value.proofs.ModeSteps.{is-explicit, not_explicit}
@@ -27,9 +26,9 @@ not_no true = refl
 not_no false = refl
 
 module _ (k mode : ℕ) where
-  pub nested-other : (x : ℕ) → x ≡ k → (x ≡ 13 → ⊥) → false ≡ is_nested k mode
+  pub nested-other : (x : ℕ) → x ≡ k → (x ≡ 13 → ⊥) → eqb x 13 ≡ is_nested k mode
   unfolding is_nested
-  nested-other x e h = rw (ne_eqb k 13 (λ z. h (e ∙ z)))
+  nested-other x e h = ne_eqb x 13 h ∙ rw (ne_eqb k 13 (λ z. h (e ∙ z)))
 
   pub nested-choice : (x h : ℕ) → x ≡ k → x ≡ 13 → h ≡ how k mode → not (eqb h 1) ≡ is_nested k mode
   unfolding is_nested
@@ -47,11 +46,11 @@ module _ (k mode : ℕ) where
 
 module _ (t w v : List ℕ) (row at end : ℕ) (ok : Worded t w) (here : row < length (table_rows t))
     (n j : ℕ) (counted : n ≡ members_at t (place_at t row)) (found : j ≡ first (starts_of table_limits.chain t (table_rows t) row v end at) n 0) where
-  pub choose_none : n ≤ j → Chooses t v row at end Alternative.Missing
+  pub choose_none : n ≤ j → Chooses t v row at end None
   unfolding Chooses
   choose_none h = choice-none table_limits.chain t (table_rows t) ok.m row ok.ready.sound here v at end n j counted found h
 
-  pub choose_this : j < n → Chooses t v row at end (Alternative.Of (row + 1 + j))
+  pub choose_this : j < n → Chooses t v row at end (Some (row + 1 + j))
   unfolding Chooses
   choose_this l = record {
     here = choice-here table_limits.chain t (table_rows t) ok.m row ok.ready.sound here v at end n j counted found l;
@@ -61,12 +60,12 @@ module _ (t w v : List ℕ) (row at end : ℕ) (ok : Worded t w) (here : row < l
   }
 
 -- ---- the alternative that is chosen
-module _ (t v : List ℕ) (row at end : ℕ) (a : Alternative) (chooses : Chooses t v row at end a) where
-  pub missing_is : a ≡ Alternative.Missing → Checked.Bad ≡ checked (alternative_from (members_after t row) v at end)
+module _ (t v : List ℕ) (row at end : ℕ) (a : Option ℕ) (chooses : Chooses t v row at end a) where
+  pub missing_is : a ≡ None → None ≡ checked (alternative_from (members_after t row) v at end)
   unfolding Chooses
   missing_is e = rw e at chooses
 
-  module _ (r : ℕ) (found : a ≡ Alternative.Of r) where
+  module _ (r : ℕ) (found : a ≡ Some r) where
     the_row : ChosenRow t v row at end r
     unfolding Chooses
     the_row = rw found at chooses
@@ -80,7 +79,7 @@ module _ (t v : List ℕ) (row at end : ℕ) (a : Alternative) (chooses : Choose
     pub row_falls : (w : List ℕ) (k : ℕ) → Worded t w → 5 * (length (table_rows t) - row) + 2 ≡ k → 5 * (length (table_rows t) - named_at t (place_at t r)) + 5 < k
     row_falls w k ok e = let l = the_row.later in let b = ok.ready.target r row_here (member-names t (place_at t r) row-member) in omega arith
 
-    pub row_is : (c : Checked) → c ≡ checked (decode (member_type_at t r) (tagging_at t r) v at end) → c ≡ checked (alternative_from (members_after t row) v at end)
+    pub row_is : (c : Option ℕ) → c ≡ checked (decode (member_type_at t r) (tagging_at t r) v at end) → c ≡ checked (alternative_from (members_after t row) v at end)
     row_is c e = e ∙ the_row.same
 
 -- ---- the loop: the value of the row's CHOICE is that of the CHOICE that it has come to
@@ -92,16 +91,16 @@ pub record Descends (t v : List ℕ) (row at end choice : ℕ) : Type 0 where
 pub descends_start : (t v : List ℕ) (row at end : ℕ) → row < length (table_rows t) → Descends t v row at end row
 descends_start t v row at end h = record { within = h; later = omega arith; same = refl }
 
-module _ (t v : List ℕ) (row at end choice : ℕ) (so_far : Descends t v row at end choice) (a : Alternative) (chooses : Chooses t v choice at end a) where
-  pub inner_none : a ≡ Alternative.Missing → Chooses t v row at end Alternative.Missing
+module _ (t v : List ℕ) (row at end choice : ℕ) (so_far : Descends t v row at end choice) (a : Option ℕ) (chooses : Chooses t v choice at end a) where
+  pub inner_none : a ≡ None → Chooses t v row at end None
   unfolding Chooses
   inner_none e = missing_is t v choice at end a chooses e ∙ so_far.same
 
-  module _ (r : ℕ) (found : a ≡ Alternative.Of r) where
+  module _ (r : ℕ) (found : a ≡ Some r) where
     this : ChosenRow t v choice at end r
     this = the_row t v choice at end a chooses r found
 
-    pub inner_this : Chooses t v row at end (Alternative.Of r)
+    pub inner_this : Chooses t v row at end (Some r)
     unfolding Chooses
     inner_this = record { here = this.here; member = this.member; later = let x = so_far.later in let y = this.later in omega arith; same = this.same ∙ so_far.same }
 

@@ -30,9 +30,9 @@ use Rattle.value.specs.Inner.Work.{same_tag, opens_by}
 
 -- ---- the functions
 module _ (a b : ℕ) where
-  pub tags-apart : (bit_and a 31 ≡ bit_and b 31 → ⊥) → false ≡ same_tag a b
+  pub tags-apart : (bit_and a 31 ≡ bit_and b 31 → ⊥) → eqb (bit_and a 31) (bit_and b 31) ≡ same_tag a b
   unfolding same_tag number
-  tags-apart h = rw (ne_eqb (a % 32) (b % 32) (λ z. h (and_mask a 5 ∙ z ∙ sym (and_mask b 5))))
+  tags-apart h = ne_eqb (bit_and a 31) (bit_and b 31) h ∙ rw (ne_eqb (a % 32) (b % 32) (λ z. h (and_mask a 5 ∙ z ∙ sym (and_mask b 5))))
 
   pub tags-class : bit_and a 31 ≡ bit_and b 31 → eqb (a / 64) (b / 64) ≡ same_tag a b
   unfolding same_tag number class

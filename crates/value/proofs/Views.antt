@@ -13,7 +13,6 @@ use Rattle.der.specs.Kind as kind
 use Rattle.der.specs.Tag.{wrapper_octet}
 use Rattle.der.specs.Header.{header_at, inside_at, any_tag, opened}
 use Rattle.der.specs.Legal.{legal}
-use Rattle.der.specs.declared.Inside.{Inside}
 use Rattle.types.specs.Types.{Tagging, untagged, explicit, implicit, Member, NamedBit, Ty, basic, sequence, list_of, Members}
 use Rattle.types.specs.Begins.{is_mandatory}
 use Rattle.value.specs.Inner.Decodes.{is_bare}
@@ -37,15 +36,15 @@ pub pick_view : {A : Type 0} (t : Bool) (a b : A) → pick t (Some a) None ≡ S
 pick_view true a b e = (refl, some_same a b e)
 pick_view false a b e = none-some b e
 
-pub opened_view : {A : Type 0} (i : Inside) (f : ℕ → ℕ → Option A) (a : A) → opened i f ≡ Some a → (start : ℕ) × (n : ℕ) × (i ≡ Inside.Of start n) × (f start n ≡ Some a)
-opened_view Inside.Misfit f a e = none-some a e
-opened_view (Inside.Of start n) f a e = (start, n, refl, e)
+pub opened_view : {A : Type 0} (i : Option (ℕ × ℕ)) (f : ℕ → ℕ → Option A) (a : A) → opened i f ≡ Some a → (start : ℕ) × (n : ℕ) × (i ≡ Some (start, n)) × (f start n ≡ Some a)
+opened_view None f a e = none-some a e
+opened_view (Some (start, n)) f a e = (start, n, refl, e)
 
 -- ---- values
 module _ (v : List ℕ) (at end : ℕ) (d : Decoded) where
   -- a basic value: its header, legal contents, its spot
   pub leaf_view : (k : ℕ) (names : List NamedBit) (g : Tagging) → unwrapped (basic k names) g v at end ≡ Some d
-      → (start : ℕ) × (n : ℕ) × (inside_at (tag_octet g k) v at end ≡ Inside.Of start n) × (legal k (part v start n) ≡ true) × (record { value = leaf k (spot_at v at start n); after = start + n } ≡ d)
+      → (start : ℕ) × (n : ℕ) × (inside_at (tag_octet g k) v at end ≡ Some (start, n)) × (legal k (part v start n) ≡ true) × (record { value = leaf k (spot_at v at start n); after = start + n } ≡ d)
   unfolding unwrapped
   leaf_view k names g e =
       let w = opened_view (inside_at (tag_octet g k) v at end) (leaf_of k v at) d e in
@@ -54,7 +53,7 @@ module _ (v : List ℕ) (at end : ℕ) (d : Decoded) where
 
   -- a SEQUENCE: its header, its members, its spot
   pub fields_view : (ms : Members) (g : Tagging) → unwrapped (sequence ms) g v at end ≡ Some d
-      → (start : ℕ) × (n : ℕ) × (fs : Fields) × (inside_at (tag_octet g kind.sequence) v at end ≡ Inside.Of start n) × (fields_from ms v (start + n) start ≡ Some fs) × (record { value = fields (spot_at v at start n) fs; after = start + n } ≡ d)
+      → (start : ℕ) × (n : ℕ) × (fs : Fields) × (inside_at (tag_octet g kind.sequence) v at end ≡ Some (start, n)) × (fields_from ms v (start + n) start ≡ Some fs) × (record { value = fields (spot_at v at start n) fs; after = start + n } ≡ d)
   unfolding unwrapped
   fields_view ms g e =
       let w = opened_view (inside_at (tag_octet g kind.sequence) v at end) (fields_of v at (λ stop i. fields_from ms v stop i)) d e in
@@ -63,7 +62,7 @@ module _ (v : List ℕ) (at end : ℕ) (d : Decoded) where
 
   -- a SEQUENCE OF or SET OF: its header, its elements in order, its spot
   pub elements_view : (k : ℕ) (ty : Ty) (g : Tagging) → unwrapped (list_of k ty) g v at end ≡ Some d
-      → (start : ℕ) × (n : ℕ) × (xs : Values) × (inside_at (tag_octet g k) v at end ≡ Inside.Of start n) × (many (λ i stop. unwrapped ty untagged v i stop) n (start + n) start ≡ Some xs)
+      → (start : ℕ) × (n : ℕ) × (xs : Values) × (inside_at (tag_octet g k) v at end ≡ Some (start, n)) × (many (λ i stop. unwrapped ty untagged v i stop) n (start + n) start ≡ Some xs)
       × (either (eqb k kind.sequence_of) (rising v xs) ≡ true) × (record { value = elements (spot_at v at start n) xs; after = start + n } ≡ d)
   unfolding unwrapped
   elements_view k ty g e =
@@ -74,7 +73,7 @@ module _ (v : List ℕ) (at end : ℕ) (d : Decoded) where
 
   -- a CHOICE is its alternative, behind any header
   pub choice_view : (m : Member) (alternative : Option Decoded) → choice_of m v at end alternative ≡ Some d
-      → (x : Decoded) × (start : ℕ) × (n : ℕ) × (alternative ≡ Some x) × (any_tag (header_at v at end) ≡ Inside.Of start n) × (record { value = chosen (spot_at v at start n) m x.value; after = x.after } ≡ d)
+      → (x : Decoded) × (start : ℕ) × (n : ℕ) × (alternative ≡ Some x) × (any_tag (header_at v at end) ≡ Some (start, n)) × (record { value = chosen (spot_at v at start n) m x.value; after = x.after } ≡ d)
   choice_view m alternative e =
       let b = bind_view alternative (λ x. opened (any_tag (header_at v at end)) (λ start n. decoded (chosen (spot_at v at start n) m x.value) x.after)) d e in
       let w = opened_view (any_tag (header_at v at end)) (λ start n. decoded (chosen (spot_at v at start n) m b.0.value) b.0.after) d b.2 in
@@ -95,7 +94,7 @@ module _ {A : Type 0} (after : A → ℕ) where
 
   -- under an explicit tag: a wrapper that the value fills
   pub wrapper_view : (v : List ℕ) (at end : ℕ) (d : A) (k : ℕ) (f : ℕ → ℕ → Option A) → in_wrapper after (explicit k) f v at end ≡ Some d
-      → (start : ℕ) × (n : ℕ) × (inside_at (wrapper_octet k) v at end ≡ Inside.Of start n) × (f start (start + n) ≡ Some d) × (after d ≡ start + n)
+      → (start : ℕ) × (n : ℕ) × (inside_at (wrapper_octet k) v at end ≡ Some (start, n)) × (f start (start + n) ≡ Some d) × (after d ≡ start + n)
   unfolding in_wrapper
   wrapper_view v at end d k f e =
       let w = opened_view (inside_at (wrapper_octet k) v at end) (inside after f) d e in

@@ -1,5 +1,5 @@
 -- The value check, standing alone: refusals 1, 2 and 4.
-use Rattle.std.specs.Prelude.{ℕ, Bool, true, false, List, length}
+use Rattle.std.specs.Prelude.{ℕ, ⊤, Result, Ok, Err, Bool, true, false, List, length}
 use Rattle.octets.specs.Pick.{pick, both, is_some}
 use Rattle.octets.specs.Text.{within}
 use Rattle.rows.specs.Limits as table
@@ -8,7 +8,8 @@ use Rattle.types.specs.Types.{type_at}
 use Rattle.types.specs.Admitted.{admitted}
 use Rattle.value.specs.Limits.{Limits}
 use Rattle.value.specs.Decode.{stored_value}
-use Rattle.value.specs.declared.ValueCheck.{ValueCheck}
+use Rattle.table.specs.declared.Refusal.{Refusal}
+use Rattle.table.specs.Check.{refusal_number}
 
 -- whether it is done and not refused; the refusal's number, 0 for none
 pub record ValueReport : Type 0 where
@@ -22,9 +23,9 @@ abbrev pub good : ValueReport
 good = record { done = true; refusal = 0 }
 
 -- what the code's answer says
-abbrev pub report : ValueCheck → ValueReport
-report ValueCheck.Good = good
-report (ValueCheck.Refused n) = refused n
+abbrev pub report : Result ⊤ Refusal → ValueReport
+report (Ok x) = good
+report (Err r) = refused (refusal_number r)
 
 -- refusal 1: the value's size
 unfoldable pub value_fits : Limits → List ℕ → Bool

@@ -1,10 +1,12 @@
 -- The fifth entry: the octets of a stored value, from place and length.
-use Rattle.std.specs.Prelude.{ℕ, ◌+◌, List, [], length, leb}
+use denote.Ref.{Bor}
+use Rattle.std.specs.Prelude.{ℕ, Result, Ok, Err, ◌+◌, List, [], length, leb}
 use Rattle.octets.specs.Pick.{pick}
 use Rattle.octets.specs.Octets.{part}
 use Rattle.value.specs.Limits.{Limits}
 use Rattle.value.specs.Check.{value_fits}
-use Rattle.value.specs.declared.ValuePart.{ValuePart}
+use Rattle.table.specs.declared.Refusal.{Refusal}
+use Rattle.table.specs.Check.{refusal_number}
 
 -- a refusal number, 0 for none, and the part
 pub record PartReport : Type 0 where
@@ -22,5 +24,6 @@ part_report l v place size =
     (refused_part 1)
 
 -- what the code's answer says
-abbrev pub report : ValuePart → PartReport
-report p = record { refusal = p.refusal; octets = p.octets.now }
+abbrev pub report : Result (Bor (List ℕ)) Refusal → PartReport
+report (Ok p) = record { refusal = 0; octets = p.now }
+report (Err r) = refused_part (refusal_number r)

@@ -18,8 +18,9 @@ ghost use Rattle.value.specs.Part as parts;
 ghost use Rattle.value.specs.Inner.Work as work;
 ghost use Rattle.rows.specs.Paper.{table_limits};
 
-use der::{Inside, Kind};
+use der::Kind;
 use rows::Table;
+use table::Refusal;
 
 // A stored value: the limits of every one.
 #[derive(Clone, Copy)]
@@ -34,32 +35,8 @@ impl Value {
     pub fn fits(value: &[u8]) -> bool
         ensures { result ≡ value_fits value_limits value.now }
     {
-        if value.len() < Self::MIN_BYTES {
-            return false;
-        }
-        value.len() <= Self::MAX_BYTES
+        (Self::MIN_BYTES..=Self::MAX_BYTES).contains(&value.len())
     }
-}
-
-// The answer of the value check: good, or a refusal.
-#[derive(Clone, Copy)]
-pub enum ValueCheck {
-    Good,
-    Refused(u8),
-}
-
-// The answer of the check of one value: the place after it, or none.
-#[derive(Clone, Copy)]
-pub enum Checked {
-    At(usize),
-    Bad,
-}
-
-// The alternative that a CHOICE's value is of: its member row, or none.
-#[derive(Clone, Copy)]
-pub enum Alternative {
-    Of(usize),
-    Missing,
 }
 
 // ---- octets that can begin a value
@@ -67,10 +44,7 @@ pub enum Alternative {
 fn same_tag(a: usize, b: usize) -> bool
     ensures { result ≡ work.same_tag a b }
 {
-    if a & 31 != b & 31 {
-        return false;
-    }
-    a >> 6 == b >> 6
+    a & 31 == b & 31 && a >> 6 == b >> 6
 }
 
 // Whether a value can begin with an octet: by its first tag octet; where that is 0, by its set of tags.
@@ -101,24 +75,21 @@ pub fn member_starts(t: &[u8], w: &[u64; 256], v: &[u8], row: usize, stop: usize
     requires inside { stop ≤ length v.now }
     ensures { result ≡ starts_here (member_at t.now row) (member_type_at t.now row) v.now stop i }
 {
-    if stop <= i {
-        return false;
-    }
-    begins_with(t, w, row, v[i])
+    i < stop && begins_with(t, w, row, v[i])
 }
 
-// ---- members that are not there, and defaults
+// ---- members that are not there, and defaults; each check answers the place after what it checked, or none
 // The member of a row where it is not there: a mandatory one has to be.
-fn absent(t: &[u8], w: &[u64; 256], row: usize, i: usize) -> Checked
+fn absent(t: &[u8], w: &[u64; 256], row: usize, i: usize) -> Option<usize>
     requires worded { Worded t.now w.now }
     requires here { row < length (table_rows t.now) }
     requires member { MemberRow t.now row }
     ensures { result ≡ work.absent_checked t.now (place_at t.now row) i }
 {
     if table::presence(t, w, row) == 0 {
-        return Checked::Bad;
+        return None;
     }
-    Checked::At(i)
+    Some(i)
 }
 
 // Whether contents are the default of the member of a row, which has one.
@@ -129,10 +100,7 @@ fn equals_default(t: &[u8], w: &[u64; 256], row: usize, c: &[u8]) -> bool
     requires stored { presence_at t.now (place_at t.now row) ≡ 2 }
     ensures { result ≡ same c.now (default_at t.now (place_at t.now row)) }
 {
-    if c.len() != table::default_length(t, w, row) {
-        return false;
-    }
-    der::plain(c) == table::default_number(t, w, row)
+    c.len() == table::default_length(t, w, row) && der::plain(c) == table::default_number(t, w, row)
 }
 
 // Whether the n octets from start on are the contents of the default of the member of a row.
@@ -152,15 +120,15 @@ fn is_default(t: &[u8], w: &[u64; 256], row: usize, v: &[u8], start: usize, n: u
 
 // ---- values of one header
 // Contents of a basic kind, from start up to stop.
-fn check_basic(kind: u8, v: &[u8], start: usize, stop: usize) -> Checked
+fn check_basic(kind: u8, v: &[u8], start: usize, stop: usize) -> Option<usize>
     requires ordered { start ≤ stop }
     requires inside { stop ≤ length v.now }
     ensures { result ≡ work.up_to stop (legal kind (part v.now start (stop - start))) }
 {
     if der::legal(kind, v, start, stop) {
-        return Checked::At(stop);
+        return Some(stop);
     }
-    Checked::Bad
+    None
 }
 
 // A value of the basic type of a row at a place, before an end, behind a tag octet.
@@ -172,7 +140,7 @@ fn check_leaf(
     tag: usize,
     at: usize,
     end: usize,
-) -> Checked
+) -> Option<usize>
     requires worded { Worded t.now w.now }
     requires here { row < length (table_rows t.now) }
     requires basic { is_basic (kind_at t.now (place_at t.now row)) ≡ true }
@@ -181,14 +149,21 @@ fn check_leaf(
     ensures { work.Answers (type_at t.now row) (kind_at t.now (place_at t.now row)) tag v.now at end result }
 {
     let kind = table::kind(t, w, row);
-    let Inside::Of(start, n) = der::open_within(tag, v, at, end) else {
-        return Checked::Bad;
+    let Some((start, n)) = der::open_within(tag, v, at, end) else {
+        return None;
     };
     check_basic(kind, v, start, start + n)
 }
 
 // The plain member of a row, at a place where its tag octet was seen: one header, contents of the kind, and not its default.
-fn check_plain(t: &[u8], w: &[u64; 256], v: &[u8], row: usize, at: usize, end: usize) -> Checked
+fn check_plain(
+    t: &[u8],
+    w: &[u64; 256],
+    v: &[u8],
+    row: usize,
+    at: usize,
+    end: usize,
+) -> Option<usize>
     requires worded { Worded t.now w.now }
     requires here { row < length (table_rows t.now) }
     requires member { MemberRow t.now row }
@@ -200,11 +175,11 @@ fn check_plain(t: &[u8], w: &[u64; 256], v: &[u8], row: usize, at: usize, end: u
         ≡ work.plain_checked t.now (place_at t.now row) (member_kind_at t.now row) (tagging_at t.now row)
         v.now at end }
 {
-    let Inside::Of(start, n) = der::open_seen(v, at, end) else {
-        return Checked::Bad;
+    let Some((start, n)) = der::open_seen(v, at, end) else {
+        return None;
     };
     if is_default(t, w, row, v, start, n) {
-        return Checked::Bad;
+        return None;
     }
     check_basic(table::kind_of_type(t, w, row), v, start, start + n)
 }
@@ -217,7 +192,7 @@ fn check_plain_member(
     row: usize,
     i: usize,
     stop: usize,
-) -> Checked
+) -> Option<usize>
     requires worded { Worded t.now w.now }
     requires here { row < length (table_rows t.now) }
     requires member { MemberRow t.now row }
@@ -234,14 +209,21 @@ fn check_plain_member(
         return check_plain(t, w, v, row, i, stop);
     }
     if same_tag(first, o) {
-        return Checked::Bad;
+        return None;
     }
     absent(t, w, row, i)
 }
 
 // ---- a default that is stored in a wrapper
 // The contents of the member of a row inside its wrapper.
-fn wrapped_contents(t: &[u8], w: &[u64; 256], v: &[u8], row: usize, at: usize, end: usize) -> Inside
+fn wrapped_contents(
+    t: &[u8],
+    w: &[u64; 256],
+    v: &[u8],
+    row: usize,
+    at: usize,
+    end: usize,
+) -> Option<(usize, usize)>
     requires worded { Worded t.now w.now }
     requires here { row < length (table_rows t.now) }
     requires member { MemberRow t.now row }
@@ -249,8 +231,8 @@ fn wrapped_contents(t: &[u8], w: &[u64; 256], v: &[u8], row: usize, at: usize, e
     requires inside { end ≤ length v.now }
     ensures { result ≡ work.contents_at (tagging_at t.now row) (member_kind_at t.now row) v.now at end }
 {
-    let Inside::Of(start, n) = der::open_within(table::first(t, w, row), v, at, end) else {
-        return Inside::Misfit;
+    let Some((start, n)) = der::open_within(table::first(t, w, row), v, at, end) else {
+        return None;
     };
     der::open_within(
         der::own_octet(table::kind_of_type(t, w, row)),
@@ -272,7 +254,7 @@ fn wrapped_default(t: &[u8], w: &[u64; 256], v: &[u8], row: usize, at: usize, en
         ≡ work.holds v.now (default_at t.now (place_at t.now row))
         (work.contents_at (tagging_at t.now row) (member_kind_at t.now row) v.now at end) }
 {
-    let Inside::Of(start, n) = wrapped_contents(t, w, v, row, at, end) else {
+    let Some((start, n)) = wrapped_contents(t, w, v, row, at, end) else {
         return false;
     };
     let stop = start + n;
@@ -288,10 +270,7 @@ fn stored_default(t: &[u8], w: &[u64; 256], v: &[u8], row: usize, at: usize, end
     requires inside { end ≤ length v.now }
     ensures { result ≡ work.stored_default t.now (table_rows t.now) (place_at t.now row) v.now at end }
 {
-    if table::presence(t, w, row) != 2 {
-        return false;
-    }
-    wrapped_default(t, w, v, row, at, end)
+    table::presence(t, w, row) == 2 && wrapped_default(t, w, v, row, at, end)
 }
 
 // Whether neighbours in a list are in order: those of a SET OF, each not above the next.
@@ -301,36 +280,7 @@ fn in_order(kind: u8, v: &[u8], before: usize, i: usize, next: usize) -> bool
     requires inside { next ≤ length v.now }
     ensures { result ≡ work.neighbours kind v.now before i next }
 {
-    if kind == Kind::SEQUENCE_OF {
-        return true;
-    }
-    der::not_above(&v[before..i], &v[i..next])
-}
-
-// The first of n alternatives that can begin with the octet at a place; n where none can.
-fn first_alternative(
-    t: &[u8],
-    w: &[u64; 256],
-    v: &[u8],
-    row: usize,
-    n: usize,
-    at: usize,
-    end: usize,
-) -> usize
-    requires worded { Worded t.now w.now }
-    requires here { row < length (table_rows t.now) }
-    requires count { n ≤ members_at t.now (place_at t.now row) }
-    requires inside { end ≤ length v.now }
-    ensures { result ≡ work.first (work.starts_of table_limits.chain t.now (table_rows t.now) row v.now end at) n 0 }
-{
-    let mut j = 0;
-    while j < n {
-        if member_starts(t, w, v, row + 1 + j, end, at) {
-            return j;
-        }
-        j += 1;
-    }
-    j
+    kind == Kind::SEQUENCE_OF || der::not_above(&v[before..i], &v[i..next])
 }
 
 // Whether the type of a member row is a CHOICE in no wrapper, so that its value is that of one of its own alternatives.
@@ -340,25 +290,24 @@ fn is_nested(t: &[u8], w: &[u64; 256], row: usize) -> bool
     requires member { MemberRow t.now row }
     ensures { result ≡ work.is_nested (member_kind_at t.now row) (mode_at t.now (place_at t.now row)) }
 {
-    if table::kind_of_type(t, w, row) != Kind::CHOICE {
-        return false;
-    }
-    table::tagged(t, w, row) != 1
+    table::kind_of_type(t, w, row) == Kind::CHOICE && table::tagged(t, w, row) != 1
 }
 
-// The alternative of the CHOICE of a row that can begin here.
-fn choose(t: &[u8], w: &[u64; 256], v: &[u8], row: usize, at: usize, end: usize) -> Alternative
+// The member row of the first alternative of the CHOICE of a row that can begin here, or none.
+fn choose(t: &[u8], w: &[u64; 256], v: &[u8], row: usize, at: usize, end: usize) -> Option<usize>
     requires worded { Worded t.now w.now }
     requires here { row < length (table_rows t.now) }
     requires inside { end ≤ length v.now }
     ensures { work.Chooses t.now v.now row at end result }
 {
     let n = table::members(t, w, row);
-    let j = first_alternative(t, w, v, row, n, at, end);
-    if n <= j {
-        return Alternative::Missing;
+    for j in 0..n {
+        let member = row + 1 + j;
+        if member_starts(t, w, v, member, end, at) {
+            return Some(member);
+        }
     }
-    Alternative::Of(row + 1 + j)
+    None
 }
 
 // The same; where it is a CHOICE in no wrapper, the alternative of that one, in turn.
@@ -369,7 +318,7 @@ fn choose_inner(
     row: usize,
     at: usize,
     end: usize,
-) -> Alternative
+) -> Option<usize>
     requires worded { Worded t.now w.now }
     requires here { row < length (table_rows t.now) }
     requires inside { end ≤ length v.now }
@@ -377,11 +326,9 @@ fn choose_inner(
 {
     let mut choice = row;
     loop {
-        let Alternative::Of(member) = choose(t, w, v, choice, at, end) else {
-            return Alternative::Missing;
-        };
+        let member = choose(t, w, v, choice, at, end)?;
         if !is_nested(t, w, member) {
-            return Alternative::Of(member);
+            return Some(member);
         }
         choice = table::named(t, w, member);
     }
@@ -406,7 +353,7 @@ fn check_leaves(
     row: usize,
     start: usize,
     stop: usize,
-) -> Checked
+) -> Option<usize>
     requires worded { Worded t.now w.now }
     requires here { row < length (table_rows t.now) }
     requires list { is_list (kind_at t.now (place_at t.now row)) ≡ true }
@@ -422,17 +369,16 @@ fn check_leaves(
     let tag = table::own_first(t, w, element);
     let mut before = start;
     let mut i = start;
+    // A cursor: each element says where the next one starts.
     while i < stop {
-        let Checked::At(next) = check_leaf(t, w, v, element, tag, i, stop) else {
-            return Checked::Bad;
-        };
+        let next = check_leaf(t, w, v, element, tag, i, stop)?;
         if !in_order(kind, v, before, i, next) {
-            return Checked::Bad;
+            return None;
         }
         before = i;
         i = next;
     }
-    Checked::At(stop)
+    Some(stop)
 }
 
 // ---- "a nested value is checked as its row says, one level deeper"
@@ -445,7 +391,7 @@ fn check_elements(
     row: usize,
     start: usize,
     stop: usize,
-) -> Checked
+) -> Option<usize>
     requires worded { Worded t.now w.now }
     requires here { row < length (table_rows t.now) }
     requires list { is_list (kind_at t.now (place_at t.now row)) ≡ true }
@@ -463,17 +409,16 @@ fn check_elements(
     let tag = table::own_first(t, w, element);
     let mut before = start;
     let mut i = start;
+    // A cursor: each element says where the next one starts.
     while i < stop {
-        let Checked::At(next) = check(t, w, v, element, tag, i, stop) else {
-            return Checked::Bad;
-        };
+        let next = check(t, w, v, element, tag, i, stop)?;
         if !in_order(kind, v, before, i, next) {
-            return Checked::Bad;
+            return None;
         }
         before = i;
         i = next;
     }
-    Checked::At(stop)
+    Some(stop)
 }
 
 // The members of the SEQUENCE of a row, from start up to stop.
@@ -485,7 +430,7 @@ fn check_fields(
     row: usize,
     start: usize,
     stop: usize,
-) -> Checked
+) -> Option<usize>
     requires worded { Worded t.now w.now }
     requires here { row < length (table_rows t.now) }
     requires inside { stop ≤ length v.now }
@@ -493,23 +438,25 @@ fn check_fields(
 {
     let n = table::members(t, w, row);
     let mut i = start;
-    let mut j = 0;
-    while j < n {
-        let Checked::At(next) = check_member(t, w, v, row + 1 + j, i, stop) else {
-            return Checked::Bad;
-        };
-        i = next;
-        j += 1;
+    for j in 0..n {
+        i = check_member(t, w, v, row + 1 + j, i, stop)?;
     }
     if i != stop {
-        return Checked::Bad;
+        return None;
     }
-    Checked::At(stop)
+    Some(stop)
 }
 
 // The member of a row at a place, before stop: where it is there it has to be a value of its type, and not its default.
 #[cycle(check)]
-fn check_member(t: &[u8], w: &[u64; 256], v: &[u8], row: usize, i: usize, stop: usize) -> Checked
+fn check_member(
+    t: &[u8],
+    w: &[u64; 256],
+    v: &[u8],
+    row: usize,
+    i: usize,
+    stop: usize,
+) -> Option<usize>
     requires worded { Worded t.now w.now }
     requires here { row < length (table_rows t.now) }
     requires member { MemberRow t.now row }
@@ -523,14 +470,21 @@ fn check_member(t: &[u8], w: &[u64; 256], v: &[u8], row: usize, i: usize, stop: 
         return absent(t, w, row, i);
     }
     if stored_default(t, w, v, row, i, stop) {
-        return Checked::Bad;
+        return None;
     }
     check_tagged(t, w, v, row, i, stop)
 }
 
 // A value of the type of a member row, under its tag mode.
 #[cycle(check)]
-fn check_tagged(t: &[u8], w: &[u64; 256], v: &[u8], row: usize, at: usize, end: usize) -> Checked
+fn check_tagged(
+    t: &[u8],
+    w: &[u64; 256],
+    v: &[u8],
+    row: usize,
+    at: usize,
+    end: usize,
+) -> Option<usize>
     requires worded { Worded t.now w.now }
     requires here { row < length (table_rows t.now) }
     requires member { MemberRow t.now row }
@@ -555,7 +509,7 @@ fn check_wrapped(
     tag: usize,
     at: usize,
     end: usize,
-) -> Checked
+) -> Option<usize>
     requires worded { Worded t.now w.now }
     requires here { row < length (table_rows t.now) }
     requires typed { TypeRow t.now row }
@@ -563,31 +517,34 @@ fn check_wrapped(
     requires usable { number tag < 31 }
     ensures { work.Wraps (type_at t.now row) tag v.now at end result }
 {
-    let Inside::Of(start, n) = der::open_within(tag, v, at, end) else {
-        return Checked::Bad;
+    let Some((start, n)) = der::open_within(tag, v, at, end) else {
+        return None;
     };
     let stop = start + n;
     let own = table::own_first(t, w, row);
-    let Checked::At(next) = check(t, w, v, row, own, start, stop) else {
-        return Checked::Bad;
-    };
+    let next = check(t, w, v, row, own, start, stop)?;
     if next != stop {
-        return Checked::Bad;
+        return None;
     }
-    Checked::At(next)
+    Some(next)
 }
 
 // The value of the CHOICE of a row: that of its alternative.
 #[cycle(check)]
-fn check_choice(t: &[u8], w: &[u64; 256], v: &[u8], row: usize, at: usize, end: usize) -> Checked
+fn check_choice(
+    t: &[u8],
+    w: &[u64; 256],
+    v: &[u8],
+    row: usize,
+    at: usize,
+    end: usize,
+) -> Option<usize>
     requires worded { Worded t.now w.now }
     requires here { row < length (table_rows t.now) }
     requires inside { end ≤ length v.now }
     ensures { result ≡ work.checked (alternative_from (members_after t.now row) v.now at end) }
 {
-    let Alternative::Of(member) = choose_inner(t, w, v, row, at, end) else {
-        return Checked::Bad;
-    };
+    let member = choose_inner(t, w, v, row, at, end)?;
     check_tagged(t, w, v, member, at, end)
 }
 
@@ -601,7 +558,7 @@ fn check(
     tag: usize,
     at: usize,
     end: usize,
-) -> Checked
+) -> Option<usize>
     requires worded { Worded t.now w.now }
     requires here { row < length (table_rows t.now) }
     requires inside { end ≤ length v.now }
@@ -612,8 +569,8 @@ fn check(
     if kind == Kind::CHOICE {
         return check_choice(t, w, v, row, at, end);
     }
-    let Inside::Of(start, n) = der::open_within(tag, v, at, end) else {
-        return Checked::Bad;
+    let Some((start, n)) = der::open_within(tag, v, at, end) else {
+        return None;
     };
     let stop = start + n;
     if kind == Kind::SEQUENCE {
@@ -632,96 +589,53 @@ pub fn is_stored(t: &[u8], w: &[u64; 256], v: &[u8]) -> bool
     ensures { result ≡ is_some (stored_value (type_at t.now 0) v.now) }
 {
     let tag = table::own_first(t, w, 0);
-    let Checked::At(next) = check(t, w, v, 0, tag, 0, v.len()) else {
+    let Some(next) = check(t, w, v, 0, tag, 0, v.len()) else {
         return false;
     };
     next == v.len()
 }
 
 // The check of a table and a value of admitted sizes.
-fn check_storage(table: &[u8], value: &[u8]) -> ValueCheck
+fn check_storage(table: &[u8], value: &[u8]) -> Result<(), Refusal>
     ensures { report result ≡ storage table_limits table.now value.now }
 {
     let mut w = [0u64; 256];
     if table::admit_table(table, &mut w) == 0 {
-        return ValueCheck::Refused(2);
+        return Err(Refusal::Table);
     }
     if !is_stored(table, &w, value) {
-        return ValueCheck::Refused(4);
+        return Err(Refusal::Value);
     }
-    ValueCheck::Good
+    Ok(())
 }
 
 // The value check: any octets for both.
-pub fn check_value(table: &[u8], value: &[u8]) -> ValueCheck
+pub fn check_value(table: &[u8], value: &[u8]) -> Result<(), Refusal>
     ensures { report result ≡ value_report table_limits value_limits table.now value.now }
 {
     if !Table::fits(table) {
-        return ValueCheck::Refused(1);
+        return Err(Refusal::Size);
     }
     if !Value::fits(value) {
-        return ValueCheck::Refused(1);
+        return Err(Refusal::Size);
     }
     check_storage(table, value)
 }
 
 // ---- the fifth entry
-// The answer of the fifth entry: the part, and the refusal number, 0 for none.
-#[derive(Clone, Copy)]
-pub struct ValuePart<'a> {
-    pub octets: &'a [u8],
-    pub refusal: u8,
-}
-
-// The refusal number, 0 for none. Place plus length is compared by differences, so that no sum can pass the largest number.
-fn part_refusal(value: &[u8], place: usize, length: usize) -> u8
-    ensures { result ≡ (parts.part_report value_limits value.now place length).refusal }
-{
-    if !Value::fits(value) {
-        return 1;
-    }
-    if value.len() < place {
-        return 4;
-    }
-    if value.len() - place < length {
-        return 4;
-    }
-    0
-}
-
-// The octets from a place on; none with a refusal.
-fn part_octets(value: &[u8], place: usize, length: usize, refusal: u8) -> &[u8]
-    ensures { result.now ≡ work.unless_refused refusal (part value.now place length) }
-{
-    if refusal == 0 {
-        return octets::part(value, place, length);
-    }
-    octets::part(value, value.len(), 0)
-}
-
-// The octets of a stored value, from place and length.
-pub fn part<'a>(value: &'a [u8], place: usize, length: usize) -> ValuePart<'a>
+// The octets of a stored value, from place and length. Place plus length is compared by differences, so that no sum can pass the largest number.
+pub fn part<'a>(value: &'a [u8], place: usize, length: usize) -> Result<&'a [u8], Refusal>
     ensures { parts.report result ≡ parts.part_report value_limits value.now place length }
 {
-    let refusal = part_refusal(value, place, length);
-    ValuePart {
-        octets: part_octets(value, place, length, refusal),
-        refusal,
+    let fits = Value::fits(value);
+    if !fits {
+        return Err(Refusal::Size);
     }
-}
-
-// The refusal number of the fifth entry, for callers that hold no struct.
-pub fn part_number(value: &[u8], place: usize, length: usize) -> u8
-    ensures { result ≡ (parts.part_report value_limits value.now place length).refusal }
-{
-    let p = part(value, place, length);
-    p.refusal
-}
-
-// The octets of the fifth entry, for callers that hold no struct.
-pub fn part_bytes<'a>(value: &'a [u8], place: usize, length: usize) -> &'a [u8]
-    ensures { result.now ≡ (parts.part_report value_limits value.now place length).octets }
-{
-    let p = part(value, place, length);
-    p.octets
+    if value.len() < place {
+        return Err(Refusal::Value);
+    }
+    if value.len() - place < length {
+        return Err(Refusal::Value);
+    }
+    Ok(octets::part(value, place, length))
 }

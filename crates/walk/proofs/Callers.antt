@@ -1,7 +1,7 @@
 -- For callers: a resolved reference and a stored value are what the entries ask for.
 use mathlib.Core.Path.{◌≡◌}
 use mathlib.Core.Bool.{Bool}
-use Rattle.std.specs.Prelude.{Some}
+use Rattle.std.specs.Prelude.{Option, Some}
 use mathlib.Core.List.{List, []}
 use Prim.Native.Nat.{ℕ}
 use native.Mathlib.Omega.{arith}
@@ -16,7 +16,7 @@ use Rattle.plan.specs.Inner.Resolve.{Lands, Resolves}
 use Rattle.walk.specs.Inner.Walk.{Asks}
 
 -- what a reference names in a stored value may be asked for
-unfoldable pub asks_of : (t : List ℕ) (given : Bool) (r x : List ℕ) (defaults : Bool) (q v : List ℕ) (g : Target) → Resolves t given r x defaults q g → Lands g
+unfoldable pub asks_of : (t : List ℕ) (given : Bool) (r x : List ℕ) (defaults : Bool) (q v : List ℕ) (g : Option Target) → Resolves t given r x defaults q g → Lands g
     → (is : List Id) → given_ids given r ≡ Some is → (val : Value) → stored_value (type_at t 0) v ≡ Some val → Asks t q x v
 unfolding Resolves
 asks_of t given r x defaults q v g resolves lands is ids val stored =

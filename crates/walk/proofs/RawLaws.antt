@@ -1,4 +1,7 @@
 -- A header that fits is the one that is read without doubt.
+use Rattle.std.specs.Prelude.{Option, Some, None}
+use Rattle.std.proofs.lemmas.Option.{some_pair_parts}
+use Rattle.der.proofs.Laws.{some_triple_parts}
 use mathlib.Core.Path.{◌≡◌, refl, sym, ap, ap₂, ◌∙◌}
 use mathlib.Core.Bool.{Bool, true, false}
 use mathlib.Core.List.{List}
@@ -12,53 +15,50 @@ use Rattle.octets.specs.Octets.{octet, two}
 use Rattle.octets.proofs.Laws.{pick_cases}
 use Rattle.der.specs.Tag.{number}
 use Rattle.der.specs.Header.{long_length, length_at, sized, header_at}
-use Rattle.der.specs.declared.Header.{Header}
-use Rattle.der.specs.declared.Length.{Length}
 use Rattle.walk.specs.Inner.Raw.{start_of, next_after}
 
 -- where a header's contents start, and the place after it
 abbrev Same : List ℕ → ℕ → ℕ → ℕ → Type 0
 Same v at start n = (start_of v at ≡ start) × (next_after v at ≡ start + n)
 
-by-long : (end n start f least next : ℕ) → long_length f least next end ≡ Length.Of n start → (f ≡ n) × (next ≡ start)
+by-long : (end n start f least next : ℕ) → long_length f least next end ≡ Some (n, start) → (f ≡ n) × (next ≡ start)
 unfolding long_length
 by-long end n start f least next =
-    pick_cases P (ltb end next) _ _ (λ t. refused) (λ t. pick_cases P (ltb f least) _ _ (λ t. refused) (λ t e. let a : f ≡ n = cc in let b : next ≡ start = cc in (a, b)))
+    pick_cases P (ltb end next) _ _ (λ t. refused) (λ t. pick_cases P (ltb f least) _ _ (λ t. refused) (λ t e. some_pair_parts f n next start e))
   where
-    P : Length → Type 0
-    P x = x ≡ Length.Of n start → (f ≡ n) × (next ≡ start)
+    P : Option (ℕ × ℕ) → Type 0
+    P x = x ≡ Some (n, start) → (f ≡ n) × (next ≡ start)
 
-    refused : P Length.Unusable
+    refused : P None
     refused e = absurd (let z : ◌≡◌ {A = ℕ} 0 1 = cc in omega arith)
 
-raw_length : (v : List ℕ) (at end n start : ℕ) → length_at v (at + 1) end ≡ Length.Of n start → Same v at start n
+raw_length : (v : List ℕ) (at end n start : ℕ) → length_at v (at + 1) end ≡ Some (n, start) → Same v at start n
 unfolding length_at start_of next_after
 raw_length v at end n start = go (leb end (at + 1)) (ltb (octet v (at + 1)) 128) (eqb (octet v (at + 1)) 129) (eqb (octet v (at + 1)) 130)
   where
-    go : (a b c d : Bool) → pick a Length.Unusable (pick b (Length.Of (octet v (at + 1)) (at + 1 + 1)) (pick c (long_length (octet v (at + 1 + 1)) 128 (at + 1 + 2) end) (pick d (long_length (two v (at + 1 + 1)) 256 (at + 1 + 3) end) Length.Unusable))) ≡ Length.Of n start
+    go : (a b c d : Bool) → pick a None (pick b (Some (octet v (at + 1), at + 1 + 1)) (pick c (long_length (octet v (at + 1 + 1)) 128 (at + 1 + 2) end) (pick d (long_length (two v (at + 1 + 1)) 256 (at + 1 + 3) end) None))) ≡ Some (n, start)
         → (pick b (at + 2) (pick c (at + 3) (at + 4)) ≡ start) × (pick b (at + 2 + octet v (at + 1)) (pick c (at + 3 + octet v (at + 2)) (at + 4 + two v (at + 2))) ≡ start + n)
     go true b c d e = absurd (let z : ◌≡◌ {A = ℕ} 0 1 = cc in omega arith)
-    go false true c d e = let p : octet v (at + 1) ≡ n = cc in let q : at + 1 + 1 ≡ start = cc in (omega arith, omega arith)
+    go false true c d e = let w = some_pair_parts (octet v (at + 1)) n (at + 1 + 1) start e in let p : octet v (at + 1) ≡ n = w.0 in let q : at + 1 + 1 ≡ start = w.1 in (omega arith, omega arith)
     go false false true d e = let w = by-long end n start (octet v (at + 1 + 1)) 128 (at + 1 + 2) e in let p = w.0 in let q = w.1 in let r : at + 1 + 1 ≡ at + 2 = omega arith in let s : octet v (at + 2) ≡ n = ap (octet v) (sym r) ∙ p in (omega arith, omega arith)
     go false false false true e = let w = by-long end n start (two v (at + 1 + 1)) 256 (at + 1 + 3) e in let p = w.0 in let q = w.1 in let r : at + 1 + 1 ≡ at + 2 = omega arith in let s : two v (at + 2) ≡ n = ap (two v) (sym r) ∙ p in (omega arith, omega arith)
     go false false false false e = absurd (let z : ◌≡◌ {A = ℕ} 0 1 = cc in omega arith)
 
-pub raw_header : (v : List ℕ) (at end o start n : ℕ) → header_at v at end ≡ Header.Found o start n → (start_of v at ≡ start) × (next_after v at ≡ start + n)
+pub raw_header : (v : List ℕ) (at end o start n : ℕ) → header_at v at end ≡ Some (o, start, n) → (start_of v at ≡ start) × (next_after v at ≡ start + n)
 unfolding header_at
 raw_header v at end o start n = pick_cases P (leb end at) _ _ (λ t. misfit) (λ t. pick_cases P (eqb (number (octet v at)) 31) _ _ (λ t. misfit) (λ t. go (length_at v (at + 1) end) refl))
   where
-    P : Header → Type 0
-    P x = x ≡ Header.Found o start n → (start_of v at ≡ start) × (next_after v at ≡ start + n)
+    P : Option (ℕ × ℕ × ℕ) → Type 0
+    P x = x ≡ Some (o, start, n) → (start_of v at ≡ start) × (next_after v at ≡ start + n)
 
-    misfit : P Header.Misfit
+    misfit : P None
     misfit e = absurd (let z : ◌≡◌ {A = ℕ} 0 1 = cc in omega arith)
 
-    go : (l : Length) → length_at v (at + 1) end ≡ l → P (sized (octet v at) end l)
-    go Length.Unusable q = misfit
-    go (Length.Of m next) q = pick_cases P (ltb (end - next) m) _ _ (λ u. misfit) (λ u e.
-        let b : next ≡ start = cc in
-        let d : m ≡ n = cc in
-        raw_length v at end n start (q ∙ ap₂ Length.Of d b))
+    go : (l : Option (ℕ × ℕ)) → length_at v (at + 1) end ≡ l → P (sized (octet v at) end l)
+    go None q = misfit
+    go (Some (m, next)) q = pick_cases P (ltb (end - next) m) _ _ (λ u. misfit) (λ u e.
+        let p = some_triple_parts (octet v at) o next start m n e in
+        raw_length v at end n start (q ∙ ap₂ (λ (i k : ℕ). Some (i, k)) p.2 p.1))
 
 -- ---- what is read lies before the place after the value
 module _ (v : List ℕ) (at : ℕ) where

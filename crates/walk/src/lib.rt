@@ -58,43 +58,14 @@ pub enum Move {
 }
 
 // ---- headers
-// Where the contents of the value at a place start.
-fn start_of(v: &[u8], at: usize) -> usize
-    requires { next_after v.now at ≤ length v.now }
-    ensures { result ≡ start_of v.now at }
-{
-    let n = octets::wide(v[at + 1]);
-    if n < 128 {
-        return at + 2;
-    }
-    if n == 129 {
-        return at + 3;
-    }
-    at + 4
-}
-
-// The place after it.
-fn next_after(v: &[u8], at: usize) -> usize
-    requires { next_after v.now at ≤ length v.now }
-    ensures { result ≡ next_after v.now at }
-{
-    let n = octets::wide(v[at + 1]);
-    if n < 128 {
-        return at + 2 + n;
-    }
-    if n == 129 {
-        return at + 3 + octets::wide(v[at + 2]);
-    }
-    at + 4 + octets::wide_two(v[at + 2], v[at + 3])
-}
-
-// Both.
+// Where the contents of a value start, and the place after it.
 #[derive(Clone, Copy)]
 pub struct Span {
     pub start: usize,
     pub end: usize,
 }
 
+// Those of the value at a place.
 fn opened(v: &[u8], at: usize) -> Span
     requires { next_after v.now at ≤ length v.now }
     ensures start { result.start ≡ start_of v.now at }
@@ -119,6 +90,20 @@ fn opened(v: &[u8], at: usize) -> Span
     }
 }
 
+fn start_of(v: &[u8], at: usize) -> usize
+    requires { next_after v.now at ≤ length v.now }
+    ensures { result ≡ start_of v.now at }
+{
+    opened(v, at).start
+}
+
+fn next_after(v: &[u8], at: usize) -> usize
+    requires { next_after v.now at ≤ length v.now }
+    ensures { result ≡ next_after v.now at }
+{
+    opened(v, at).end
+}
+
 // ---- elements of a list, from start up to stop
 // How many there are.
 fn count(v: &[u8], start: usize, stop: usize) -> usize
@@ -127,20 +112,12 @@ fn count(v: &[u8], start: usize, stop: usize) -> usize
 {
     let mut i = start;
     let mut n = 0;
+    // A cursor: each element says where the next one starts.
     while i < stop {
         i = next_after(v, i);
         n += 1;
     }
     n
-}
-
-fn less_one(n: usize) -> usize
-    ensures { result ≡ n - 1 }
-{
-    if n == 0 {
-        return 0;
-    }
-    n - 1
 }
 
 // The one at a position from 1.
@@ -150,11 +127,12 @@ fn nth(v: &[u8], start: usize, stop: usize, n: usize) -> Move
 {
     let mut i = start;
     let mut left = n;
+    // A cursor: each element says where the next one starts.
     while i < stop {
         if left == 1 {
             return Move::To(i);
         }
-        left = less_one(left);
+        left = left.saturating_sub(1);
         i = next_after(v, i);
     }
     Move::Nothing
@@ -204,13 +182,9 @@ fn find_member(
     ensures { leads.FindsMember t.now v.now row j start stop result }
 {
     let mut i = start;
-    let mut k = 0;
-    while k < j {
+    for k in 0..j {
         if value::member_starts(t, w, v, row + 1 + k, stop, i) {
             i = next_after(v, i);
-            k += 1;
-        } else {
-            k += 1;
         }
     }
     if !value::member_starts(t, w, v, row + 1 + j, stop, i) {
@@ -516,6 +490,7 @@ fn walk_each(
     let stop = here.stop;
     let mut at = here.start;
     let mut made = n;
+    // A cursor: each value says where the next one starts.
     while at < stop {
         match walk_one(t, w, q, v, operand, Place { step, at }, made, out) {
             State::Going(more) => {

@@ -1,15 +1,11 @@
-use mathlib.Core.Path.{refl}
-use Rattle.octets.proofs.Laws.{every-bad, every_more, every-done}
+use Rattle.std.proofs.Common.{◌∙◌, sym, rules, tests}
+use Rattle.std.proofs.lemmas.Iterator.{YieldsList-from_slice}
+use Rattle.std.proofs.lemmas.Iterator.Search.{all_from_yields_List}
+use Rattle.assertion.specs.Assertion.{is_name_letter}
+use Rattle.assertion.proofs.Laws.{every-all}
 use Rattle.assertion.proofs.all_name_letters.Goals as goal
 
-pub loop-i-init : goal.loop-i-init
-loop-i-init c = refl
-
-pub returns-then-not-is_name_letter : goal.returns-then-not-is_name_letter
-returns-then-not-is_name_letter c = search every-bad
-
-pub loop-i-preserved : goal.loop-i-preserved
-loop-i-preserved c = search every_more
-
 pub returns : goal.returns
-returns c = search every-done
+returns c =
+    all_from_yields_List is_name_letter _ _ c.all.result c.all.ensures.ran (YieldsList-from_slice c.args.t.now cc) (λ x b q k. search (rules, tests))
+    ∙ sym (every-all is_name_letter c.args.t.now)

@@ -1,14 +1,9 @@
-use Rattle.assertion.proofs.Steps.{trim_start, trim_stops, trim_on, trim_none}
+use Rattle.std.proofs.Common.{◌≡◌, ◌+◌, MatchOption, rules}
+use Rattle.assertion.proofs.Laws.{LastOther, trimmed-is}
 use Rattle.assertion.proofs.trimmed_length.Goals as goal
 
-pub loop-n-init : goal.loop-n-init
-loop-n-init c = search trim_start
-
-pub returns-then-t-n-ne32 : goal.returns-then-t-n-ne32
-returns-then-t-n-ne32 c = search trim_stops
-
-pub loop-n-preserved : goal.loop-n-preserved
-loop-n-preserved c = search trim_on
-
 pub returns : goal.returns
-returns c = search trim_none
+returns c =
+    let found : LastOther c.args.t.now c.rposition.result = search rules in
+    let counted : MatchOption c.rposition.result (c.map_or.result ≡ 0) (λ i. c.map_or.result ≡ i + 1) = search rules in
+    trimmed-is c.args.t.now c.rposition.result c.map_or.result found counted

@@ -8,14 +8,9 @@ use Rattle.octets.specs.Quoted.{characters}
 use Rattle.assertion.specs.Item.{Item}
 use Rattle.assertion.specs.ValueText.{ValueText}
 use Rattle.assertion.specs.Assertion.{Read, read_to}
-use Rattle.assertion.specs.declared.Component.{Component}
-use Rattle.assertion.specs.declared.Component.TheVariants.{Missing, Quoted}
-use Rattle.assertion.specs.declared.ComponentPart.{ComponentPart}
-use Rattle.assertion.specs.declared.DefaultsPart.{DefaultsPart}
-use Rattle.assertion.specs.declared.RulePart.{RulePart}
-use Rattle.assertion.specs.declared.ValuePart.{ValuePart}
+use Rattle.assertion.specs.declared.Quotes.{Quotes}
+use Rattle.assertion.specs.declared.Part.{Part}
 use Rattle.assertion.specs.declared.Parts.{Parts}
-use Rattle.assertion.specs.declared.Assertion.{Assertion}
 
 -- the place after a word that stands at a place
 unfoldable pub word_at : List ℕ → List ℕ → ℕ → Option ℕ
@@ -26,28 +21,28 @@ abbrev pub within_quotes : List ℕ → ℕ → ℕ → List ℕ
 within_quotes s a b = between s (a + 1) b
 
 -- ---- `component`: missing, or between its quotes
-abbrev pub component_of : List ℕ → Component → Option (List ℕ)
-component_of s Missing = None
-component_of s (Quoted a b) = Some (characters s a b)
+abbrev pub component_of : List ℕ → Option Quotes → Option (List ℕ)
+component_of s None = None
+component_of s (Some q) = Some (characters s q.open q.close)
 
-abbrev pub report_component_part : List ℕ → ComponentPart → Option (Read (Option (List ℕ)))
-report_component_part s (ComponentPart.Of c after) = read_to (component_of s c) after
-report_component_part s ComponentPart.Bad = None
+abbrev pub report_component_part : List ℕ → Option (Option Quotes × ℕ) → Option (Read (Option (List ℕ)))
+report_component_part s (Some (c, after)) = read_to (component_of s c) after
+report_component_part s None = None
 
 -- ---- `useDefaultValues`
-abbrev pub report_defaults_part : DefaultsPart → Option (Read Bool)
-report_defaults_part (DefaultsPart.Of d after) = read_to d after
-report_defaults_part DefaultsPart.Bad = None
+abbrev pub report_defaults_part : Option (Bool × ℕ) → Option (Read Bool)
+report_defaults_part (Some (d, after)) = read_to d after
+report_defaults_part None = None
 
 -- ---- `rule`
-abbrev pub report_rule_part : List ℕ → RulePart → Option (Read (List ℕ))
-report_rule_part s (RulePart.Of a b after) = read_to (between s a b) after
-report_rule_part s RulePart.Bad = None
+abbrev pub report_rule_part : List ℕ → Option Part → Option (Read (List ℕ))
+report_rule_part s (Some p) = read_to (between s p.start p.end) p.after
+report_rule_part s None = None
 
 -- ---- `value`
-abbrev pub report_value_part : List ℕ → ValuePart → Option ValueText
-report_value_part s (ValuePart.Of a b brace) = Some (record { text = between s a b; brace = brace })
-report_value_part s ValuePart.Bad = None
+abbrev pub report_value_part : List ℕ → Option Part → Option ValueText
+report_value_part s (Some p) = Some (record { text = between s p.start p.end; brace = p.after })
+report_value_part s None = None
 
 -- ---- the assertion
 -- the item whose parts stand at these places
@@ -59,6 +54,6 @@ item_of s p = record {
   value = between s p.value p.value_end;
 }
 
-abbrev pub report_assertion : List ℕ → Assertion → Option (Read Item)
-report_assertion s (Assertion.Good p) = read_to (item_of s p) p.after
-report_assertion s Assertion.Bad = None
+abbrev pub report_assertion : List ℕ → Option Parts → Option (Read Item)
+report_assertion s (Some p) = read_to (item_of s p) p.after
+report_assertion s None = None

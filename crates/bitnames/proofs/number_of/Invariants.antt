@@ -12,6 +12,3 @@ abbrev pub invariant-loop-j : goal.invariant-loop-j
 invariant-loop-j l =
     (l.j ≤ l.n) × (l.n ≡ bit_names_at l.t (place_at l.t l.row))
     × (number_of (bits_from l.t (table_rows l.t) (l.row + 1 + l.j) (l.n - l.j)) (part l.s l.a (l.b - l.a)) ≡ number_of (names_after l.t l.row) (part l.s l.a (l.b - l.a)))
-
-abbrev pub decreases-loop-j : goal.decreases-loop-j
-decreases-loop-j l = l.n - l.j

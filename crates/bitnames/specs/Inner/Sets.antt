@@ -7,25 +7,23 @@ use Rattle.gser.specs.Listed.{after_spaces, parted}
 use Rattle.types.specs.Types.{NamedBit, bits_after}
 use Rattle.table.specs.Inner.Rows.{table_rows}
 use Rattle.bitnames.specs.Names.{numbers_of, bits_listed}
-use Rattle.bitnames.specs.declared.Number.{Number}
-use Rattle.bitnames.specs.declared.BitSet.{BitSet}
 
 -- the names that stand after a row
 abbrev pub names_after : List ℕ → ℕ → List NamedBit
 names_after t row = bits_after t (table_rows t) row
 
-abbrev pub report_number : Number → Option ℕ
-report_number Number.No = None
-report_number (Number.Of n) = Some n
+abbrev pub report_number : Option ℕ → Option ℕ
+report_number None = None
+report_number (Some n) = Some n
 
 -- the number of a bit with a name is low
-abbrev pub Low : Number → Type 0
-Low Number.No = Unit {0}
-Low (Number.Of n) = n < 64
+abbrev pub Low : Option ℕ → Type 0
+Low None = Unit {0}
+Low (Some n) = n < 64
 
-abbrev pub report_set : BitSet → Option (List ℕ)
-report_set BitSet.No = None
-report_set (BitSet.Of m) = Some (mask_bits m)
+abbrev pub report_set : Option ℕ → Option (List ℕ)
+report_set None = None
+report_set (Some m) = Some (mask_bits m)
 
 -- the texts of a list from place `at` of what stands inside its braces on
 unfoldable pub texts_from : List ℕ → ℕ → List (List ℕ)

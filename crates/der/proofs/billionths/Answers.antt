@@ -1,17 +1,11 @@
-use Rattle.der.proofs.TimeSteps.{scaled-start, scaled-times, scaled-plus, scaled-more, scaled-end}
+use Rattle.der.proofs.TimeSteps.{power-fits, scaled_fits, billionths-is}
 use Rattle.der.proofs.billionths.Goals as goal
 
-pub loop-k-init : goal.loop-k-init
-loop-k-init c = search scaled-start
+pub pow-requires : goal.pow-requires
+pow-requires c = search power-fits
 
-pub overflow_mul-v : goal.overflow_mul-v
-overflow_mul-v c = record { fits = search scaled-times }
-
-pub overflow_add-v : goal.overflow_add-v
-overflow_add-v c = record { fits = search scaled-plus }
-
-pub loop-k-preserved : goal.loop-k-preserved
-loop-k-preserved c = search scaled-more
+pub overflow_mul-result : goal.overflow_mul-result
+overflow_mul-result c = record { fits = rw c.pow.ensures (search scaled_fits) }
 
 pub returns : goal.returns
-returns c = search scaled-end
+returns c = rw c.pow.ensures (search billionths-is)

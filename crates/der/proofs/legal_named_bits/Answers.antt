@@ -1,17 +1,22 @@
-use Rattle.der.proofs.ContentsSteps.{named_illegal, named-empty, named-long, named_first_in, named_last_in, named-unused, named-last}
+use native.Mathlib.Omega.{arith}
+use Rattle.std.proofs.lemmas.Grind.{common_steps}
+use Rattle.der.specs.Contents.{legal_named_bits}
+use Rattle.der.proofs.ContentsSteps.{named-long, named_first_in, named_last_in, named-unused, named-last}
 use Rattle.der.proofs.legal_named_bits.Goals as goal
 
-pub returns-then-not-legal_bits : goal.returns-then-not-legal_bits
-returns-then-not-legal_bits c = search named_illegal
+pub returns-else-legal_bits : goal.returns-else-legal_bits
+unfolding legal_named_bits
+returns-else-legal_bits c = grind (arith, common_steps)
 
 pub returns-then-c-eq1 : goal.returns-then-c-eq1
-returns-then-c-eq1 c = search named-empty
+unfolding legal_named_bits
+returns-then-c-eq1 c = grind (arith, common_steps)
 
-pub overflow_sub-last : goal.overflow_sub-last
-overflow_sub-last c = search named-long
+pub overflow_sub-result : goal.overflow_sub-result
+overflow_sub-result c = search named-long
 
-pub bounds-c-last : goal.bounds-c-last
-bounds-c-last c = search named_last_in
+pub bounds-c-c : goal.bounds-c-c
+bounds-c-c c = search named_last_in
 
 pub bounds-c-0 : goal.bounds-c-0
 bounds-c-0 c = search named_first_in
@@ -19,5 +24,5 @@ bounds-c-0 c = search named_first_in
 pub overflow_shr-result : goal.overflow_shr-result
 overflow_shr-result c = search named-unused
 
-pub returns : goal.returns
-returns c = search named-last
+pub returns-else-c-eq1 : goal.returns-else-c-eq1
+returns-else-c-eq1 c = search named-last

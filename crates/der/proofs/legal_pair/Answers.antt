@@ -9,11 +9,11 @@ open_within-requires c = record { within = search rules; usable = search type_us
 pub returns-in_default : goal.returns-in_default
 returns-in_default c = search pair-misfit
 
-pub returns-then-not-legal_oid : goal.returns-then-not-legal_oid
-returns-then-not-legal_oid c = search pair_no_type
+pub returns-else-legal_oid : goal.returns-else-legal_oid
+returns-else-legal_oid c = search pair_no_type
 
 pub overflow_add-start : goal.overflow_add-start
 overflow_add-start c = record { fits = search contents-fit }
 
-pub returns : goal.returns
-returns c = search pair_is
+pub returns-then-legal_oid : goal.returns-then-legal_oid
+returns-then-legal_oid c = search pair_is

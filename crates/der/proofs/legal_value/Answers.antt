@@ -7,8 +7,8 @@ returns-in_default c = search value-misfit
 pub overflow_sub-c : goal.overflow_sub-c
 overflow_sub-c c = search value-starts
 
-pub returns-then-c-start : goal.returns-then-c-start
-returns-then-c-start c = search value_before-end
+pub returns-else-c-start : goal.returns-else-c-start
+returns-else-c-start c = search value_before-end
 
-pub returns : goal.returns
-returns c = search value-is
+pub returns-then-c-start : goal.returns-then-c-start
+returns-then-c-start c = search value-is

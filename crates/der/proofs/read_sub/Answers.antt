@@ -1,4 +1,4 @@
-use Rattle.der.proofs.SubSteps.{mask_fits, sub_80, sub_cut, sub-end, sub_more, sub-over, sub-start, sub-value}
+use Rattle.der.proofs.SubSteps.{sub_80, sub_cut, sub-end, sub_more, sub-over, sub-start, sub-value}
 use borrow.Author.Rules.{rules}
 use Rattle.der.proofs.read_sub.Goals as goal
 
@@ -13,9 +13,6 @@ loop-i-init c = (search rules, search sub-start)
 
 pub returns-then-v-gt33554431 : goal.returns-then-v-gt33554431
 returns-then-v-gt33554431 c = record { told = search sub-over; forward = tt }
-
-pub overflow_cast-v : goal.overflow_cast-v
-overflow_cast-v c = record { fits = search mask_fits }
 
 pub returns-then-o-lt128 : goal.returns-then-o-lt128
 returns-then-o-lt128 c = record { told = search sub-value; forward = (search rules, search rules) }

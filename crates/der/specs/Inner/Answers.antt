@@ -6,8 +6,6 @@ use Rattle.octets.specs.Octets.{octet}
 use Rattle.octets.specs.Inner.Answers.{between}
 use Rattle.der.specs.Contents.{subidentifiers, is_printable}
 use Rattle.der.specs.Meaning.{Whole}
-use Rattle.der.specs.declared.Length.{Length}
-use Rattle.der.specs.declared.Inside.{Inside}
 use Rattle.der.specs.declared.Sub.{Sub}
 use Rattle.der.specs.declared.Integer.{Integer}
 use Rattle.der.specs.declared.PairParts.{PairParts}
@@ -31,9 +29,9 @@ Forward c at Sub.End = Unit
 Forward c at (Sub.Value n next) = (at < next) × (next ≤ length c)
 
 -- the contents after a length, which have to lie before end
-abbrev pub behind : ℕ → Length → Inside
-behind end Length.Unusable = Inside.Misfit
-behind end (Length.Of n next) = pick (ltb (end - next) n) Inside.Misfit (Inside.Of next n)
+abbrev pub behind : ℕ → Option (ℕ × ℕ) → Option (ℕ × ℕ)
+behind end None = None
+behind end (Some (n, next)) = pick (ltb (end - next) n) None (Some (next, n))
 
 -- the four octets from a place on are characters of a PrintableString
 abbrev pub four_printable : List ℕ → ℕ → Bool

@@ -1,4 +1,3 @@
-use Prim.Native.Nat.{◌-◌}
 use Rattle.der.specs.Meaning.{bits_of}
 use Rattle.digits.specs.Inner.Alike.{alike_number}
 use lib.ListN.{drop}
@@ -7,6 +6,3 @@ use Rattle.digits.proofs.alike_mask.Given as goal
 
 abbrev pub invariant-loop-i : goal.invariant-loop-i
 invariant-loop-i l = alike_number (drop l.i (bits_of l.c)) l.rest ≡ alike_number (bits_of l.c) l.mask
-
-abbrev pub decreases-loop-i : goal.decreases-loop-i
-decreases-loop-i l = l.n - l.i

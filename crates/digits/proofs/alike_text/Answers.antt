@@ -1,9 +1,6 @@
-use Rattle.digits.proofs.NamedSteps.{alike-differ, alike-done, alike-on, alike-start}
-use Rattle.digits.proofs.SignificantLaws.{ends_some, digits-differ}
+use Rattle.digits.proofs.NamedSteps.{alike-differ, alike-on, alike-start}
+use Rattle.digits.proofs.SignificantLaws.{digits-differ}
 use Rattle.digits.proofs.alike_text.Goals as goal
-
-pub overflow_sub-n : goal.overflow_sub-n
-overflow_sub-n c = search ends_some
 
 pub returns-then-bit_at-ne0 : goal.returns-then-bit_at-ne0
 returns-then-bit_at-ne0 c = search digits-differ
@@ -16,6 +13,3 @@ returns-then-bit_at-drawn c = search alike-differ
 
 pub loop-i-preserved : goal.loop-i-preserved
 loop-i-preserved c = search alike-on
-
-pub returns : goal.returns
-returns c = search alike-done

@@ -1,8 +1,16 @@
-use Rattle.digits.proofs.Steps.{hex-digits, hex-unquoted}
+use Rattle.std.proofs.Common.{rules, ◌≡◌, true, false, sym, ◌∙◌}
+use Rattle.std.proofs.lemmas.Iterator.{cases_from_all, YieldsList-from_slice}
+use Rattle.octets.specs.Octets.{every}
+use Rattle.digits.proofs.Steps.{every_told}
+use Rattle.digits.specs.Asserted.{digits, is_hex_digit, is_hex_string}
 use Rattle.digits.proofs.is_hex_string.Goals as goal
 
-pub returns-then-not-in_quotes : goal.returns-then-not-in_quotes
-returns-then-not-in_quotes c = search hex-unquoted
-
-pub returns : goal.returns
-returns c = search hex-digits
+pub returns-then-in_quotes : goal.returns-then-in_quotes
+unfolding is_hex_string
+returns-then-in_quotes c =
+    let told : c.all.result ≡ every is_hex_digit (digits c.args.t.now) =
+    every_told is_hex_digit _ c.all.result
+    (cases_from_all _ _ _ (λ x. is_hex_digit x ≡ true) (λ x. is_hex_digit x ≡ false) c.all.ensures.ran (YieldsList-from_slice (digits c.args.t.now) cc)
+    (λ x q k. search rules)
+    (λ x q k. search rules)) in
+    rw (sym (c.in_quotes.ensures) ∙ c.if-in_quotes.true) told

@@ -1,12 +1,9 @@
-use Prim.Native.Nat.{◌-◌}
-use Rattle.digits.specs.Inner.Answers.{ordered}
+use Rattle.std.specs.Ordering.{nat_cmp}
+use Rattle.std.specs.Cmp.Lexicographic.{slice_cmp}
 use Rattle.octets.specs.Octets.{paired}
-use lib.ListN.{drop, length}
+use lib.ListN.{drop}
 use mathlib.Core.Path.{◌≡◌}
 use Rattle.digits.proofs.order_octets.Given as goal
 
-abbrev pub invariant-loop-i : goal.invariant-loop-i
-invariant-loop-i l = ordered (drop l.i l.c) (paired (drop l.j l.h)) ≡ ordered l.c (paired l.h)
-
-abbrev pub decreases-loop-i : goal.decreases-loop-i
-decreases-loop-i l = length l.c - l.i
+abbrev pub invariant-loop-b : goal.invariant-loop-b
+invariant-loop-b l = slice_cmp nat_cmp (drop l.b-index l.c) (paired (drop l.j l.h)) ≡ slice_cmp nat_cmp l.c (paired l.h)

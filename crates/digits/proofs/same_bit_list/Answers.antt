@@ -7,8 +7,8 @@ loop-i-init c = search bits-start
 pub returns-in_default : goal.returns-in_default
 returns-in_default c = search bits-short
 
-pub returns-then-bit_at-x : goal.returns-then-bit_at-x
-returns-then-bit_at-x c = search bits-differ
+pub returns-then-bit_at-drawn : goal.returns-then-bit_at-drawn
+returns-then-bit_at-drawn c = search bits-differ
 
 pub loop-i-preserved : goal.loop-i-preserved
 loop-i-preserved c = search bits-on

@@ -1,9 +1,5 @@
-use Rattle.digits.proofs.BitSteps.{bits_too_long}
 use Rattle.digits.proofs.NamedSteps.{mask_told}
 use Rattle.digits.proofs.same_mask.Goals as goal
 
-pub returns-then-c-gt65536 : goal.returns-then-c-gt65536
-returns-then-c-gt65536 c = search bits_too_long
-
-pub returns : goal.returns
-returns c = search mask_told
+pub returns-then-c-le65536 : goal.returns-then-c-le65536
+returns-then-c-le65536 c = search mask_told

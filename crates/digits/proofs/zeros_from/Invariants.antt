@@ -5,8 +5,8 @@ use mathlib.Core.List.{[]}
 use mathlib.Core.Path.{◌≡◌}
 use Rattle.digits.proofs.zeros_from.Given as goal
 
-abbrev pub invariant-loop-x : goal.invariant-loop-x
-invariant-loop-x l = alike [] (rest_bits l.hexed l.h l.a) ≡ alike [] (rest_bits l.hexed l.h l.initial.a)
+abbrev pub invariant-loop-drawn : goal.invariant-loop-drawn
+invariant-loop-drawn l = alike [] (rest_bits l.hexed l.h l.a) ≡ alike [] (rest_bits l.hexed l.h l.initial.a)
 
-abbrev pub decreases-loop-x : goal.decreases-loop-x
-decreases-loop-x l = length (rest_bits l.hexed l.h l.a)
+abbrev pub decreases-loop-drawn : goal.decreases-loop-drawn
+decreases-loop-drawn l = length (rest_bits l.hexed l.h l.a)

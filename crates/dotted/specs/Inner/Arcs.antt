@@ -1,14 +1,13 @@
 -- What the code's answers say of a dotted text. The meaning of a dotted text is in der/specs/Dotted.
+use Rattle.std.specs.Prelude.{Option, None, Some}
 use Rattle.std.specs.Prelude.{ℕ, ◌+◌, ◌-◌, Bool, true, false, List, [], ◌∷◌, ltb, leb, eqb, length, drop}
 use Rattle.octets.specs.Pick.{pick, both, either}
 use Rattle.octets.specs.Octets.{octet}
 use Rattle.octets.specs.Text.{is_digit, decimal_from, pieces}
 use Rattle.octets.specs.Inner.Answers.{clip, grow_of}
-use Rattle.octets.specs.declared.Size.{Size}
 use Rattle.der.specs.Dotted.{every_number}
 use Rattle.dotted.specs.declared.Form.{Form}
 use Rattle.dotted.specs.declared.Digits.{Digits}
-use Rattle.dotted.specs.declared.Dots.{Dots}
 use Rattle.dotted.specs.declared.Arc.{Arc}
 use Rattle.dotted.specs.declared.SmallArc.{SmallArc}
 
@@ -47,41 +46,41 @@ unfoldable pub is_joint : List ℕ → Bool
 is_joint t = both (leb 2 (length t)) (both (eqb (octet t 0) 50) (eqb (octet t 1) 46))
 
 -- ---- the arc that starts at a place, after digits d
-abbrev pub arc_of : Digits → Dots → Arc
+abbrev pub arc_of : Digits → Option ℕ → Arc
 arc_of d next = record { size = d.size; formed = is_formed d.form; next = next }
 
 unfoldable pub arc_from : Digits → List ℕ → ℕ → Arc
-arc_from d [] at = arc_of d Dots.Over
+arc_from d [] at = arc_of d None
 arc_from d (b ∷ s) at =
     let longer = arc_from (add_digit d b) s (at + 1) in
-    pick (eqb b 46) (arc_of d (Dots.At (at + 1))) longer
+    pick (eqb b 46) (arc_of d (Some (at + 1))) longer
 
 unfoldable pub arc_at : List ℕ → ℕ → Arc
-arc_at t at = arc_from (record { size = Size.Of 0; form = Form.Empty }) (drop at t) at
+arc_at t at = arc_from (record { size = Some 0; form = Form.Empty }) (drop at t) at
 
 -- an arc as a stored one may be, by its size and where the next starts
-abbrev pub small_of : Size → Dots → SmallArc
-small_of Size.Beyond next = SmallArc.Above
-small_of (Size.Of n) next = pick (ltb n 4294967296) (SmallArc.Of n next) SmallArc.Above
+abbrev pub small_of : Option ℕ → Option ℕ → Option SmallArc
+small_of None next = None
+small_of (Some n) next = pick (ltb n 4294967296) (Some (record { number = n; next = next })) None
 
-unfoldable pub small_at : List ℕ → ℕ → SmallArc
+unfoldable pub small_at : List ℕ → ℕ → Option SmallArc
 small_at t at = small_of (arc_at t at).size (arc_at t at).next
 
 -- the pieces from the next arc on
-unfoldable pub rest_pieces : List ℕ → Dots → List (List ℕ)
-rest_pieces t Dots.Over = []
-rest_pieces t (Dots.At at) = pieces (drop at t)
+unfoldable pub rest_pieces : List ℕ → Option ℕ → List (List ℕ)
+rest_pieces t None = []
+rest_pieces t (Some at) = pieces (drop at t)
 
 -- the first two arcs are within their bounds; a size beyond the code's numbers is above them
-abbrev pub are_roots : Size → Size → Bool
-are_roots Size.Beyond b = false
-are_roots (Size.Of m) Size.Beyond = both (leb m 2) (eqb m 2)
-are_roots (Size.Of m) (Size.Of n) = both (leb m 2) (either (eqb m 2) (ltb n 40))
+abbrev pub are_roots : Option ℕ → Option ℕ → Bool
+are_roots None b = false
+are_roots (Some m) None = both (leb m 2) (eqb m 2)
+are_roots (Some m) (Some n) = both (leb m 2) (either (eqb m 2) (ltb n 40))
 
 -- the arcs after a root a: numbers, the first of them within its bounds
-abbrev pub under_root : Size → List (List ℕ) → Bool
+abbrev pub under_root : Option ℕ → List (List ℕ) → Bool
 under_root a [] = false
 under_root a (p ∷ ps) = are_roots a (clip (decimal_from 0 p))
 
-unfoldable pub dotted_under : Size → List (List ℕ) → Bool
+unfoldable pub dotted_under : Option ℕ → List (List ℕ) → Bool
 dotted_under a ps = both (every_number ps) (under_root a ps)

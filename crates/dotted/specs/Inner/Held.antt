@@ -4,11 +4,9 @@ use Rattle.std.specs.Prelude.{Option, None, Some}
 use Rattle.octets.specs.Pick.{pick, consed}
 use Rattle.octets.specs.Octets.{same}
 use Rattle.octets.specs.Text.{decimal_from}
-use Rattle.octets.specs.declared.Size.{Size}
 use Rattle.der.specs.Contents.{subidentifiers}
 use Rattle.der.specs.Meaning.{first_arcs}
 use Rattle.dotted.specs.Inner.Arcs.{rest_pieces}
-use Rattle.dotted.specs.declared.Dots.{Dots}
 use Rattle.dotted.specs.declared.Held.{Held}
 use Rattle.dotted.specs.declared.HeldStep.{HeldStep}
 
@@ -38,12 +36,12 @@ is_over (HeldStep.End whole) = whole
 is_over (HeldStep.Next n h) = false
 
 -- an arc of the text, as the code holds it, is a stored one
-abbrev pub same_arc : Size → ℕ → Bool
-same_arc Size.Beyond n = false
-same_arc (Size.Of m) n = eqb m n
+abbrev pub same_arc : Option ℕ → ℕ → Bool
+same_arc None n = false
+same_arc (Some m) n = eqb m n
 
 -- the arcs of the text from the next on
-abbrev pub rest_arcs : List ℕ → Dots → List ℕ
+abbrev pub rest_arcs : List ℕ → Option ℕ → List ℕ
 rest_arcs t d = map (decimal_from 0) (rest_pieces t d)
 
 -- stored arcs, if there are any, are those of a list

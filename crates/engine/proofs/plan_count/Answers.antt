@@ -3,4 +3,4 @@ use borrow.Author.Rules.{rules}
 use Rattle.engine.proofs.plan_count.Goals as goal
 
 pub returns : goal.returns
-returns c = record { leads = search counted-leads; counts = search counted-task; steps = search rules }
+returns c = record { leads = search (counted-leads, c.ok_or.ensures.value); counts = search counted-task }

@@ -1,8 +1,5 @@
-use Rattle.escape.proofs.Steps.{fits-start, fits-done, fits_not, fits_more}
+use Rattle.escape.proofs.Steps.{fits-done, fits_not, fits_more}
 use Rattle.escape.proofs.fits.Goals as goal
-
-pub loop-i-init : goal.loop-i-init
-loop-i-init c = search fits-start
 
 pub returns-then-left-w : goal.returns-then-left-w
 returns-then-left-w c = search fits_not

@@ -13,9 +13,9 @@ decreases-judge_filter l = 2 * (length l.f.now - l.at)
 abbrev pub decreases-judge_list : goal.decreases-judge_list
 decreases-judge_list l = 2 * (length l.f.now - l.at) + 1
 
-abbrev pub invariant-judge_list-loop-next : goal.invariant-judge_list-loop-next
-invariant-judge_list-loop-next l =
-    Listing (stored_outcome (type_at l.t 0) l.v) l.f (report_join l.join) l.initial.p l.depth l.initial.items l.budget l.initial.made l.initial.i l.p l.made l.i l.items
+abbrev pub invariant-judge_list-loop-first : goal.invariant-judge_list-loop-first
+invariant-judge_list-loop-first l =
+    Listing (stored_outcome (type_at l.t 0) l.v) l.f (report_join l.join) l.initial.progress l.depth l.initial.items l.budget l.initial.made l.initial.place l.progress l.made l.place l.items
 
-abbrev pub decreases-judge_list-loop-next : goal.decreases-judge_list-loop-next
-decreases-judge_list-loop-next l = length l.f - l.i
+abbrev pub decreases-judge_list-loop-first : goal.decreases-judge_list-loop-first
+decreases-judge_list-loop-first l = length l.f - l.place

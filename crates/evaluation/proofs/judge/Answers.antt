@@ -1,17 +1,15 @@
-use Rattle.evaluation.proofs.FilterSteps.{text_at, text-bad, text-other, text-over, text_trailing}
+use Rattle.std.proofs.lemmas.Result.{err_from_is_err_and}
+use Rattle.evaluation.proofs.FilterSteps.{text_at, text-fault, text-other, text_trailing}
 use Rattle.evaluation.proofs.judge.Goals as goal
 
 pub returns-then-not-utf8 : goal.returns-then-not-utf8
 returns-then-not-utf8 c = search text-other
 
-pub returns-then-after-f : goal.returns-then-after-f
-returns-then-after-f c = search text_trailing
+pub returns-in_err-whole : goal.returns-in_err-whole
+returns-in_err-whole c = let p = err_from_is_err_and c.from_residual.result c.from_residual.ensures.1 in rw (p.1, p.2) (search (text-fault, c.in_err-whole.was))
 
-pub returns-else-after-f : goal.returns-else-after-f
-returns-else-after-f c = search text_at
+pub returns-then-whole-f : goal.returns-then-whole-f
+returns-then-whole-f c = search (text_trailing, c.in_ok-whole.was)
 
-pub returns-in-Over : goal.returns-in-Over
-returns-in-Over c = search text-over
-
-pub returns-in-Bad : goal.returns-in-Bad
-returns-in-Bad c = search text-bad
+pub returns : goal.returns
+returns c = search (text_at, c.in_ok-whole.was)

@@ -1,6 +1,6 @@
 -- What the code's answers say: a truth with the tests made, within a budget, for an assertion, a filter and the filters of a list.
 use Rattle.std.specs.Prelude.{ℕ, ◌+◌, ◌≤◌, ◌≡◌, Bool, true, false, List, length, leb}
-use Rattle.std.specs.Prelude.{Option, None, Some}
+use Rattle.std.specs.Prelude.{Option, None, Some, Result, Ok, Err}
 use Rattle.octets.specs.Pick.{pick, bind, is_some}
 use Rattle.rows.specs.Paper.{table_limits}
 use Rattle.types.specs.Types.{Ty}
@@ -21,18 +21,15 @@ use Rattle.plan.specs.Inner.Resolve.{Lands}
 use Rattle.walk.specs.declared.State.{State}
 use Rattle.assertion.specs.Assertion.{Read}
 use Rattle.filter.specs.Filter.{Item, Join, and, or, Filter, Filters}
-use Rattle.filter.specs.Parse.{Tail, another, closed, no_tail, tail_at}
-use Rattle.filter.specs.Inner.Answers.{bounded, bounded_in}
-use Rattle.filter.specs.declared.Span.{Span}
+use Rattle.filter.specs.Inner.Answers.{bounded, bounded_in, rest_of}
 use Rattle.evaluation.specs.Truth.{Truth, TRUE, FALSE, UNDEFINED, opposite}
 use Rattle.evaluation.specs.Reading.{Outcome, settled, of_none, with_rest, reading, reading_in}
 use Rattle.evaluation.specs.Assertion.{outcome}
 use Rattle.evaluation.specs.declared.Verdict.{Verdict}
 use Rattle.evaluation.specs.declared.Judged.{Judged}
 use Rattle.evaluation.specs.declared.Judging.{Judging}
+use Rattle.evaluation.specs.declared.Fault.{Fault}
 use Rattle.evaluation.specs.declared.Progress.{Progress}
-use Rattle.evaluation.specs.declared.Turn.{Turn}
-use Rattle.evaluation.specs.declared.Evaluated.{Evaluated}
 
 -- what evaluation rests on: the words w of an admitted table t, a stored value v of the type of row 0, and a filter text f within its limit
 pub record Ready (t w v f : List ℕ) : Type 0 where
@@ -53,6 +50,13 @@ opposed Verdict.True = Verdict.False
 opposed Verdict.False = Verdict.True
 opposed Verdict.Undefined = Verdict.Undefined
 
+-- a truth after so many tests; the same with the place after the filter and the items left
+abbrev pub judged : Verdict → ℕ → Judged
+judged u k = record { verdict = u; tests = k }
+
+abbrev pub judging : Verdict → ℕ → ℕ → ℕ → Judging
+judging u k after left = record { judged = judged u k; after = after; items = left }
+
 -- ---- an assertion
 -- its outcome for the value that octets decode to; of other octets nothing is asked
 abbrev pub outcome_for : Ty → Option Value → Item → Outcome
@@ -63,7 +67,7 @@ unfoldable pub stored_outcome : Ty → List ℕ → Item → Outcome
 stored_outcome ty v i = outcome_for ty (stored_value ty v) i
 
 -- what the code's target is, by the table t
-abbrev pub target_of : List ℕ → target.Target → Option Target
+abbrev pub target_of : List ℕ → Option target.Target → Option Target
 target_of t g = report_target table_limits.chain t (table_rows t) g
 
 -- what a reference leads to from a type, if it leads anywhere
@@ -81,28 +85,28 @@ bits_any r None x = None
 bits_any r (Some g) x = bits_test r g x
 
 -- the identifiers of a reference that leads to g are planned, for a test with the operand x
-unfoldable pub PlannedFor : List ℕ → List ℕ → List ℕ → Bool → Option (List ℕ) → target.Target → Type 0
+unfoldable pub PlannedFor : List ℕ → List ℕ → List ℕ → Bool → Option (List ℕ) → Option target.Target → Type 0
 PlannedFor t q x defaults component g = (is : List Id) → identifiers component ≡ Some is → Lands g → Planned t q x defaults 1 (type_at t 0) is
 
 -- what the end of a walk says
-abbrev pub ended : State → Judged
-ended (State.Going k) = Judged.Of Verdict.False k
-ended (State.Accepted k) = Judged.Of Verdict.True k
-ended State.Over = Judged.Over
+abbrev pub ended : State → Result Judged Fault
+ended (State.Going k) = Ok (judged Verdict.False k)
+ended (State.Accepted k) = Ok (judged Verdict.True k)
+ended State.Over = Err Fault.Over
 
 -- ---- tests within a budget
 -- an outcome after n tests
-unfoldable pub charged : ℕ → ℕ → Outcome → Judged
-charged budget n (settled t k) = pick (leb (n + k) budget) (Judged.Of (verdict_of t) (n + k)) Judged.Over
+unfoldable pub charged : ℕ → ℕ → Outcome → Result Judged Fault
+charged budget n (settled t k) = pick (leb (n + k) budget) (Ok (judged (verdict_of t) (n + k))) (Err Fault.Over)
 
 -- the same with the place after the filter
 pub data Ended : Type 0 where
   ends : Verdict → ℕ → ℕ → Ended
   over : Ended
 
-abbrev pub placed : ℕ → Judged → Ended
-placed after (Judged.Of u k) = ends u k after
-placed after Judged.Over = over
+abbrev pub placed : ℕ → Result Judged Fault → Ended
+placed after (Ok j) = ends j.verdict j.tests after
+placed after (Err e) = over
 
 -- a filter that is passed over makes no test
 abbrev pub judged_if : Bool → ℕ → ℕ → Outcome → ℕ → Ended
@@ -137,35 +141,29 @@ judged_filters says j p budget n (Some r) = judged_rest j p budget n (reading_in
 
 -- ---- what the code says where it reads and judges: the place after the filter and the items left, with the truth; a text that is no filter, or not within
 -- the depth d and so many items; or more tests than the budget, and then nothing of the text behind
-abbrev pub JudgedAs : (Item → Outcome) → ℕ → ℕ → Bool → ℕ → ℕ → Option (Read (Filter Item)) → Judging → Type 0
-JudgedAs says d room live budget n x (Judging.At u k after left) =
-    (Span.Of after left ≡ bounded d room x) × ((k ≤ budget) × (ends u k after ≡ judged_filter says live budget n x))
-JudgedAs says d room live budget n x Judging.Over = is_some x ≡ true → over ≡ judged_filter says live budget n x
-JudgedAs says d room live budget n x Judging.Bad = Span.Bad ≡ bounded d room x
+abbrev pub JudgedAs : (Item → Outcome) → ℕ → ℕ → Bool → ℕ → ℕ → Option (Read (Filter Item)) → Result Judging Fault → Type 0
+JudgedAs says d room live budget n x (Ok g) =
+    (Some (rest_of g.after g.items) ≡ bounded d room x) × ((g.judged.tests ≤ budget) × (ends g.judged.verdict g.judged.tests g.after ≡ judged_filter says live budget n x))
+JudgedAs says d room live budget n x (Err Fault.Over) = is_some x ≡ true → over ≡ judged_filter says live budget n x
+JudgedAs says d room live budget n x (Err Fault.Malformed) = None ≡ bounded d room x
 
-unfoldable pub Judges : (Item → Outcome) → ℕ → ℕ → Bool → ℕ → ℕ → Option (Read (Filter Item)) → Judging → Type 0
+unfoldable pub Judges : (Item → Outcome) → ℕ → ℕ → Bool → ℕ → ℕ → Option (Read (Filter Item)) → Result Judging Fault → Type 0
 Judges says d room live budget n x w = JudgedAs says d room live budget n x w
 
-abbrev pub JudgedInAs : (Item → Outcome) → Join → Progress → ℕ → ℕ → ℕ → ℕ → Option (Read (Filters Item)) → Judging → Type 0
-JudgedInAs says j p d room budget n x (Judging.At u k after left) =
-    (Span.Of after left ≡ bounded_in d room x) × ((k ≤ budget) × (ends u k after ≡ judged_filters says j p budget n x))
-JudgedInAs says j p d room budget n x Judging.Over = is_some x ≡ true → over ≡ judged_filters says j p budget n x
-JudgedInAs says j p d room budget n x Judging.Bad = Span.Bad ≡ bounded_in d room x
+abbrev pub JudgedInAs : (Item → Outcome) → Join → Progress → ℕ → ℕ → ℕ → ℕ → Option (Read (Filters Item)) → Result Judging Fault → Type 0
+JudgedInAs says j p d room budget n x (Ok g) =
+    (Some (rest_of g.after g.items) ≡ bounded_in d room x) × ((g.judged.tests ≤ budget) × (ends g.judged.verdict g.judged.tests g.after ≡ judged_filters says j p budget n x))
+JudgedInAs says j p d room budget n x (Err Fault.Over) = is_some x ≡ true → over ≡ judged_filters says j p budget n x
+JudgedInAs says j p d room budget n x (Err Fault.Malformed) = None ≡ bounded_in d room x
 
-unfoldable pub JudgesIn : (Item → Outcome) → Join → Progress → ℕ → ℕ → ℕ → ℕ → Option (Read (Filters Item)) → Judging → Type 0
+unfoldable pub JudgesIn : (Item → Outcome) → Join → Progress → ℕ → ℕ → ℕ → ℕ → Option (Read (Filters Item)) → Result Judging Fault → Type 0
 JudgesIn says j p d room budget n x w = JudgedInAs says j p d room budget n x w
 
--- the code's answers in steps
-abbrev pub placed_at : ℕ → ℕ → Judged → Judging
-placed_at after left (Judged.Of u k) = Judging.At u k after left
-placed_at after left Judged.Over = Judging.Over
-
+-- a filter under `not`
 abbrev pub inverse_of : Judging → Judging
-inverse_of (Judging.At u k after left) = Judging.At (opposed u) k after left
-inverse_of Judging.Over = Judging.Over
-inverse_of Judging.Bad = Judging.Bad
+inverse_of g = judging (opposed g.judged.verdict) g.judged.tests g.after g.items
 
--- the same in steps: how a list begins, whether it goes on, what one filter more makes of it, and its truth at the end
+-- a list in steps: how a list begins, whether it goes on, what one filter more makes of it, and its truth at the end
 abbrev pub begun : Bool → Progress
 begun true = Progress.Plain
 begun false = Progress.Passed
@@ -207,22 +205,11 @@ at_end j Progress.Unsure = Verdict.Undefined
 at_end j Progress.Stopped = opposed (none_of j)
 at_end j Progress.Passed = Verdict.Undefined
 
--- a filter of the text s was judged: what follows it
-abbrev pub turned_by : Join → Progress → ℕ → ℕ → Tail → Turn
-turned_by j p k left (another a) = Turn.Goes p k a left
-turned_by j p k left (closed a) = Turn.Ends (Judging.At (at_end j p) k a left)
-turned_by j p k left no_tail = Turn.Ends Judging.Bad
-
-abbrev pub turned : List ℕ → Join → Progress → Judging → Turn
-turned s j p (Judging.At u k after left) = turned_by j (joined_by j p u) k left (tail_at s after)
-turned s j p Judging.Over = Turn.Ends Judging.Over
-turned s j p Judging.Bad = Turn.Ends Judging.Bad
-
 -- ---- the filter of a whole text, if it is one: a truth within the budget, or more tests; where the budget is met first nothing is said of the text
-abbrev pub EvaluatedAs : (Item → Outcome) → ℕ → Option (Filter Item) → Evaluated → Type 0
-EvaluatedAs says budget x (Evaluated.Of u k) = (f : Filter Item) × ((x ≡ Some f) × (Judged.Of u k ≡ charged budget 0 (reading says f)))
-EvaluatedAs says budget x Evaluated.Over = (f : Filter Item) → x ≡ Some f → Judged.Over ≡ charged budget 0 (reading says f)
-EvaluatedAs says budget x Evaluated.Malformed = x ≡ None
+abbrev pub EvaluatedAs : (Item → Outcome) → ℕ → Option (Filter Item) → Result Judged Fault → Type 0
+EvaluatedAs says budget x (Ok j) = (f : Filter Item) × ((x ≡ Some f) × (Ok j ≡ charged budget 0 (reading says f)))
+EvaluatedAs says budget x (Err Fault.Over) = (f : Filter Item) → x ≡ Some f → Err Fault.Over ≡ charged budget 0 (reading says f)
+EvaluatedAs says budget x (Err Fault.Malformed) = x ≡ None
 
-unfoldable pub Evaluates : (Item → Outcome) → ℕ → Option (Filter Item) → Evaluated → Type 0
+unfoldable pub Evaluates : (Item → Outcome) → ℕ → Option (Filter Item) → Result Judged Fault → Type 0
 Evaluates says budget x r = EvaluatedAs says budget x r

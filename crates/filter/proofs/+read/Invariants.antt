@@ -10,8 +10,8 @@ decreases-read_filter l = 2 * l.depth
 abbrev pub decreases-read_list : goal.decreases-read_list
 decreases-read_list l = 2 * l.depth + 1
 
-abbrev pub invariant-read_list-loop-q : goal.invariant-read_list-loop-q
-invariant-read_list-loop-q l = Listed l.s l.at l.depth l.room l.i l.left
+abbrev pub invariant-read_list-loop-rest : goal.invariant-read_list-loop-rest
+invariant-read_list-loop-rest l = Listed l.s l.at l.depth l.room l.i l.left
 
-abbrev pub decreases-read_list-loop-q : goal.decreases-read_list-loop-q
-decreases-read_list-loop-q l = length l.s - l.i
+abbrev pub decreases-read_list-loop-rest : goal.decreases-read_list-loop-rest
+decreases-read_list-loop-rest l = length l.s - l.i

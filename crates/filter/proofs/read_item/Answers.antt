@@ -4,8 +4,8 @@ use Rattle.filter.proofs.read_item.Goals as goal
 pub returns-then-room-eq0 : goal.returns-then-room-eq0
 returns-then-room-eq0 c = search item_full
 
-pub returns-in_default : goal.returns-in_default
-returns-in_default c = search item_bad
+pub returns-in_err-parts : goal.returns-in_err-parts
+returns-in_err-parts c = rw c.from_residual.ensures (search (item_bad, c.in_err-parts.was))
 
 pub returns : goal.returns
-returns c = search item_is
+returns c = search (item_is, c.in_ok-parts.was)

@@ -1,8 +1,8 @@
 use Rattle.gser.proofs.Steps.{Ending}
 use Rattle.gser.proofs.before_spaces.Given as goal
 
-abbrev pub invariant-loop-n : goal.invariant-loop-n
-invariant-loop-n l = Ending l.s l.n
+abbrev pub invariant-loop-last : goal.invariant-loop-last
+invariant-loop-last l = Ending l.s l.last
 
-abbrev pub decreases-loop-n : goal.decreases-loop-n
-decreases-loop-n l = l.n
+abbrev pub decreases-loop-last : goal.decreases-loop-last
+decreases-loop-last l = l.last

@@ -4,5 +4,5 @@ use Rattle.integers.proofs.bound_of.Goals as goal
 pub returns-then-a : goal.returns-then-a
 returns-then-a c = search bound_minus
 
-pub returns : goal.returns
-returns c = search bound_plus
+pub returns-else-a : goal.returns-else-a
+returns-else-a c = search bound_plus

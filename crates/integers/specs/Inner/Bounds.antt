@@ -1,8 +1,8 @@
 -- Integers as numbers that keep their order, and an asserted one among those that can be stored.
+use Rattle.std.specs.Prelude.{Option, Some, None}
 use Rattle.std.specs.Prelude.{ℕ, ◌+◌, ◌-◌, Bool, true, false, List, length, ltb, leb, eqb}
 use Rattle.octets.specs.Pick.{pick, either, no}
 use Rattle.octets.specs.Text.{within}
-use Rattle.octets.specs.declared.Size.{Size}
 use Rattle.der.specs.Meaning.{Whole, integer_of}
 use Rattle.integers.specs.declared.Bound.{Bound}
 
@@ -29,13 +29,13 @@ unfoldable pub bound_of : Whole → Bound
 bound_of w = pick w.minus (minus_bound w.size) (plus_bound w.size)
 
 -- the same from a size as the code holds it
-abbrev pub minus_bound_of : Size → Bound
-minus_bound_of Size.Beyond = Bound.Under
-minus_bound_of (Size.Of n) = minus_bound n
+abbrev pub minus_bound_of : Option ℕ → Bound
+minus_bound_of None = Bound.Under
+minus_bound_of (Some n) = minus_bound n
 
-abbrev pub plus_bound_of : Size → Bound
-plus_bound_of Size.Beyond = Bound.Over
-plus_bound_of (Size.Of n) = plus_bound n
+abbrev pub plus_bound_of : Option ℕ → Bound
+plus_bound_of None = Bound.Over
+plus_bound_of (Some n) = plus_bound n
 
 -- a number is the bound's, or less
 abbrev pub same_bound : ℕ → Bound → Bool

@@ -1,9 +1,6 @@
-use Rattle.namematch.proofs.Steps.{count-start, count_full, count-misfit, count_falls, count-more, count-done}
+use Rattle.namematch.proofs.Steps.{count_full, count-misfit, count_falls, count-more, count-done}
 use Rattle.der.proofs.NameSteps.{contents-fit}
 use Rattle.namematch.proofs.count.Goals as goal
-
-pub loop-at-init : goal.loop-at-init
-loop-at-init c = search count-start
 
 pub returns-then-most-n : goal.returns-then-most-n
 returns-then-most-n c = search count_full

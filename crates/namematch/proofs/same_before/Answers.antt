@@ -4,8 +4,8 @@ use Rattle.der.proofs.NameSteps.{contents-fit}
 use borrow.Author.Rules.{rules}
 use Rattle.namematch.proofs.same_before.Goals as goal
 
-pub loop-i-init : goal.loop-i-init
-loop-i-init c = search before-start
+pub loop-init : goal.loop-init
+loop-init c = search before-start
 
 pub returns-then-end-eq0 : goal.returns-then-end-eq0
 returns-then-end-eq0 c = search before-none
@@ -22,8 +22,8 @@ returns-then-not-same_rdn_back c = search before-other
 pub overflow_add-at : goal.overflow_add-at
 overflow_add-at c = record { fits = search contents-fit }
 
-pub loop-i-preserved : goal.loop-i-preserved
-loop-i-preserved c = search before_more
+pub loop-preserved : goal.loop-preserved
+loop-preserved c = search before_more
 
 pub returns : goal.returns
 returns c = search before-done

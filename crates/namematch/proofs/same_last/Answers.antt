@@ -4,8 +4,8 @@ use Rattle.der.proofs.NameSteps.{contents-fit}
 use borrow.Author.Rules.{rules}
 use Rattle.namematch.proofs.same_last.Goals as goal
 
-pub loop-i-init : goal.loop-i-init
-loop-i-init c = search reach-start
+pub loop-init : goal.loop-init
+loop-init c = search reach-start
 
 pub returns-then-reached-eq0 : goal.returns-then-reached-eq0
 returns-then-reached-eq0 c = search reach-none
@@ -19,8 +19,8 @@ returns-in_default c = search reach-misfit
 pub overflow_add-place : goal.overflow_add-place
 overflow_add-place c = record { fits = search contents-fit }
 
-pub loop-i-preserved : goal.loop-i-preserved
-loop-i-preserved c = search reach-more
+pub loop-preserved : goal.loop-preserved
+loop-preserved c = search reach-more
 
 pub returns-then-reached-eq0-2 : goal.returns-then-reached-eq0-2
 returns-then-reached-eq0-2 c = search reach-none

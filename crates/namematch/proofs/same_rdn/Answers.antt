@@ -10,8 +10,8 @@ count-requires c = search pair_usable
 pub returns-then-count-n : goal.returns-then-count-n
 returns-then-count-n c = search match_other
 
-pub loop-i-init : goal.loop-i-init
-loop-i-init c = search match_start
+pub loop-init : goal.loop-init
+loop-init c = search match_start
 
 pub open_within-requires : goal.open_within-requires
 open_within-requires c = record { within = search rules; usable = search pair_usable }
@@ -28,8 +28,8 @@ returns-in_default-use_attribute c = search match_none
 pub overflow_add-at : goal.overflow_add-at
 overflow_add-at c = record { fits = search contents-fit }
 
-pub loop-i-preserved : goal.loop-i-preserved
-loop-i-preserved c = search match_more
+pub loop-preserved : goal.loop-preserved
+loop-preserved c = search match_more
 
 pub returns : goal.returns
 returns c = search match_done

@@ -3,7 +3,6 @@ use Rattle.std.specs.Prelude.{ℕ, ◌≤◌, ◌+◌, ◌*◌, ◌/◌, ◌%◌
 use Rattle.std.specs.Prelude.{Option, None, Some}
 use Rattle.octets.specs.Pick.{pick, both}
 use Rattle.names.specs.Compared.{Compared, same_pair}
-use Rattle.namematch.specs.declared.Marks.{Marks}
 
 -- the attributes that aren't marked
 unfoldable pub unused : List Compared → ℕ → List Compared
@@ -25,11 +24,7 @@ marked a [] m = None
 marked a (b ∷ l) m = let r = marked a l (m / 2) in pick (same_unused a b m) (Some (m + 1)) (behind (m % 2) r)
 
 -- ---- what the code's answers say
-abbrev pub report : Marks → Option ℕ
-report Marks.No = None
-report (Marks.Of m) = Some m
-
 -- one mark more
-abbrev pub Near : ℕ → Marks → Type 0
-Near used Marks.No = Unit {0}
-Near used (Marks.Of m) = m ≤ used + 8
+abbrev pub Near : ℕ → Option ℕ → Type 0
+Near used None = Unit {0}
+Near used (Some m) = m ≤ used + 8

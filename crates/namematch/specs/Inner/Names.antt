@@ -1,14 +1,14 @@
 -- Where the RDNs of a stored name and of the operand lie: RDN i from 0 of the one beside RDN i of the other, which the operand has from its end on.
+use Rattle.std.specs.Prelude.{Option, Some, None}
 use Rattle.std.specs.Prelude.{ℕ, zero, suc, ◌+◌, ◌-◌, Bool, List, map, length}
 use Rattle.der.specs.Header.{inside_at}
 use Rattle.der.specs.Names.{Element, elements_from, elements_of}
-use Rattle.der.specs.declared.Inside.{Inside}
 use Rattle.names.specs.Compared.{Compared, stored_rdn, same_name}
 use Rattle.names.specs.Inner.Operand.{rdn_start, rdns_back}
 
-abbrev pub behind : Inside → ℕ
-behind Inside.Misfit = 0
-behind (Inside.Of start n) = start + n
+abbrev pub behind : Option (ℕ × ℕ) → ℕ
+behind None = 0
+behind (Some (start, n)) = start + n
 
 -- the place of RDN i of a stored name; 31 is the tag octet of an RDN
 unfoldable pub rdn_at : List ℕ → ℕ → ℕ

@@ -3,4 +3,4 @@ use borrow.Author.Rules.{rules}
 use Rattle.nameoperand.proofs.put_count.Goals as goal
 
 pub returns : goal.returns
-returns c = record { written = search count-written; place = search rules; room = search count_long }
+returns c = record { written = search count-written; place = search rules }

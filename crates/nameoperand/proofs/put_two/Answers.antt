@@ -3,4 +3,4 @@ use borrow.Author.Rules.{rules}
 use Rattle.nameoperand.proofs.put_two.Goals as goal
 
 pub returns : goal.returns
-returns c = record { written = search two-written; place = search rules; room = search two-long }
+returns c = record { written = search two-written; place = search rules }

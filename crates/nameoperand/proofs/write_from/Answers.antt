@@ -6,17 +6,17 @@ use Rattle.nameoperand.proofs.write_from.Goals as goal
 pub loop-a-init : goal.loop-a-init
 loop-a-init c = search writing_start
 
-pub returns-in_default : goal.returns-in_default
-returns-in_default c = search writing_none
+pub returns : goal.returns
+returns c = search writing_none
 
 pub write_attribute-n-requires : goal.write_attribute-n-requires
-write_attribute-n-requires c = record { room = search writing_long; dotted = search type-long; valued = search value-behind; within = search value-within; short = search rules; behind = search writing_behind }
+write_attribute-n-requires c = record { dotted = search type-long; valued = search value-behind; within = search value-within; short = search rules; behind = search writing_behind }
 
 pub overflow_add-count : goal.overflow_add-count
 overflow_add-count c = record { fits = search count_fits }
 
 pub put_count-requires : goal.put_count-requires
-put_count-requires c = record { room = search rules; small = search count_small; short = search count_room }
+put_count-requires c = record { small = search count_small; short = search count_room }
 
 pub returns-then-octet-ne43 : goal.returns-then-octet-ne43
 returns-then-octet-ne43 c = search writing_done

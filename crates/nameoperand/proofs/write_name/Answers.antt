@@ -3,17 +3,17 @@ use Rattle.nameoperand.proofs.WritingSteps.{naming_on, naming_falls, naming_more
 use borrow.Author.Rules.{rules}
 use Rattle.nameoperand.proofs.write_name.Goals as goal
 
-pub returns-then-p-eq0 : goal.returns-then-p-eq0
-returns-then-p-eq0 c = record { written = search naming_none; room = search rules }
+pub returns-then-is_empty : goal.returns-then-is_empty
+returns-then-is_empty c = search (rules, naming_none)
 
 pub loop-at-init : goal.loop-at-init
-loop-at-init c = search naming_start
+loop-at-init c = search (rules, naming_start)
 
 pub write_from-written-requires : goal.write_from-written-requires
-write_from-written-requires c = record { room = search naming_long; short = search rules; behind = search naming_behind; read = search naming_read }
+write_from-written-requires c = record { short = search rules; behind = search naming_behind; read = search naming_read }
 
 pub returns-then-octet-ne44 : goal.returns-then-octet-ne44
-returns-then-octet-ne44 c = record { written = search naming_done; room = search naming_kept }
+returns-then-octet-ne44 c = search naming_done
 
 pub overflow_add-at : goal.overflow_add-at
 overflow_add-at c = record { fits = search naming_on }

@@ -3,7 +3,7 @@ use borrow.Author.Rules.{rules}
 use Rattle.nameoperand.proofs.write_rdn.Goals as goal
 
 pub write_from-written-requires : goal.write_from-written-requires
-write_from-written-requires c = record { room = search rules; short = search rules; behind = search rules; read = search single-read }
+write_from-written-requires c = record { short = search rules; behind = search rules; read = search single-read }
 
 pub returns : goal.returns
-returns c = record { written = search single-written; room = search single-long }
+returns c = search single-written

@@ -1,23 +1,21 @@
-use Rattle.names.proofs.NameSteps.{name-empty, name-start, name-over, name-none, name_done, name-more, comma-fits}
+use Rattle.names.proofs.NameSteps.{name-empty, name-start, name-over, name-none, name_done, name-more}
+use borrow.Author.Rules.{rules}
 use Rattle.names.proofs.is_name.Goals as goal
 
-pub returns-then-p-eq0 : goal.returns-then-p-eq0
-returns-then-p-eq0 c = search name-empty
+pub returns-then-is_empty : goal.returns-then-is_empty
+returns-then-is_empty c = search (rules, name-empty)
 
-pub loop-left-init : goal.loop-left-init
-loop-left-init c = search name-start
+pub loop-init : goal.loop-init
+loop-init c = search (rules, name-start)
 
 pub returns-in_default : goal.returns-in_default
-returns-in_default c = search name-none
+returns-in_default c = search (rules, name-none)
 
 pub returns-then-octet-ne44 : goal.returns-then-octet-ne44
-returns-then-octet-ne44 c = search name_done
+returns-then-octet-ne44 c = search (rules, name_done)
 
-pub overflow_add-i : goal.overflow_add-i
-overflow_add-i c = record { fits = search comma-fits }
-
-pub loop-left-preserved : goal.loop-left-preserved
-loop-left-preserved c = search name-more
+pub loop-preserved : goal.loop-preserved
+loop-preserved c = search (rules, name-more)
 
 pub returns : goal.returns
-returns c = search name-over
+returns c = search (rules, name-over)

@@ -1,21 +1,15 @@
-use Rattle.names.proofs.NameSteps.{rdn-over, rdn-none, rdn-done, rdn-more, plus-fits}
-use mathlib.Core.Path.{refl}
+use Rattle.names.proofs.NameSteps.{rdn-over, rdn-none, rdn-done, rdn-more}
+use borrow.Author.Rules.{rules}
 use Rattle.names.proofs.rdn_end.Goals as goal
 
-pub loop-left-init : goal.loop-left-init
-loop-left-init c = refl
-
-pub returns-in_default : goal.returns-in_default
-returns-in_default c = search rdn-none
+pub returns-in_err-end : goal.returns-in_err-end
+returns-in_err-end c = rw c.from_residual.ensures (search (rules, rdn-none, c.in_err-end.was))
 
 pub returns-then-octet-ne43 : goal.returns-then-octet-ne43
-returns-then-octet-ne43 c = search rdn-done
+returns-then-octet-ne43 c = search (rules, rdn-done, c.in_ok-end.was)
 
-pub overflow_add-i : goal.overflow_add-i
-overflow_add-i c = record { fits = search plus-fits }
-
-pub loop-left-preserved : goal.loop-left-preserved
-loop-left-preserved c = search rdn-more
+pub loop-preserved : goal.loop-preserved
+loop-preserved c = search (rules, rdn-more, c.in_ok-end.was)
 
 pub returns : goal.returns
-returns c = search rdn-over
+returns c = search (rules, rdn-over)

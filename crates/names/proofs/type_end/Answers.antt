@@ -1,8 +1,5 @@
-use Rattle.names.proofs.AttributeSteps.{typed-start, type-over, type-places, type-found, type-none, type-on}
+use Rattle.names.proofs.AttributeSteps.{type-over, type-places, type-found, type-none, type-on}
 use Rattle.names.proofs.type_end.Goals as goal
-
-pub loop-i-init : goal.loop-i-init
-loop-i-init c = search typed-start
 
 pub returns-then-b-eq61 : goal.returns-then-b-eq61
 returns-then-b-eq61 c = record { read = search type-found; places = search type-places }

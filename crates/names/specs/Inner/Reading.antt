@@ -7,16 +7,11 @@ use Rattle.octets.specs.Text.{is_digit, is_hex, hex_value}
 use Rattle.octets.specs.Utf8.{after, may_end}
 use Rattle.octets.specs.Quoted.{undoubled}
 use Rattle.octets.specs.Inner.Answers.{between}
-use Rattle.octets.specs.declared.Awaiting.{Awaiting}
-use Rattle.octets.specs.declared.Place.{Place}
 use Rattle.strings.specs.Inner.Escaped.{unescaped}
 use Rattle.names.specs.Rfc4514 as rfc
 use Rattle.names.specs.Rfc4514.{Read, is_special, letters, ends, up_to_end, from_end, may_stand, may_lead, may_trail, octet_of, is_string}
 use Rattle.names.specs.declared.Letter.{Letter}
-use Rattle.names.specs.declared.ValueEnd.{ValueEnd}
 use Rattle.names.specs.declared.Attribute.{Attribute}
-use Rattle.names.specs.declared.AttributeAt.{AttributeAt}
-use Rattle.names.specs.declared.RdnEnd.{RdnEnd}
 
 -- ---- letters by their places
 -- the letters from a place on
@@ -63,15 +58,15 @@ abbrev pub stands_as : Bool → rfc.Letter → Bool
 stands_as first l = both (may_stand l) (either (no first) (may_lead l))
 
 -- what is asked of the letters that are left: they are the first or later, those before may be the last (`trailing`), and what may come next in UTF-8
-unfoldable pub string_from : Bool → Bool → Awaiting → List rfc.Letter → Bool
+unfoldable pub string_from : Bool → Bool → Option (ℕ × ℕ × ℕ) → List rfc.Letter → Bool
 string_from first trailing a [] = both trailing (may_end a)
 string_from first trailing a (l ∷ ls) =
     let r = string_from false (may_trail l) (after a (octet_of l)) ls in
     pick (ends l) (both trailing (may_end a)) (both (stands_as first l) r)
 
 -- a value that ends at a place, if it may end there
-abbrev pub closed_value : Bool → Awaiting → ℕ → ValueEnd
-closed_value trailing a end = pick (both trailing (may_end a)) (ValueEnd.Of end) ValueEnd.No
+abbrev pub closed_value : Bool → Option (ℕ × ℕ × ℕ) → ℕ → Option ℕ
+closed_value trailing a end = pick (both trailing (may_end a)) (Some end) None
 
 -- the octets of the letters up to the end of a value
 abbrev pub value_octets : List rfc.Letter → List ℕ
@@ -81,18 +76,18 @@ value_octets ls = map octet_of (up_to_end ls)
 unfoldable pub value_from : List rfc.Letter → Option (Read (List ℕ))
 value_from ls = pick (is_string (up_to_end ls)) (read (value_octets ls) (from_end ls)) None
 
-abbrev pub report_value : List ℕ → ℕ → ValueEnd → Option (Read (List ℕ))
-report_value p at ValueEnd.No = None
-report_value p at (ValueEnd.Of end) = read (unescaped (between p at end)) (letters_at p end)
+abbrev pub report_value : List ℕ → ℕ → Option ℕ → Option (Read (List ℕ))
+report_value p at None = None
+report_value p at (Some end) = read (unescaped (between p at end)) (letters_at p end)
 
 -- a place from one up to another
 pub record UpTo (at most end : ℕ) : Type 0 where
   pub from : at ≤ end
   pub up_to : end ≤ most
 
-abbrev pub ValuePlaces : ℕ → ℕ → ValueEnd → Type 0
-ValuePlaces at most ValueEnd.No = Unit {0}
-ValuePlaces at most (ValueEnd.Of end) = UpTo at most end
+abbrev pub ValuePlaces : ℕ → ℕ → Option ℕ → Type 0
+ValuePlaces at most None = Unit {0}
+ValuePlaces at most (Some end) = UpTo at most end
 
 -- ---- attributes
 -- an octet of a dotted text: a full stop or a digit
@@ -105,22 +100,22 @@ plain_type None = None
 plain_type (Some t) = pick (every is_type_octet t.got) (Some t) None
 
 -- the type from a place on, by the place of the `=` after it
-abbrev pub report_type : List ℕ → ℕ → Place → Option (Read (List ℕ))
-report_type p at Place.Nowhere = None
-report_type p at (Place.At equals) = read (between p at equals) (letters_at p (equals + 1))
+abbrev pub report_type : List ℕ → ℕ → Option ℕ → Option (Read (List ℕ))
+report_type p at None = None
+report_type p at (Some equals) = read (between p at equals) (letters_at p (equals + 1))
 
 -- a place from one on and before another
 pub record Before (at most i : ℕ) : Type 0 where
   pub from : at ≤ i
   pub before : i < most
 
-abbrev pub TypePlaces : ℕ → ℕ → Place → Type 0
-TypePlaces at most Place.Nowhere = Unit {0}
-TypePlaces at most (Place.At i) = Before at most i
+abbrev pub TypePlaces : ℕ → ℕ → Option ℕ → Type 0
+TypePlaces at most None = Unit {0}
+TypePlaces at most (Some i) = Before at most i
 
-abbrev pub report_attribute : List ℕ → ℕ → AttributeAt → Option (Read rfc.Attribute)
-report_attribute p at AttributeAt.No = None
-report_attribute p at (AttributeAt.Of a) = Some (record {
+abbrev pub report_attribute : List ℕ → ℕ → Option Attribute → Option (Read rfc.Attribute)
+report_attribute p at None = None
+report_attribute p at (Some a) = Some (record {
   got = record { type = between p at a.equals; value = unescaped (between p (a.equals + 1) a.end) };
   rest = letters_at p a.end;
 })
@@ -131,9 +126,9 @@ pub record Rising (at most : ℕ) (a : Attribute) : Type 0 where
   pub before : a.equals < a.end
   pub up_to : a.end ≤ most
 
-abbrev pub AttributePlaces : ℕ → ℕ → AttributeAt → Type 0
-AttributePlaces at most AttributeAt.No = Unit {0}
-AttributePlaces at most (AttributeAt.Of a) = Rising at most a
+abbrev pub AttributePlaces : ℕ → ℕ → Option Attribute → Type 0
+AttributePlaces at most None = Unit {0}
+AttributePlaces at most (Some a) = Rising at most a
 
 -- ---- RDNs
 -- the letters after what was read
@@ -141,6 +136,6 @@ abbrev pub rest_of : {A : Type 0} → Option (Read A) → Option (List rfc.Lette
 rest_of None = None
 rest_of (Some r) = Some r.rest
 
-abbrev pub report_rest : List ℕ → RdnEnd → Option (List rfc.Letter)
-report_rest p RdnEnd.No = None
-report_rest p (RdnEnd.Of end) = Some (letters_at p end)
+abbrev pub report_rest : List ℕ → Option ℕ → Option (List rfc.Letter)
+report_rest p None = None
+report_rest p (Some end) = Some (letters_at p end)

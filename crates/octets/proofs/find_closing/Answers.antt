@@ -1,9 +1,5 @@
-use mathlib.Core.Path.{refl}
 use Rattle.octets.proofs.Steps.{closing-none, closing-on, closing-last, closing-found, closing-double}
 use Rattle.octets.proofs.find_closing.Goals as goal
-
-pub loop-i-init : goal.loop-i-init
-loop-i-init c = refl
 
 pub loop-i-preserved-then-s-i-ne34 : goal.loop-i-preserved-then-s-i-ne34
 loop-i-preserved-then-s-i-ne34 c = search closing-on

@@ -1,9 +1,7 @@
-use mathlib.Core.Path.{refl}
-use Rattle.octets.proofs.Steps.{skip-stops, skip-on, skip-ends}
+use native.Mathlib.Omega.{arith}
+use Rattle.std.proofs.lemmas.Grind.{common_steps}
+use Rattle.octets.proofs.Steps.{skip-stops, skip-on, skip-past}
 use Rattle.octets.proofs.skip.Goals as goal
-
-pub loop-i-init : goal.loop-i-init
-loop-i-init c = refl
 
 pub returns-then-s-i-ne32 : goal.returns-then-s-i-ne32
 returns-then-s-i-ne32 c = search skip-stops
@@ -12,4 +10,4 @@ pub loop-i-preserved : goal.loop-i-preserved
 loop-i-preserved c = search skip-on
 
 pub returns : goal.returns
-returns c = search skip-ends
+returns c = grind (arith, common_steps, skip-past)

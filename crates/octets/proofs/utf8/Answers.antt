@@ -4,11 +4,11 @@ use Rattle.octets.proofs.utf8.Goals as goal
 pub returns-then-highest-lt128 : goal.returns-then-highest-lt128
 returns-then-highest-lt128 c = search utf8_ascii
 
-pub loop-i-init : goal.loop-i-init
-loop-i-init c = search utf8-start
+pub loop-b-init : goal.loop-b-init
+loop-b-init c = search utf8-start
 
-pub loop-i-preserved : goal.loop-i-preserved
-loop-i-preserved c = search utf8-more
+pub loop-b-preserved : goal.loop-b-preserved
+loop-b-preserved c = search utf8-more
 
 pub returns : goal.returns
 returns c = search utf8-done

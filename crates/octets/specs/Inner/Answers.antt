@@ -2,23 +2,16 @@
 use Rattle.std.specs.Prelude.{ℕ, ◌+◌, ◌-◌, ◌*◌, List, [], ◌∷◌, ltb}
 use Rattle.std.specs.Prelude.{Option, None, Some}
 use Rattle.octets.specs.Pick.{pick}
-use Rattle.octets.specs.declared.Size.{Size}
-use Rattle.octets.specs.declared.Place.{Place}
 use Rattle.octets.specs.Octets.{part, larger}
 
 -- a number as the code holds it: beyond its numbers where it isn't below 2^64
-abbrev pub clip : ℕ → Size
-clip n = pick (ltb n 18446744073709551616) (Size.Of n) Size.Beyond
+abbrev pub clip : ℕ → Option ℕ
+clip n = pick (ltb n 18446744073709551616) (Some n) None
 
 -- one digit more
-abbrev pub grow_of : Size → ℕ → Size
-grow_of Size.Beyond d = Size.Beyond
-grow_of (Size.Of n) d = clip (n * 10 + d)
-
--- a place, or none
-abbrev pub report_place : Place → Option ℕ
-report_place Place.Nowhere = None
-report_place (Place.At i) = Some i
+abbrev pub grow_of : Option ℕ → ℕ → Option ℕ
+grow_of None d = None
+grow_of (Some n) d = clip (n * 10 + d)
 
 -- the largest octet, or n where none is larger
 unfoldable pub highest_from : ℕ → List ℕ → ℕ

@@ -1,12 +1,6 @@
-use Rattle.plan.proofs.Resolving.{absent_off, absent_other, absent_is, absent_here, absent_kind, absent_fits, absent_row_fits}
+use Rattle.plan.proofs.Resolving.{absent_here, absent_kind, absent_fits, absent_row_fits}
 use borrow.Author.Rules.{rules}
 use Rattle.plan.proofs.absent_step.Goals as goal
-
-pub returns-then-not-on : goal.returns-then-not-on
-returns-then-not-on c = search absent_off
-
-pub returns-then-sort-ne-MEMBER : goal.returns-then-sort-ne-MEMBER
-returns-then-sort-ne-MEMBER c = search absent_other
 
 pub overflow_add-first : goal.overflow_add-first
 overflow_add-first c = record { fits = search absent_row_fits }
@@ -16,6 +10,3 @@ overflow_add-first-2 c = record { fits = search absent_fits }
 
 pub absent_member-requires : goal.absent_member-requires
 absent_member-requires c = record { worded = search rules; here = search absent_here; member = search absent_kind }
-
-pub returns : goal.returns
-returns c = search absent_is

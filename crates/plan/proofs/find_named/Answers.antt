@@ -1,15 +1,11 @@
 use native.Mathlib.Omega.{arith}
 use Rattle.reference.proofs.TargetSteps.{find_start, find_found, find_again, find_done}
-use Rattle.plan.proofs.RowLaws.{row_fits_lem}
 use Rattle.plan.proofs.PlanSteps.{find_here, find_fits}
 use borrow.Author.Rules.{rules}
 use Rattle.plan.proofs.find_named.Goals as goal
 
 pub loop-j-init : goal.loop-j-init
 loop-j-init c = (search rules, search rules, search find_start)
-
-pub overflow_add-row : goal.overflow_add-row
-overflow_add-row c = record { fits = search row_fits_lem }
 
 pub overflow_add-row-in-loop-j : goal.overflow_add-row-in-loop-j
 overflow_add-row-in-loop-j c = record { fits = search find_fits }
@@ -24,4 +20,4 @@ pub loop-j-preserved : goal.loop-j-preserved
 loop-j-preserved c = (omega arith, search rules, search find_again)
 
 pub returns : goal.returns
-returns c = search find_done
+returns c = search (rules, find_done)

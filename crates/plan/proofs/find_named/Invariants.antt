@@ -9,6 +9,3 @@ use Rattle.plan.proofs.find_named.Given as goal
 
 abbrev pub invariant-loop-j : goal.invariant-loop-j
 invariant-loop-j l = (l.j ≤ l.n) × (l.n ≡ members_at l.t (place_at l.t l.row)) × (first (named_of l.t (table_rows l.t) l.row (part l.r l.a (l.b - l.a))) l.n 0 ≡ first (named_of l.t (table_rows l.t) l.row (part l.r l.a (l.b - l.a))) (l.n - l.j) l.j)
-
-abbrev pub decreases-loop-j : goal.decreases-loop-j
-decreases-loop-j l = l.n - l.j

@@ -6,7 +6,7 @@ pub loop-place-init : goal.loop-place-init
 loop-place-init c = search steps_start
 
 pub plan_next-requires : goal.plan_next-requires
-plan_next-requires c = record { worded = search rules; admitted = search rules; room = search steps_long; resolving = search steps_resolving; inside = search rules }
+plan_next-requires c = record { worded = search rules; admitted = search rules; resolving = search steps_resolving; inside = search rules }
 
 pub overflow_add-step : goal.overflow_add-step
 overflow_add-step c = record { fits = search steps_fits }
@@ -18,13 +18,13 @@ pub loop-place-preserved : goal.loop-place-preserved
 loop-place-preserved c = search steps_again
 
 pub returns-in-Count : goal.returns-in-Count
-returns-in-Count c = record { leads = search follow_count; within = search rules; planned = search follow_counted; task = search follow_task; room = search rules }
+returns-in-Count c = record { leads = search follow_count; within = search rules; planned = search follow_counted; task = search follow_task }
 
 pub returns-in-No : goal.returns-in-No
-returns-in-No c = record { leads = search follow_no; within = search rules; planned = search follow_nothing; task = search follow_task; room = search rules }
+returns-in-No c = record { leads = search follow_no; within = search rules; planned = search follow_nothing; task = search follow_task }
 
 pub write_end-requires : goal.write_end-requires
-write_end-requires c = record { room = search steps_long; low = search steps_step }
+write_end-requires c = search steps_step
 
 pub returns : goal.returns
-returns c = record { leads = search follow_row; within = search follow_within; planned = search follow_done; task = search follow_kept; room = search follow_long }
+returns c = record { leads = search follow_row; within = search follow_within; planned = search follow_done; task = search follow_kept }

@@ -7,8 +7,8 @@ returns-then-is_bit_text c = search names_binary
 pub returns-then-is_hex_string : goal.returns-then-is_hex_string
 returns-then-is_hex_string c = search names_hexadecimal
 
-pub returns-in-Of : goal.returns-in-Of
-returns-in-Of c = search names-listed
+pub returns-in_err-set : goal.returns-in_err-set
+returns-in_err-set c = rw c.from_residual.ensures (search (names-none, c.in_err-set.ensures))
 
-pub returns-in-No : goal.returns-in-No
-returns-in-No c = search names-none
+pub returns : goal.returns
+returns c = search (names-listed, c.in_ok-set.ensures)

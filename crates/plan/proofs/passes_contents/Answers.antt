@@ -4,5 +4,5 @@ use Rattle.plan.proofs.passes_contents.Goals as goal
 pub returns-then-task-lt2 : goal.returns-then-task-lt2
 returns-then-task-lt2 c = search contents_pass
 
-pub returns : goal.returns
-returns c = search contents-tested
+pub returns-else-task-lt2 : goal.returns-else-task-lt2
+returns-else-task-lt2 c = search contents-tested

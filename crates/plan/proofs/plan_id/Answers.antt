@@ -1,4 +1,4 @@
-use Rattle.plan.proofs.Identifying.{name-plans, position-plans, last-plans, count-plans, all-plans, end-plans, bad-plans}
+use Rattle.plan.proofs.Identifying.{name-plans, position-plans, last-plans, count-plans, all-plans, none-plans}
 use Rattle.plan.proofs.plan_id.Goals as goal
 
 pub returns-in-Name : goal.returns-in-Name
@@ -17,7 +17,4 @@ pub returns-in-All : goal.returns-in-All
 returns-in-All c = search all-plans
 
 pub returns-in-End : goal.returns-in-End
-returns-in-End c = search end-plans
-
-pub returns-in-Bad : goal.returns-in-Bad
-returns-in-Bad c = search bad-plans
+returns-in-End c = search none-plans

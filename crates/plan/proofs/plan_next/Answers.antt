@@ -9,16 +9,16 @@ pub absent_step-absent-requires : goal.absent_step-absent-requires
 absent_step-absent-requires c = record { worded = search rules; member = search next_member }
 
 pub write-requires : goal.write-requires
-write-requires c = record { room = search rules; low = search step-low }
+write-requires c = search step-low
 
 pub write-requires-in-Count : goal.write-requires-in-Count
-write-requires-in-Count c = record { room = search rules; low = search step-low }
+write-requires-in-Count c = search step-low
 
 pub returns-in-To : goal.returns-in-To
-returns-in-To c = record { nexts = search next_on; task = search written-task; room = search written-long }
+returns-in-To c = record { nexts = search next_on; task = search written-task }
 
 pub returns-in-Count : goal.returns-in-Count
-returns-in-Count c = record { nexts = search next_count; task = search written-task; room = search written-long }
+returns-in-Count c = record { nexts = search next_count; task = search written-task }
 
 pub returns-in-No : goal.returns-in-No
-returns-in-No c = record { nexts = search next_no; task = search rules; room = search rules }
+returns-in-No c = record { nexts = search next_no; task = search rules }

@@ -2,4 +2,4 @@ use Rattle.plan.proofs.TaskLaws.{counting-is, two-long}
 use Rattle.plan.proofs.plan_tally.Goals as goal
 
 pub returns : goal.returns
-returns c = record { task = search counting-is; room = search two-long }
+returns c = search counting-is

@@ -4,7 +4,7 @@ use borrow.Author.Rules.{rules}
 use Rattle.plan.proofs.resolve.Goals as goal
 
 pub returns-then-not-given : goal.returns-then-not-given
-returns-then-not-given c = record { leads = search target-whole; within = search first-within; planned = search resolves-whole; task = search whole-task; room = search whole_long }
+returns-then-not-given c = record { leads = search target-whole; within = search first-within; planned = search resolves-whole; task = search whole-task }
 
 pub returns : goal.returns
-returns c = record { leads = search target_is; within = search rules; planned = search resolves-given; task = search rules; room = search rules }
+returns c = record { leads = search target_is; within = search rules; planned = search resolves-given; task = search rules }

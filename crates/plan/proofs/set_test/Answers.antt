@@ -1,4 +1,4 @@
-use Rattle.plan.proofs.TaskLaws.{test_set, steps_kept}
+use Rattle.plan.proofs.TaskLaws.{test_set, steps_kept, filled-long}
 use Rattle.plan.proofs.set_test.Goals as goal
 
 pub returns : goal.returns

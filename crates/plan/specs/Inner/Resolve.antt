@@ -1,6 +1,6 @@
 -- A reference resolved into a plan's numbers, identifier after identifier.
 use Rattle.std.specs.Prelude.{◌≡◌, Bool, true, List, [], ◌∷◌, ℕ, suc, ◌≤◌, ◌<◌, ◌+◌, ◌-◌, ◌*◌, length, get_or, set, leb, eqb}
-use Rattle.std.specs.Prelude.{None, Some}
+use Rattle.std.specs.Prelude.{Option, None, Some}
 use Rattle.octets.specs.Pick.{pick, both}
 use Rattle.der.specs.Kind as kind
 use Rattle.rows.specs.Row.{kind_at, named_at, members_at, is_list}
@@ -130,14 +130,14 @@ NextIs t r x defaults q k j Resolved.No = along (ids_at r 0) (Some (of_type (typ
 unfoldable pub Nexts : List ℕ → List ℕ → List ℕ → Bool → List ℕ → ℕ → ℕ → Resolved → Type 0
 Nexts t r x defaults q k j n = NextIs t r x defaults q k j n
 
-abbrev pub Lands : Target → Type 0
-Lands Target.No = ⊥
-Lands (Target.Row i) = Unit {0}
-Lands Target.Count = Unit {0}
+abbrev pub Lands : Option Target → Type 0
+Lands None = ⊥
+Lands (Some (Target.Row i)) = Unit {0}
+Lands (Some Target.Count) = Unit {0}
 
-unfoldable pub Follows : List ℕ → List ℕ → List ℕ → Bool → List ℕ → Target → Type 0
+unfoldable pub Follows : List ℕ → List ℕ → List ℕ → Bool → List ℕ → Option Target → Type 0
 Follows t r x defaults q g = Lands g → AllPlanned t r x defaults q
 
 -- the identifiers of a reference, where one is given, that leads anywhere
-unfoldable pub Resolves : List ℕ → Bool → List ℕ → List ℕ → Bool → List ℕ → Target → Type 0
+unfoldable pub Resolves : List ℕ → Bool → List ℕ → List ℕ → Bool → List ℕ → Option Target → Type 0
 Resolves t given r x defaults q g = (is : List Id) → given_ids given r ≡ Some is → Lands g → Planned t q x defaults 1 (type_at t 0) is

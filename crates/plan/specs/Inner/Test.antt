@@ -28,7 +28,6 @@ use Rattle.rules.specs.Rule.{Syntax, Rule}
 use Rattle.rules.specs.Suits.{suits}
 use Rattle.rules.specs.Asserted.{names_at}
 use Rattle.plan.specs.declared.TestNumbers.{TestNumbers}
-use Rattle.plan.specs.declared.BitsTest.{BitsTest}
 
 -- any value, none; a truth; an integer equal to a bound, or less; arcs; octets equal, or less; bits of hexadecimal digits (true) or binary ones; a string,
 -- folded (true) or exact; a time equal, or earlier; bits with names, of so many digits, which are as above, or listed; a distinguished name; an RDN
@@ -169,6 +168,6 @@ test_of a n =
 abbrev pub report_test : TestNumbers → Test
 report_test r = test_of r.comparison r.number
 
-abbrev pub report_bits : BitsTest → Option Test
-report_bits BitsTest.No = None
-report_bits (BitsTest.Of k n) = Some (test_of k n)
+abbrev pub report_bits : Option TestNumbers → Option Test
+report_bits None = None
+report_bits (Some r) = Some (report_test r)

@@ -4,14 +4,14 @@ use Rattle.quote.proofs.fits.Goals as goal
 pub returns-then-size-lt2 : goal.returns-then-size-lt2
 returns-then-size-lt2 c = search fits-small
 
-pub loop-i-init : goal.loop-i-init
-loop-i-init c = search fits-start
+pub loop-octet-init : goal.loop-octet-init
+loop-octet-init c = search fits-start
 
 pub returns-then-left-w : goal.returns-then-left-w
 returns-then-left-w c = search fits_not
 
-pub loop-i-preserved : goal.loop-i-preserved
-loop-i-preserved c = search fits_more
+pub loop-octet-preserved : goal.loop-octet-preserved
+loop-octet-preserved c = search fits_more
 
 pub returns : goal.returns
 returns c = search fits-done

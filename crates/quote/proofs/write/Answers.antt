@@ -1,29 +1,18 @@
-use Rattle.quote.proofs.Steps.{room-first, room-more, room_next, quotes_start, quotes_double, quotes_on, quotes_same, quotes_end}
+use Rattle.quote.proofs.Steps.{room-first, room_next, quotes_start, quotes_double, quotes_on, quotes_end}
 use Rattle.quote.proofs.write.Goals as goal
+use Rattle.quote.proofs.write.Goals.{then-octet-eq34, else-octet-eq34}
 
 pub bounds-room-0 : goal.bounds-room-0
 bounds-room-0 c = search room-first
 
-pub loop-i-init : goal.loop-i-init
-loop-i-init c = search quotes_start
-
-pub bounds-room-n : goal.bounds-room-n
-bounds-room-n c = search room-more
+pub loop-octet-init : goal.loop-octet-init
+loop-octet-init c = search quotes_start
 
 pub bounds-room-n-then-octet-eq34 : goal.bounds-room-n-then-octet-eq34
 bounds-room-n-then-octet-eq34 c = search room_next
 
-pub loop-i-preserved-then-octet-eq34 : goal.loop-i-preserved-then-octet-eq34
-loop-i-preserved-then-octet-eq34 c = search quotes_double
-
-pub loop-i-preserved : goal.loop-i-preserved
-loop-i-preserved c = search quotes_on
-
-pub bounds-room-n-2 : goal.bounds-room-n-2
-bounds-room-n-2 c = search room-more
-
-pub shape_of-room : goal.shape_of-room
-shape_of-room c = search quotes_same
+pub loop-octet-preserved : goal.loop-octet-preserved
+loop-octet-preserved c = elim c.if-octet-eq34.branch [ then-octet-eq34 w ↦ search quotes_double | else-octet-eq34 w ↦ search quotes_on ]
 
 pub returns : goal.returns
 returns c = search quotes_end

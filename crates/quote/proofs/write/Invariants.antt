@@ -1,10 +1,5 @@
 use Rattle.quote.proofs.Steps.{Quotes}
-use Prim.Native.Nat.{◌-◌}
-use lib.ListN.{length}
 use Rattle.quote.proofs.write.Given as goal
 
-abbrev pub invariant-loop-i : goal.invariant-loop-i
-invariant-loop-i l = Quotes l.text l.initial.room l.n l.i l.room
-
-abbrev pub decreases-loop-i : goal.decreases-loop-i
-decreases-loop-i l = length l.text - l.i
+abbrev pub invariant-loop-octet : goal.invariant-loop-octet
+invariant-loop-octet l = Quotes l.text l.initial.room l.n l.octet-index l.room

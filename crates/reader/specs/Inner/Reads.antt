@@ -1,8 +1,8 @@
 -- What a reader sees: "a reader that holds the stored bytes and a place".
+use Rattle.std.specs.Prelude.{Option, Some, None}
 use Rattle.std.specs.Prelude.{ℕ, ◌+◌, ◌-◌, List}
 use Rattle.std.specs.Borrow.{Bor}
 use Rattle.octets.specs.Octets.{part}
-use Rattle.der.specs.declared.Header.{Header}
 use Rattle.reader.specs.There.{header_there}
 use Rattle.reader.specs.declared.Reader.{Reader}
 
@@ -11,9 +11,9 @@ abbrev pub reader_at : Bor (List ℕ) → ℕ → Reader
 reader_at octets place = record { octets = octets; place = place }
 
 -- the length of header and contents, from the value's place
-abbrev pub size_from : ℕ → Header → ℕ
-size_from place Header.Misfit = 0
-size_from place (Header.Found o start n) = start + n - place
+abbrev pub size_from : ℕ → Option (ℕ × ℕ × ℕ) → ℕ
+size_from place None = 0
+size_from place (Some (o, start, n)) = start + n - place
 
 -- "its whole length", header and contents; 0 where no header fits
 unfoldable pub size_there : List ℕ → ℕ → ℕ

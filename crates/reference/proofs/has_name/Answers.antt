@@ -2,6 +2,7 @@ use Rattle.reference.proofs.NameSteps.{name-short, name_longer, name-other, name
 use mathlib.Core.Path.{refl}
 use borrow.Author.Rules.{rules}
 use Rattle.reference.proofs.has_name.Goals as goal
+use Rattle.reference.proofs.has_name.Goals.{then-field-i-via-then-field-i, then-field-i-via-else-field-i+then-b-eq0}
 
 pub returns-then-field-x : goal.returns-then-field-x
 returns-then-field-x c = search name-short
@@ -13,13 +14,14 @@ pub loop-i-init : goal.loop-i-init
 loop-i-init c = (search rules, refl)
 
 pub returns-then-field-i : goal.returns-then-field-i
-returns-then-field-i c = search name-other
-
-pub returns-then-x-i-eq0 : goal.returns-then-x-i-eq0
-returns-then-x-i-eq0 c = search name-fill
+returns-then-field-i c =
+    elim c.then-field-i.branch [
+      | then-field-i-via-then-field-i w ↦ search (rules, name-other)
+      | then-field-i-via-else-field-i+then-b-eq0 w ↦ search (rules, name-fill)
+    ]
 
 pub loop-i-preserved : goal.loop-i-preserved
-loop-i-preserved c = (search rules, search name-on)
+loop-i-preserved c = (search rules, search (rules, name-on))
 
 pub returns : goal.returns
 returns c = search name_done

@@ -1,4 +1,4 @@
-use Rattle.reference.proofs.IdSteps.{name-other, name-start, name-bad, name-more, name_hyphen, name-whole}
+use Rattle.reference.proofs.IdSteps.{name-other, name-start, name-bad, name-more, name-whole}
 use Rattle.reference.proofs.is_name.Goals as goal
 
 pub returns-then-not-is_lower : goal.returns-then-not-is_lower
@@ -12,9 +12,6 @@ returns-then-not-may_follow c = search name-bad
 
 pub loop-i-preserved : goal.loop-i-preserved
 loop-i-preserved c = search name-more
-
-pub returns-then-a-eq45 : goal.returns-then-a-eq45
-returns-then-a-eq45 c = search name_hyphen
 
 pub returns : goal.returns
 returns c = search name-whole

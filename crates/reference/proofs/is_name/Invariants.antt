@@ -1,11 +1,7 @@
 use Rattle.octets.specs.Text.{name_from, is_name}
-use lib.ListN.{length, drop}
-use Prim.Native.Nat.{◌-◌}
+use lib.ListN.{drop}
 use mathlib.Core.Path.{◌≡◌}
 use Rattle.reference.proofs.is_name.Given as goal
 
 abbrev pub invariant-loop-i : goal.invariant-loop-i
 invariant-loop-i l = name_from l.a (drop l.i l.p) ≡ is_name l.p
-
-abbrev pub decreases-loop-i : goal.decreases-loop-i
-decreases-loop-i l = length l.p - l.i

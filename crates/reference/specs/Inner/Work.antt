@@ -112,16 +112,16 @@ abbrev pub first_named : List ℕ → List ℕ → ℕ → List ℕ → ℕ
 first_named t s row x = first (named_of t s row x) (members_at t (row_at s row)) 0
 
 -- ---- what a reference leads to
-abbrev pub report_target : ℕ → List ℕ → List ℕ → Target → Option allowed.Target
-report_target chain t s (Target.Row i) = Some (allowed.of_type (type_from chain t s i))
-report_target chain t s Target.Count = Some allowed.of_count
-report_target chain t s Target.No = None
+abbrev pub report_target : ℕ → List ℕ → List ℕ → Option Target → Option allowed.Target
+report_target chain t s (Some (Target.Row i)) = Some (allowed.of_type (type_from chain t s i))
+report_target chain t s (Some Target.Count) = Some allowed.of_count
+report_target chain t s None = None
 
 -- a row that it names is one of the rows s
-abbrev pub row_within : List ℕ → Target → Bool
-row_within s (Target.Row i) = ltb i (length s)
-row_within s Target.Count = true
-row_within s Target.No = true
+abbrev pub row_within : List ℕ → Option Target → Bool
+row_within s (Some (Target.Row i)) = ltb i (length s)
+row_within s (Some Target.Count) = true
+row_within s None = true
 
 -- an identifier, if there is one, at a target
 abbrev pub at_target : Option Id → allowed.Target → Option allowed.Target
@@ -140,8 +140,8 @@ leads_to given r ty = bind (given_ids given r) (λ is. allowed.allowed is ty)
 
 -- ---- what the code's target g says, by the rows s of the table t
 -- what identifiers lead to from row 0, and a reference, where one is given
-abbrev pub LeadsAlong : ℕ → List ℕ → List ℕ → Option (List Id) → Target → Type 0
-LeadsAlong chain t s is g = report_target chain t s g ≡ along is (report_target chain t s (Target.Row 0))
+abbrev pub LeadsAlong : ℕ → List ℕ → List ℕ → Option (List Id) → Option Target → Type 0
+LeadsAlong chain t s is g = report_target chain t s g ≡ along is (report_target chain t s (Some (Target.Row 0)))
 
-abbrev pub Leads : ℕ → List ℕ → List ℕ → Bool → List ℕ → Target → Type 0
+abbrev pub Leads : ℕ → List ℕ → List ℕ → Bool → List ℕ → Option Target → Type 0
 Leads chain t s given r g = report_target chain t s g ≡ leads_to given r (type_from chain t s 0)

@@ -6,6 +6,6 @@ pub returns-then-kind-eq-SEQUENCE : goal.returns-then-kind-eq-SEQUENCE
 unfolding is_group
 returns-then-kind-eq-SEQUENCE c = search tests
 
-pub returns : goal.returns
+pub returns-else-kind-eq-SEQUENCE : goal.returns-else-kind-eq-SEQUENCE
 unfolding is_group
-returns c = search tests
+returns-else-kind-eq-SEQUENCE c = search tests

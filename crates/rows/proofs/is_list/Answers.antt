@@ -6,6 +6,6 @@ pub returns-then-kind-eq-SEQUENCE_OF : goal.returns-then-kind-eq-SEQUENCE_OF
 unfolding is_list
 returns-then-kind-eq-SEQUENCE_OF c = search tests
 
-pub returns : goal.returns
+pub returns-else-kind-eq-SEQUENCE_OF : goal.returns-else-kind-eq-SEQUENCE_OF
 unfolding is_list
-returns c = search tests
+returns-else-kind-eq-SEQUENCE_OF c = search tests

@@ -6,6 +6,6 @@ pub returns-then-kind-eq-MEMBER : goal.returns-then-kind-eq-MEMBER
 unfolding is_member
 returns-then-kind-eq-MEMBER c = search tests
 
-pub returns : goal.returns
+pub returns-else-kind-eq-MEMBER : goal.returns-else-kind-eq-MEMBER
 unfolding is_member
-returns c = search tests
+returns-else-kind-eq-MEMBER c = search tests

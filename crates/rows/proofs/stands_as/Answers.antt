@@ -4,8 +4,8 @@ use Rattle.rows.proofs.stands_as.Goals as goal
 pub returns-then-kind-follower : goal.returns-then-kind-follower
 returns-then-kind-follower c = search stands_same
 
-pub returns-then-kind-ne-LONG_MEMBER : goal.returns-then-kind-ne-LONG_MEMBER
-returns-then-kind-ne-LONG_MEMBER c = search stands_not
+pub returns-else-kind-eq-LONG_MEMBER : goal.returns-else-kind-eq-LONG_MEMBER
+returns-else-kind-eq-LONG_MEMBER c = search stands_not
 
-pub returns : goal.returns
-returns c = search stands-long
+pub returns-then-kind-eq-LONG_MEMBER : goal.returns-then-kind-eq-LONG_MEMBER
+returns-then-kind-eq-LONG_MEMBER c = search stands-long

@@ -1,6 +1,9 @@
-use Rattle.rows.proofs.Steps.{type-short, type-sized, type_unformed}
+use Rattle.rows.proofs.Steps.{type-unsized, type-short, type-sized, type_unformed}
 use borrow.Author.Rules.{rules}
 use Rattle.rows.proofs.type_size.Goals as goal
+
+pub returns-in_default : goal.returns-in_default
+returns-in_default c = record { size = search type-unsized; inside = search rules }
 
 pub returns-then-t-p : goal.returns-then-t-p
 returns-then-t-p c = record { size = search type-short; inside = search rules }

@@ -1,5 +1,5 @@
 -- Rows that are as they have to be, for the passes over the rows.
-use Rattle.std.specs.Prelude.{ℕ, ◌+◌, ◌-◌, ◌≤◌, ◌≡◌, Bool, true, List, length, ltb, eqb}
+use Rattle.std.specs.Prelude.{ℕ, zero, suc, ◌+◌, ◌-◌, ◌≤◌, ◌≡◌, Bool, true, List, Option, None, Some, length, ltb, eqb}
 use Rattle.der.specs.Kind as kind
 use Rattle.octets.specs.Pick.{pick, both, all}
 use Rattle.octets.specs.Text.{within, is_lower}
@@ -16,6 +16,11 @@ type_row_size k =
     (pick (eqb k kind.named_bit_string) 2
     (pick (within kind.rdn_sequence kind.rdn k) 1
     0))))
+
+-- a size, where it is not 0
+abbrev pub some_size : ℕ → Option ℕ
+some_size zero = None
+some_size (suc n) = Some (suc n)
 
 -- the size of the type row at p, with at most so many members; 0 where no type row stands there, or it is not whole, or its body is not formed
 unfoldable pub type_size : ℕ → List ℕ → ℕ → ℕ

@@ -1,4 +1,4 @@
-use Prim.Native.Nat.{◌-◌, ◌≤◌}
+use Prim.Native.Nat.{◌≤◌}
 use Rattle.octets.specs.Pick.{all}
 use Rattle.rules.specs.Inner.Answers.{string_row}
 use mathlib.Core.Bool.{true}
@@ -7,6 +7,3 @@ use Rattle.rules.proofs.all_strings.Given as goal
 
 abbrev pub invariant-loop-j : goal.invariant-loop-j
 invariant-loop-j l = (l.j ≤ l.n) × (all (string_row l.t l.i) l.j ≡ true)
-
-abbrev pub decreases-loop-j : goal.decreases-loop-j
-decreases-loop-j l = l.n - l.j

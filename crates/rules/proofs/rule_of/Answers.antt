@@ -1,23 +1,17 @@
-use Rattle.rules.proofs.NameSteps.{rule-here, rule-after}
+use mathlib.Core.Path.{refl}
 use Rattle.rules.specs.Rule.{known_rules}
+use Rattle.rules.proofs.NameSteps.{rule-here, rule-after, rule-none}
 use Rattle.rules.proofs.rule_of.Goals as goal
 
-pub returns-then-is_called : goal.returns-then-is_called
+pub loop-name-init : goal.loop-name-init
 unfolding known_rules
+loop-name-init c = refl
+
+pub returns-then-is_called : goal.returns-then-is_called
 returns-then-is_called c = search rule-here
 
-pub returns-then-is_called-2 : goal.returns-then-is_called-2
-unfolding known_rules
-returns-then-is_called-2 c = search (rule-here, rule-after)
-
-pub returns-then-is_called-3 : goal.returns-then-is_called-3
-unfolding known_rules
-returns-then-is_called-3 c = search (rule-here, rule-after)
-
-pub returns-then-is_called-4 : goal.returns-then-is_called-4
-unfolding known_rules
-returns-then-is_called-4 c = search (rule-here, rule-after)
+pub loop-name-preserved : goal.loop-name-preserved
+loop-name-preserved c = search rule-after
 
 pub returns : goal.returns
-unfolding known_rules
-returns c = search rule-after
+returns c = search rule-none

@@ -20,7 +20,6 @@ use Rattle.rules.specs.Rule.{same_name}
 use Rattle.rules.specs.Asserted.{Asserted, any_value, truth, integer, arcs, octets, bits, text, time, name, rdn, is_truth}
 use Rattle.rules.specs.declared.Syntax as syntax
 use Rattle.rules.specs.declared.Rule as rule
-use Rattle.rules.specs.declared.Named as named
 
 -- ---- the code's rules
 abbrev pub syntax_of : syntax.Syntax → Syntax
@@ -39,9 +38,9 @@ meant rule.Rule.Present = present
 meant (rule.Rule.Equal s) = equal (syntax_of s)
 meant (rule.Rule.Less s) = less (syntax_of s)
 
-abbrev pub report_rule : named.Named → Option Rule
-report_rule named.Named.Unknown = None
-report_rule (named.Named.Known r) = Some (meant r)
+abbrev pub report_rule : Option rule.Rule → Option Rule
+report_rule None = None
+report_rule (Some r) = Some (meant r)
 
 -- a text is a rule's name or OID
 unfoldable pub called : List ℕ → List ℕ → List ℕ → Bool

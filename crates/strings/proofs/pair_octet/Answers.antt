@@ -1,4 +1,4 @@
-use Rattle.strings.proofs.Steps.{pair_quotes, pair_quote, pair_told, pair-hex, pair-other}
+use Rattle.strings.proofs.Steps.{pair_quotes, pair_quote, pair-hex, pair-other}
 use Rattle.strings.proofs.pair_octet.Goals as goal
 
 pub returns-then-d-eq34 : goal.returns-then-d-eq34
@@ -6,9 +6,6 @@ returns-then-d-eq34 c = search pair_quotes
 
 pub returns-then-c-eq34 : goal.returns-then-c-eq34
 returns-then-c-eq34 c = search pair_quote
-
-pub hex_octet-requires : goal.hex_octet-requires
-hex_octet-requires c = search pair_told
 
 pub returns-then-is_hex_pair : goal.returns-then-is_hex_pair
 returns-then-is_hex_pair c = search pair-hex

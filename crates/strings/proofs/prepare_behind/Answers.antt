@@ -3,20 +3,20 @@ use Rattle.strings.proofs.Preparing.{prepare_falls, prepare_more}
 use borrow.Author.Rules.{rules}
 use Rattle.strings.proofs.prepare_behind.Goals as goal
 
-pub loop-space-init : goal.loop-space-init
-loop-space-init c = search prepare_start
+pub loop-found-init : goal.loop-found-init
+loop-found-init c = search prepare_start
 
-pub returns-in_default : goal.returns-in_default
-returns-in_default c = record { written = search prepare_end; place = search prepare_place; most = search prepare_most; room = search prepare_long }
+pub returns : goal.returns
+returns c = record { written = search prepare_end; place = search prepare_place; most = search prepare_most }
 
 pub put_space-start-requires : goal.put_space-start-requires
-put_space-start-requires c = record { room = search prepare_long; short = search prepare_space }
+put_space-start-requires c = search prepare_space
 
 pub put_octets-n-requires : goal.put_octets-n-requires
-put_octets-n-requires c = record { room = search rules; short = search prepare_octets }
+put_octets-n-requires c = search prepare_octets
 
-pub loop-space-smaller : goal.loop-space-smaller
-loop-space-smaller c = search prepare_falls
+pub loop-found-smaller : goal.loop-found-smaller
+loop-found-smaller c = search prepare_falls
 
-pub loop-space-preserved : goal.loop-space-preserved
-loop-space-preserved c = search prepare_more
+pub loop-found-preserved : goal.loop-found-preserved
+loop-found-preserved c = search prepare_more

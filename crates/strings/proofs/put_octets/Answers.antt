@@ -1,14 +1,9 @@
-use Rattle.strings.proofs.Preparing.{put-start, put-long, put-place, put-end, put-room, put-more}
+use Rattle.strings.proofs.Preparing.{put-end, put-more}
+use native.Mathlib.Omega.{arith}
 use Rattle.strings.proofs.put_octets.Goals as goal
 
-pub loop-left-init : goal.loop-left-init
-loop-left-init c = search put-start
+pub loop-at-preserved : goal.loop-at-preserved
+loop-at-preserved c = search put-more
 
-pub bounds-memory-at : goal.bounds-memory-at
-bounds-memory-at c = search put-room
-
-pub loop-left-preserved : goal.loop-left-preserved
-loop-left-preserved c = search put-more
-
-pub returns : goal.returns
-returns c = record { written = search put-end; place = search put-place; room = search put-long }
+pub returns-clause-written : goal.returns-clause-written
+returns-clause-written c = put-end _ _ _ _ _ _ _ c.loop-at.invariant (omega arith)

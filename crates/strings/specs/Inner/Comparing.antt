@@ -1,10 +1,12 @@
 -- What the next image of a string, and two sides that are compared, say of a prepared string.
 use Rattle.std.specs.Prelude.{ℕ, ◌<◌, ◌+◌, Bool, true, false, List, [], ◌∷◌, ◌++◌, map, eqb, length, drop}
+use Rattle.std.specs.Prelude.{Option, None, Some}
+use Rattle.std.specs.declared.ops.ControlFlow.{ControlFlow}
+use Rattle.std.specs.declared.ops.ControlFlow.TheVariants.{Continue, Break}
 use Rattle.octets.specs.Pick.{pick, no}
 use Rattle.octets.specs.Octets.{same}
 use Rattle.octets.specs.Text.{within, lower}
 use Rattle.octets.specs.Quoted.{undoubled}
-use Rattle.octets.specs.declared.Place.{Place}
 use Rattle.strings.specs.Images.{Mark}
 use Rattle.strings.specs.Prepared.{images, joined}
 use Rattle.strings.specs.Inner.Shapes.{unpacked, shape_marks, fold_octet as shape-fold}
@@ -13,10 +15,8 @@ use Rattle.strings.specs.declared.Form.{Form}
 use Rattle.strings.specs.declared.Before.{Before}
 use Rattle.strings.specs.declared.Before.TheVariants as before
 use Rattle.strings.specs.declared.Piece.{Piece}
-use Rattle.strings.specs.declared.Letter.{Letter}
 use Rattle.strings.specs.declared.Found.{Found}
 use Rattle.strings.specs.declared.Sides.{Sides}
-use Rattle.strings.specs.declared.Turn.{Turn}
 
 -- ---- octets: of a stored string as they are, of a quoted one with one quote for two, of an escaped one without its escapes
 abbrev pub octets_of : Form → List ℕ → List ℕ
@@ -30,9 +30,10 @@ is_itself Form.Stored b = true
 is_itself Form.Quoted b = no (eqb b 34)
 is_itself Form.Escaped b = no (eqb b 92)
 
-abbrev pub report_octet : Form → List ℕ → Letter → List ℕ
-report_octet form s Letter.End = []
-report_octet form s (Letter.Got b next) = b ∷ octets_of form (drop next s)
+-- the octet at a place, with the place after it
+abbrev pub report_octet : Form → List ℕ → Option (ℕ × ℕ) → List ℕ
+report_octet form s None = []
+report_octet form s (Some l) = l.0 ∷ octets_of form (drop l.1 s)
 
 -- ---- octets with A to Z folded alone, or as they are
 unfoldable pub folded : Bool → List ℕ → List ℕ
@@ -69,14 +70,14 @@ abbrev pub gap : Bool → List ℕ → List ℕ
 gap true l = 32 ∷ l
 gap false l = l
 
-abbrev pub report_found : Bool → Form → List ℕ → Found → List ℕ
-report_found fold form s Found.End = []
-report_found fold form s (Found.At space o after) = gap space (unpacked o.word o.count ++ rest_at fold form s after before.Character)
+abbrev pub report_found : Bool → Form → List ℕ → Option Found → List ℕ
+report_found fold form s None = []
+report_found fold form s (Some f) = gap f.space (unpacked f.octets.word f.octets.count ++ rest_at fold form s f.after before.Character)
 
 -- less is left after it
-abbrev pub Further : Form → List ℕ → ℕ → Found → Type 0
-Further form s at Found.End = Unit {0}
-Further form s at (Found.At space o after) = left form s after < left form s at
+abbrev pub Further : Form → List ℕ → ℕ → Option Found → Type 0
+Further form s at None = Unit {0}
+Further form s at (Some f) = left form s f.after < left form s at
 
 -- ---- octets of a stored string that are as prepared, but for folding: 21 to 7E, or a space before one of these that isn't the first of the string
 abbrev pub is_graphic_next : List ℕ → Bool
@@ -92,32 +93,32 @@ abbrev pub before_at : ℕ → Before
 before_at i = pick (eqb i 0) before.Nothing before.Character
 
 -- the place after an octet that is the first of others, folded
-abbrev pub after_first : Bool → ℕ → ℕ → List ℕ → Place
-after_first fold b i [] = Place.Nowhere
-after_first fold b i (y ∷ s) = pick (eqb b (fold_octet fold y)) (Place.At (i + 1)) Place.Nowhere
+abbrev pub after_first : Bool → ℕ → ℕ → List ℕ → Option ℕ
+after_first fold b i [] = None
+after_first fold b i (y ∷ s) = pick (eqb b (fold_octet fold y)) (Some (i + 1)) None
 
 -- what is left of a stored string there, beside the octets from the same place on
 unfoldable pub same_from : Bool → List ℕ → List ℕ → ℕ → Bool
 same_from fold c x i = same (rest_at fold Form.Stored c i (before_at i)) (letters_at fold Form.Stored x i)
 
--- two sides, and what a turn says of them
+-- two sides, and what a turn says of them: others to go on with, or whether they are the same
 abbrev pub ahead : Bool → List ℕ → Sides → List ℕ
 ahead fold c s = unpacked s.word s.count ++ rest_at fold Form.Stored c s.at (before_at s.at)
 
 unfoldable pub beside : Bool → List ℕ → List ℕ → Sides → Bool
 beside fold c x s = same (ahead fold c s) (letters_at fold Form.Stored x s.i)
 
-abbrev pub report_turn : Bool → List ℕ → List ℕ → Turn → Bool
-report_turn fold c x (Turn.On s) = beside fold c x s
-report_turn fold c x (Turn.Ended r) = r
+abbrev pub report_turn : Bool → List ℕ → List ℕ → ControlFlow Bool Sides → Bool
+report_turn fold c x (Continue s) = beside fold c x s
+report_turn fold c x (Break r) = r
 
 -- a turn leaves less of the prepared string, or the same with less of the stored one
 unfoldable pub weight : Bool → List ℕ → Sides → ℕ
 weight fold c s = length (ahead fold c s) + left Form.Stored c s.at
 
-abbrev pub Less : Bool → List ℕ → Sides → Turn → Type 0
-Less fold c s (Turn.On t) = weight fold c t < weight fold c s
-Less fold c s (Turn.Ended r) = Unit {0}
+abbrev pub Less : Bool → List ℕ → Sides → ControlFlow Bool Sides → Type 0
+Less fold c s (Continue t) = weight fold c t < weight fold c s
+Less fold c s (Break r) = Unit {0}
 
 -- ---- octets that are as prepared, but for folding
 -- an octet that can't stand in them, behind a space or at the start (`space`), or behind a character

@@ -1,18 +1,15 @@
-use Rattle.table.proofs.PassSteps.{mandatory-bad, mandatory-more}
-use Rattle.octets.proofs.Laws.{all_none, all_done}
-use Rattle.table.specs.Inner.Pass.{mandatory_after}
-use native.Mathlib.Omega.{arith}
+use mathlib.Core.Path.{◌≡◌, refl}
+use mathlib.Core.Bool.{true, false}
+use native.Mathlib.Nat.{sub-zero}
 use borrow.Author.Rules.{rules}
+use Rattle.std.proofs.lemmas.Iterator.{cases_from_all, YieldsList-from_range}
+use Rattle.table.specs.Inner.Pass.{mandatory_after}
+use Rattle.table.proofs.PassSteps.{all_told}
 use Rattle.table.proofs.all_mandatory.Goals as goal
 
-pub loop-j-init : goal.loop-j-init
-loop-j-init c = (search rules, all_none (mandatory_after _ _))
-
-pub returns-then-not-is_mandatory : goal.returns-then-not-is_mandatory
-returns-then-not-is_mandatory c = search mandatory-bad
-
-pub loop-j-preserved : goal.loop-j-preserved
-loop-j-preserved c = (omega arith, search mandatory-more)
-
 pub returns : goal.returns
-returns c = search all_done
+unfolding mandatory_after
+returns c =
+    all_told (mandatory_after c.args.w.now c.args.first) c.args.n c.all.result (cases_from_all _ _ c.all.result
+    (λ x. mandatory_after c.args.w.now c.args.first x ≡ true) (λ x. mandatory_after c.args.w.now c.args.first x ≡ false)
+    c.all.ensures.ran (YieldsList-from_range 0 c.args.n c.args.n refl (sub-zero c.args.n)) (λ x q k. search rules) (λ x q k. search rules))

@@ -3,19 +3,19 @@ use borrow.Author.Rules.{rules}
 use Rattle.table.proofs.choice_row.Goals as goal
 
 pub longest-below-requires : goal.longest-below-requires
-longest-below-requires c = record { space = search next_size; room = search next_group }
+longest-below-requires c = search next_group
 
 pub returns-then-below-ge-MAX_CHAIN : goal.returns-then-below-ge-MAX_CHAIN
 returns-then-below-ge-MAX_CHAIN c = search choice-long
 
 pub all_mandatory-requires : goal.all_mandatory-requires
-all_mandatory-requires c = record { space = search next_size; room = search next_group }
+all_mandatory-requires c = search next_group
 
 pub returns-then-not-all_mandatory : goal.returns-then-not-all_mandatory
 returns-then-not-all_mandatory c = search choice-optional
 
 pub choice_tags-requires : goal.choice_tags-requires
-choice_tags-requires c = record { space = search next_size; room = search next_group }
+choice_tags-requires c = search next_group
 
 pub returns-in_default : goal.returns-in_default
 returns-in_default c = search choice_common

@@ -4,5 +4,5 @@ use Rattle.table.proofs.implicit_choice.Goals as goal
 pub returns-then-member_mode-eq2 : goal.returns-then-member_mode-eq2
 returns-then-member_mode-eq2 c = search implicit-is
 
-pub returns : goal.returns
-returns c = search implicit_not
+pub returns-else-member_mode-eq2 : goal.returns-else-member_mode-eq2
+returns-else-member_mode-eq2 c = search implicit_not

@@ -3,13 +3,13 @@ use borrow.Author.Rules.{rules}
 use Rattle.table.proofs.sequence_row.Goals as goal
 
 pub longest-below-requires : goal.longest-below-requires
-longest-below-requires c = record { space = search next_size; room = search next_group }
+longest-below-requires c = search next_group
 
 pub returns-then-below-ge-MAX_CHAIN : goal.returns-then-below-ge-MAX_CHAIN
 returns-then-below-ge-MAX_CHAIN c = search sequence-long
 
 pub runs_differ-requires : goal.runs_differ-requires
-runs_differ-requires c = record { space = search next_size; room = search next_group }
+runs_differ-requires c = search next_group
 
 pub returns-then-not-runs_differ : goal.returns-then-not-runs_differ
 returns-then-not-runs_differ c = search sequence_common

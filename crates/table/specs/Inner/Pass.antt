@@ -1,6 +1,6 @@
 -- The second pass over the rows of a table, from the last to the first: what it reads of the words of later rows, and what it writes.
-use Rattle.std.specs.Prelude.{ℕ, ◌+◌, ◌*◌, ◌%◌, ◌^◌, ◌<◌, ◌≤◌, ◌≡◌, Bool, true, false, List, length, get_or, ltb, leb, eqb}
-use Rattle.octets.specs.Pick.{pick, both, no}
+use Rattle.std.specs.Prelude.{ℕ, ◌+◌, ◌*◌, ◌%◌, ◌^◌, ◌<◌, ◌≤◌, ◌≡◌, Bool, true, false, List, Option, Some, length, get_or, ltb, leb, eqb}
+use Rattle.octets.specs.Pick.{pick, both, no, is_some}
 use Rattle.octets.specs.Octets.{base_from}
 use Rattle.der.specs.Kind as kind
 use Rattle.rows.specs.Paper.{table_limits}
@@ -10,7 +10,6 @@ use Rattle.clauses.specs.Inner.Work.{first_pass}
 use Rattle.types.specs.Types.{type_from}
 use Rattle.types.specs.Begins.{begins}
 use Rattle.types.specs.Inner.Work.{bit_of, context_bit, row_fits}
-use Rattle.table.specs.declared.Made.{Made}
 use Rattle.table.specs.Inner.Rows.{table_rows, place_at, MemberRow, TypeRow}
 use Rattle.table.specs.Inner.Fields.{first_of, target_of, chain_of, presence_of}
 use Rattle.table.specs.Inner.Words.{Shaped, Worded}
@@ -86,14 +85,10 @@ pub record Next (t w : List ℕ) (n i p : ℕ) : Type 0 where
   pub count : n ≡ length (table_rows t)
   pub placed : p ≡ place_at t i
 
-abbrev pub is_made : Made → Bool
-is_made (Made.Words x y) = true
-is_made Made.Refused = false
-
 -- the answer for row i: its words, where its clauses hold
-pub record Says (t w : List ℕ) (i : ℕ) (r : Made) : Type 0 where
-  pub fits : is_made r ≡ row_fits table_limits.chain t (table_rows t) i
-  pub words : (x y : ℕ) → r ≡ Made.Words x y → RowWords t w i x y
+pub record Says (t w : List ℕ) (i : ℕ) (r : Option (ℕ × ℕ)) : Type 0 where
+  pub fits : is_some r ≡ row_fits table_limits.chain t (table_rows t) i
+  pub words : (x y : ℕ) → r ≡ Some (x, y) → RowWords t w i x y
 
 -- what admission leaves where a table has n rows
 pub record Leaves (t w : List ℕ) (n : ℕ) : Type 0 where

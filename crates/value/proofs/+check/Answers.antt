@@ -1,3 +1,4 @@
+use mathlib.Core.Path.{◌∙◌}
 use Rattle.value.proofs.LeafSteps.{inside-fits, inside-ends}
 use Rattle.value.proofs.MemberSteps.{row_fits_lem, member-fits, field_falls, field_here, field_member, fields_again, fields_bad}
 use Rattle.value.proofs.MemberSteps.{fields_done, fields_short, fields-start, member_absent, member-default, member_is}
@@ -43,14 +44,14 @@ check-check_basic-requires t c = record { ordered = search rules; inside = searc
 pub check-returns : goal.check-returns
 check-returns t c = search answer_basic
 
-pub check_choice-returns-in_default : goal.check_choice-returns-in_default
-check_choice-returns-in_default t c = search missing_is
+pub check_choice-returns-in_err-member : goal.check_choice-returns-in_err-member
+check_choice-returns-in_err-member t c = c.from_residual.ensures ∙ search (missing_is, c.in_err-member.was)
 
 pub check_choice-check_tagged-requires : goal.check_choice-check_tagged-requires
-check_choice-check_tagged-requires t c = (search row_falls, (search rules, (search row_here, (search row-member, search rules))))
+check_choice-check_tagged-requires t c = (search (row_falls, c.in_ok-member.was), (search rules, (search (row_here, c.in_ok-member.was), (search (row-member, c.in_ok-member.was), search rules))))
 
 pub check_choice-returns : goal.check_choice-returns
-check_choice-returns t c = search row_is
+check_choice-returns t c = search (row_is, c.in_ok-member.was)
 
 pub check_elements-check_leaves-requires : goal.check_elements-check_leaves-requires
 check_elements-check_leaves-requires t c = record { worded = search rules; here = search rules; list = search rules; basic = search leaves_basic; ordered = search rules; inside = search rules }
@@ -64,20 +65,20 @@ check_elements-loop-i-init t c = search elements_start
 pub check_elements-check-requires : goal.check_elements-check-requires
 check_elements-check-requires t c = (search element_falls, (search rules, (search element-here, (search rules, search own_usable))))
 
-pub check_elements-returns-in_default : goal.check_elements-returns-in_default
-check_elements-returns-in_default t c = search elements_bad
+pub check_elements-returns-in_err-next : goal.check_elements-returns-in_err-next
+check_elements-returns-in_err-next t c = c.from_residual.ensures ∙ search (elements_bad, c.in_err-next.was)
 
 pub check_elements-in_order-requires : goal.check_elements-in_order-requires
-check_elements-in_order-requires t c = record { low = search listed-low; high = search element-after; inside = search element-ends }
+check_elements-in_order-requires t c = record { low = search listed-low; high = search (element-after, c.in_ok-next.was); inside = search (element-ends, c.in_ok-next.was) }
 
 pub check_elements-returns-then-not-in_order : goal.check_elements-returns-then-not-in_order
-check_elements-returns-then-not-in_order t c = search elements_disorder
+check_elements-returns-then-not-in_order t c = search (elements_disorder, c.in_ok-next.was)
 
 pub check_elements-loop-i-smaller : goal.check_elements-loop-i-smaller
-check_elements-loop-i-smaller t c = search element-less
+check_elements-loop-i-smaller t c = search (element-less, c.in_ok-next.was)
 
 pub check_elements-loop-i-preserved : goal.check_elements-loop-i-preserved
-check_elements-loop-i-preserved t c = search elements_again
+check_elements-loop-i-preserved t c = search (elements_again, c.in_ok-next.was)
 
 pub check_elements-returns : goal.check_elements-returns
 check_elements-returns t c = search elements_done
@@ -94,11 +95,11 @@ check_fields-overflow_add-row-in-loop-j t c = record { fits = search member-fits
 pub check_fields-check_member-requires : goal.check_fields-check_member-requires
 check_fields-check_member-requires t c = (search field_falls, (search rules, (search field_here, (search field_member, search rules))))
 
-pub check_fields-returns-in_default : goal.check_fields-returns-in_default
-check_fields-returns-in_default t c = search fields_bad
+pub check_fields-returns-in_err-i : goal.check_fields-returns-in_err-i
+check_fields-returns-in_err-i t c = c.from_residual.ensures ∙ search (fields_bad, c.in_err-i.was)
 
 pub check_fields-loop-j-preserved : goal.check_fields-loop-j-preserved
-check_fields-loop-j-preserved t c = search fields_again
+check_fields-loop-j-preserved t c = search (fields_again, c.in_ok-i.was)
 
 pub check_fields-returns-then-i-stop : goal.check_fields-returns-then-i-stop
 check_fields-returns-then-i-stop t c = search fields_short
@@ -145,11 +146,11 @@ check_wrapped-overflow_add-stop t c = record { fits = search inside-fits }
 pub check_wrapped-check-requires : goal.check_wrapped-check-requires
 check_wrapped-check-requires t c = (search falls_inner, (search rules, (search rules, (search inside-ends, search own_usable))))
 
-pub check_wrapped-returns-in_default-check : goal.check_wrapped-returns-in_default-check
-check_wrapped-returns-in_default-check t c = search wraps_inner
+pub check_wrapped-returns-in_err-next : goal.check_wrapped-returns-in_err-next
+check_wrapped-returns-in_err-next t c = rw c.from_residual.ensures (search (wraps_inner, c.in_err-next.was))
 
 pub check_wrapped-returns-then-next-stop : goal.check_wrapped-returns-then-next-stop
-check_wrapped-returns-then-next-stop t c = search wraps_surplus
+check_wrapped-returns-then-next-stop t c = search (wraps_surplus, c.in_ok-next.was)
 
 pub check_wrapped-returns : goal.check_wrapped-returns
-check_wrapped-returns t c = search wraps_filled
+check_wrapped-returns t c = search (wraps_filled, c.in_ok-next.was)

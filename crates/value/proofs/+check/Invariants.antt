@@ -29,9 +29,6 @@ decreases-check_fields l = 5 * (length (table_rows l.t.now) - l.row) + 2
 abbrev pub invariant-check_fields-loop-j : goal.invariant-check_fields-loop-j
 invariant-check_fields-loop-j l = Fielded table_limits.chain l.t (table_rows l.t) l.row l.v l.start l.stop l.n l.i l.j
 
-abbrev pub decreases-check_fields-loop-j : goal.decreases-check_fields-loop-j
-decreases-check_fields-loop-j l = l.n - l.j
-
 abbrev pub decreases-check_member : goal.decreases-check_member
 decreases-check_member l = 5 * (length (table_rows l.t.now) - named_at l.t.now (row_at (table_rows l.t.now) l.row)) + 6
 

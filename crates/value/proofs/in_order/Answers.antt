@@ -4,5 +4,5 @@ use Rattle.value.proofs.in_order.Goals as goal
 pub returns-then-kind-eq-SEQUENCE_OF : goal.returns-then-kind-eq-SEQUENCE_OF
 returns-then-kind-eq-SEQUENCE_OF c = search order_any
 
-pub returns : goal.returns
-returns c = search order_is
+pub returns-else-kind-eq-SEQUENCE_OF : goal.returns-else-kind-eq-SEQUENCE_OF
+returns-else-kind-eq-SEQUENCE_OF c = search order_is

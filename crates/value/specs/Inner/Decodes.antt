@@ -1,5 +1,6 @@
 -- How a decoded value is made: a family for each part of the decoder, with a constructor for each way to a value. Laws of decoded values and contracts of
 -- functions that read a stored value go by these.
+use Rattle.std.specs.Prelude.{Some}
 use Rattle.std.specs.Prelude.{◌≡◌, Bool, true, false, List, ℕ, suc, ◌≤◌, ◌<◌, ◌+◌, eqb}
 use Rattle.octets.specs.Pick.{either}
 use Rattle.octets.specs.Octets.{octet, part}
@@ -7,7 +8,6 @@ use Rattle.der.specs.Kind as kind
 use Rattle.der.specs.Tag.{wrapper_octet}
 use Rattle.der.specs.Header.{inside_at}
 use Rattle.der.specs.Legal.{legal}
-use Rattle.der.specs.declared.Inside.{Inside}
 use Rattle.types.specs.Types.{Tagging, untagged, explicit, implicit, Member, NamedBit, Ty, basic, sequence, choice, list_of, Members, no_more, more}
 use Rattle.types.specs.Begins.{is_mandatory}
 use Rattle.value.specs.Value.{Spot, spot_at, spot_of, Value, leaf, fields, chosen, elements}
@@ -23,7 +23,7 @@ is_bare (explicit n) = false
 
 -- a header with a tag octet at a place: where its contents start, how long they are, the spot that it makes, and the place after it
 pub record Behind (v : List ℕ) (octet at end start n : ℕ) (s : Spot) (after : ℕ) : Type 0 where
-  pub header : inside_at octet v at end ≡ Inside.Of start n
+  pub header : inside_at octet v at end ≡ Some (start, n)
   pub spot : spot_at v at start n ≡ s
   pub ends : start + n ≡ after
 
@@ -41,7 +41,7 @@ mutual
   -- the same under a tag mode: an explicit one has a wrapper, which the value fills
   pub data Tagged (v : List ℕ) : Ty → Tagging → ℕ → ℕ → Value → ℕ → Type 0 where
     bare : {ty : Ty} {g : Tagging} {at end after : ℕ} {x : Value} → is_bare g ≡ true → Decodes v ty g at end x after → Tagged v ty g at end x after
-    filling : {ty : Ty} {k at end start n after : ℕ} {x : Value} → inside_at (wrapper_octet k) v at end ≡ Inside.Of start n
+    filling : {ty : Ty} {k at end start n after : ℕ} {x : Value} → inside_at (wrapper_octet k) v at end ≡ Some (start, n)
         → Decodes v ty (explicit k) start (start + n) x after → after ≡ start + n → Tagged v ty (explicit k) at end x after
 
   -- members in turn from a place up to a stop

@@ -8,7 +8,6 @@ use Rattle.der.specs.Tag.{class, number, tag_of, wrapper_octet}
 use Rattle.der.specs.Header.{inside_at}
 use Rattle.der.specs.Legal.{legal}
 use Rattle.der.specs.Order.{not_above}
-use Rattle.der.specs.declared.Inside.{Inside}
 use Rattle.rows.specs.Row.{row_at, kind_at, named_at, mode_at, number_at, presence_at, default_at}
 use Rattle.types.specs.Types.{Tagging, untagged, explicit, implicit, tagging_of, Member, member_of, Ty, type_from, Members}
 use Rattle.types.specs.Begins.{is_mandatory}
@@ -17,17 +16,15 @@ use Rattle.table.specs.Inner.Rows.{table_rows, place_at, MemberRow, members_afte
 use Rattle.value.specs.Value.{Values, end_values, next, encoding}
 use Rattle.value.specs.Order.{rising}
 use Rattle.value.specs.Decode.{Decoded, tag_octet, starts_here, unless_default, many, unwrapped, fields_from, alternative_from, decode}
-use Rattle.value.specs.declared.Alternative.{Alternative}
-use Rattle.value.specs.declared.Checked.{Checked}
 
 -- the place after a value, where there is one
-abbrev pub checked : Option Decoded → Checked
-checked None = Checked.Bad
-checked (Some d) = Checked.At d.after
+abbrev pub checked : Option Decoded → Option ℕ
+checked None = None
+checked (Some d) = Some d.after
 
 -- up to a place, where a test holds
-abbrev pub up_to : ℕ → Bool → Checked
-up_to stop ok = pick ok (Checked.At stop) Checked.Bad
+abbrev pub up_to : ℕ → Bool → Option ℕ
+up_to stop ok = pick ok (Some stop) None
 
 -- ---- the first number, of k from a on, for which a test holds; a + k where there is none
 unfoldable pub first : (ℕ → Bool) → ℕ → ℕ → ℕ
@@ -49,18 +46,18 @@ starts_of chain t s row v stop at j =
     starts_here (member_of t (row + 1 + j) (row_at s (row + 1 + j))) (type_from chain t s (named_at t (row_at s (row + 1 + j)))) v stop at
 
 -- ---- a default that is stored: the contents of a basic value under a tag mode
-abbrev pub within : (ℕ → ℕ → Inside) → Inside → Inside
-within f Inside.Misfit = Inside.Misfit
-within f (Inside.Of start n) = f start (start + n)
+abbrev pub within : (ℕ → ℕ → Option (ℕ × ℕ)) → Option (ℕ × ℕ) → Option (ℕ × ℕ)
+within f None = None
+within f (Some (start, n)) = f start (start + n)
 
-unfoldable pub contents_at : Tagging → ℕ → List ℕ → ℕ → ℕ → Inside
+unfoldable pub contents_at : Tagging → ℕ → List ℕ → ℕ → ℕ → Option (ℕ × ℕ)
 contents_at untagged k v at end = inside_at (tag_octet untagged k) v at end
 contents_at (implicit n) k v at end = inside_at (tag_octet (implicit n) k) v at end
 contents_at (explicit n) k v at end = within (inside_at (tag_octet (explicit n) k) v) (inside_at (wrapper_octet n) v at end)
 
-abbrev pub holds : List ℕ → List ℕ → Inside → Bool
-holds v c Inside.Misfit = false
-holds v c (Inside.Of start n) = same (part v start n) c
+abbrev pub holds : List ℕ → List ℕ → Option (ℕ × ℕ) → Bool
+holds v c None = false
+holds v c (Some (start, n)) = same (part v start n) c
 
 -- the member row at p has a default, and its contents stand at a place
 unfoldable pub stored_default : List ℕ → List ℕ → ℕ → List ℕ → ℕ → ℕ → Bool
@@ -71,33 +68,33 @@ stored_default t s p v at end = both (eqb (presence_at t p) 2) (holds v (default
 unfoldable pub is_default_at : List ℕ → ℕ → List ℕ → ℕ → ℕ → Bool
 is_default_at t p v start n = both (eqb (presence_at t p) 2) (same (part v start n) (default_at t p))
 
-abbrev pub plain_of : List ℕ → ℕ → ℕ → List ℕ → Inside → Checked
-plain_of t p k v Inside.Misfit = Checked.Bad
-plain_of t p k v (Inside.Of start n) = pick (is_default_at t p v start n) Checked.Bad (up_to (start + n) (legal k (part v start n)))
+abbrev pub plain_of : List ℕ → ℕ → ℕ → List ℕ → Option (ℕ × ℕ) → Option ℕ
+plain_of t p k v None = None
+plain_of t p k v (Some (start, n)) = pick (is_default_at t p v start n) None (up_to (start + n) (legal k (part v start n)))
 
 -- the plain member of the row at p, of kind k, where it is there
-unfoldable pub plain_checked : List ℕ → ℕ → ℕ → Tagging → List ℕ → ℕ → ℕ → Checked
+unfoldable pub plain_checked : List ℕ → ℕ → ℕ → Tagging → List ℕ → ℕ → ℕ → Option ℕ
 plain_checked t p k g v at end = plain_of t p k v (inside_at (tag_octet g k) v at end)
 
 -- ---- members and elements
 -- the member row at p, where it is not there
-unfoldable pub absent_checked : List ℕ → ℕ → ℕ → Checked
-absent_checked t p i = pick (eqb (presence_at t p) 0) Checked.Bad (Checked.At i)
+unfoldable pub absent_checked : List ℕ → ℕ → ℕ → Option ℕ
+absent_checked t p i = pick (eqb (presence_at t p) 0) None (Some i)
 
 -- one member: the place after it, or its own where it is not there and may be absent
-unfoldable pub member_checked : Member → Ty → List ℕ → ℕ → ℕ → Checked
+unfoldable pub member_checked : Member → Ty → List ℕ → ℕ → ℕ → Option ℕ
 member_checked m ty v stop i =
     let there = checked (bind (decode ty m.tagging v i stop) (unless_default m)) in
-    pick (starts_here m ty v stop i) there (pick (is_mandatory m.presence) Checked.Bad (Checked.At i))
+    pick (starts_here m ty v stop i) there (pick (is_mandatory m.presence) None (Some i))
 
-unfoldable pub fields_checked : Members → List ℕ → ℕ → ℕ → Checked
+unfoldable pub fields_checked : Members → List ℕ → ℕ → ℕ → Option ℕ
 fields_checked ms v stop i = up_to stop (is_some (fields_from ms v stop i))
 
 abbrev pub in_order : ℕ → List ℕ → Option Values → Bool
 in_order k v None = false
 in_order k v (Some xs) = either (eqb k kind.sequence_of) (rising v xs)
 
-unfoldable pub elements_checked : ℕ → Ty → List ℕ → ℕ → ℕ → Checked
+unfoldable pub elements_checked : ℕ → Ty → List ℕ → ℕ → ℕ → Option ℕ
 elements_checked k ty v stop i = up_to stop (in_order k v (many (λ i stop. unwrapped ty untagged v i stop) (stop - i) stop i))
 
 -- elements after one whose encoding is p
@@ -113,10 +110,6 @@ order_after k v p (Some xs) = either (eqb k kind.sequence_of) (rising_after v p 
 unfoldable pub neighbours : ℕ → List ℕ → ℕ → ℕ → ℕ → Bool
 neighbours k v before i after = either (eqb k kind.sequence_of) (not_above (part v before (i - before)) (part v i (after - i)))
 
--- the octets that go with a refusal number: none, unless it is 0
-abbrev pub unless_refused : ℕ → List ℕ → List ℕ
-unless_refused n octets = pick (eqb n 0) octets []
-
 -- ---- alternatives
 -- a member of a type of kind k in no wrapper is a CHOICE
 unfoldable pub is_nested : ℕ → ℕ → Bool
@@ -129,15 +122,15 @@ pub record ChosenRow (t v : List ℕ) (row at end r : ℕ) : Type 0 where
   pub later : row < named_at t (place_at t r)
   pub same : checked (decode (member_type_at t r) (tagging_at t r) v at end) ≡ checked (alternative_from (members_after t row) v at end)
 
-unfoldable pub Chooses : List ℕ → List ℕ → ℕ → ℕ → ℕ → Alternative → Type 0
-Chooses t v row at end (Alternative.Of r) = ChosenRow t v row at end r
-Chooses t v row at end Alternative.Missing = Checked.Bad ≡ checked (alternative_from (members_after t row) v at end)
+unfoldable pub Chooses : List ℕ → List ℕ → ℕ → ℕ → ℕ → Option ℕ → Type 0
+Chooses t v row at end (Some r) = ChosenRow t v row at end r
+Chooses t v row at end None = None ≡ checked (alternative_from (members_after t row) v at end)
 
 -- ---- answers by a tag octet
 -- of a value of a type of kind k, whichever tag mode asks for this tag octet; a CHOICE has none of its own
-pub record Answers (ty : Ty) (k tag : ℕ) (v : List ℕ) (at end : ℕ) (r : Checked) : Type 0 where
+pub record Answers (ty : Ty) (k tag : ℕ) (v : List ℕ) (at end : ℕ) (r : Option ℕ) : Type 0 where
   pub says : (mode n : ℕ) → ((k ≡ kind.choice → ⊥) → tag ≡ tag_octet (tagging_of mode n) k) → r ≡ checked (unwrapped ty (tagging_of mode n) v at end)
 
 -- of a value in a wrapper
-pub record Wraps (ty : Ty) (tag : ℕ) (v : List ℕ) (at end : ℕ) (r : Checked) : Type 0 where
+pub record Wraps (ty : Ty) (tag : ℕ) (v : List ℕ) (at end : ℕ) (r : Option ℕ) : Type 0 where
   pub says : (n : ℕ) → tag ≡ wrapper_octet n → r ≡ checked (decode ty (tagging_of 1 n) v at end)

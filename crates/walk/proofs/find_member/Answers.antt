@@ -2,6 +2,7 @@ use Rattle.plan.proofs.RowLaws.{row_fits_lem}
 use Rattle.walk.proofs.Members.{pass_start, pass_here, pass_kind, pass_fits, pass_within, pass_there, pass_lacks, find_within, find_absent, find_there}
 use borrow.Author.Rules.{rules}
 use Rattle.walk.proofs.find_member.Goals as goal
+use Rattle.walk.proofs.find_member.Goals.{then-member_starts, else-member_starts}
 
 pub loop-k-init : goal.loop-k-init
 loop-k-init c = search pass_start
@@ -18,11 +19,12 @@ member_starts-requires c = record { worded = search rules; here = search (pass_h
 pub next_after-i-requires : goal.next_after-i-requires
 next_after-i-requires c = search (pass_within, rules)
 
-pub loop-k-preserved-then-member_starts : goal.loop-k-preserved-then-member_starts
-loop-k-preserved-then-member_starts c = search (pass_there, rules)
-
 pub loop-k-preserved : goal.loop-k-preserved
-loop-k-preserved c = search (pass_lacks, rules)
+loop-k-preserved c =
+    elim c.if-member_starts.branch [
+      | then-member_starts w ↦ rw w.i-is (search (rules, pass_there))
+      | else-member_starts w ↦ rw w.i-is (search (rules, pass_lacks))
+    ]
 
 pub overflow_add-row-2 : goal.overflow_add-row-2
 overflow_add-row-2 c = record { fits = search (row_fits_lem, rules) }

@@ -1,11 +1,8 @@
+use Rattle.std.proofs.Common.{rules}
 use Rattle.filter.specs.Parse.{filter_fits}
 use Rattle.octets.proofs.Tests.{tests}
 use Rattle.filter.proofs.Filter.fits.Goals as goal
 
-pub returns-then-text-lt-MIN_BYTES : goal.returns-then-text-lt-MIN_BYTES
-unfolding filter_fits
-returns-then-text-lt-MIN_BYTES c = search tests
-
 pub returns : goal.returns
 unfolding filter_fits
-returns c = search tests
+returns c = search (rules, tests)

@@ -1,8 +1,0 @@
-use Rattle.integers.proofs.Steps.{count-beyond, count-within, told_same}
-use Rattle.integers.proofs.same_count.Goals as goal
-
-pub returns-then-n-ge9223372036854775808 : goal.returns-then-n-ge9223372036854775808
-returns-then-n-ge9223372036854775808 c = search count-beyond
-
-pub returns : goal.returns
-returns c = search (count-within, told_same)
