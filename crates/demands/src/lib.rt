@@ -36,6 +36,18 @@ pub fn part(value: &[u8], place: usize, length: usize) -> Result<&[u8], Refusal>
     value::part(value, place, length)
 }
 
+pub fn part_number(value: &[u8], place: usize, length: usize) -> u8
+    ensures { result ≡ part_refusal value.now place length }
+{
+    value::part_number(value, place, length)
+}
+
+pub fn part_bytes(value: &[u8], place: usize, length: usize) -> &[u8]
+    ensures { PartRefused (part_refusal value.now place length) result.now }
+{
+    value::part_bytes(value, place, length)
+}
+
 pub fn list(
     table: &[u8],
     value: &[u8],

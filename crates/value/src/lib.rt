@@ -639,3 +639,23 @@ pub fn part<'a>(value: &'a [u8], place: usize, length: usize) -> Result<&'a [u8]
     }
     Ok(octets::part(value, place, length))
 }
+
+// The refusal number of the fifth entry, 0 for none, for callers that take no result apart.
+pub fn part_number(value: &[u8], place: usize, length: usize) -> u8
+    ensures { result ≡ (parts.part_report value_limits value.now place length).refusal }
+{
+    match part(value, place, length) {
+        Ok(_) => 0,
+        Err(refusal) => refusal.number(),
+    }
+}
+
+// The octets of the fifth entry, none with a refusal, for callers that take no result apart.
+pub fn part_bytes<'a>(value: &'a [u8], place: usize, length: usize) -> &'a [u8]
+    ensures { result.now ≡ (parts.part_report value_limits value.now place length).octets }
+{
+    match part(value, place, length) {
+        Ok(octets) => octets,
+        Err(_) => &value[..0],
+    }
+}
