@@ -1,13 +1,14 @@
 -- The listing: one lemma for each return; its premises are the facts as the code has them.
 use mathlib.Core.Path.{◌≡◌, refl, sym, ap, ◌∙◌, subst}
-use mathlib.Core.Bool.{Bool, true, false, true≢false}
+use mathlib.Core.Bool.{Bool, true, false, not, true≢false}
 use Rattle.std.specs.Prelude.{Option, None, Some, Result, Ok, Err, ok_or}
 use Rattle.table.specs.declared.Refusal.{Refusal}
 use mathlib.Core.List.{List, [], map}
 use Prim.Native.Nat.{ℕ, ◌≤◌, ◌<◌, ◌+◌, ◌*◌, ◌/◌, min}
 use native.Mathlib.Omega.{arith}
-use borrow.Author.Tests.{lt-ltb, le-ltb}
+use borrow.Author.Tests.{not-true, not-false, lt-ltb, le-ltb}
 use lib.ListN.{length}
+use lib.Dec.{leb}
 use Rattle.octets.specs.Pick.{bind, is_some}
 use Rattle.rows.specs.Paper.{table_limits}
 use Rattle.types.specs.Types.{Ty, type_at}
@@ -36,12 +37,20 @@ use Rattle.walk.specs.declared.State.{State}
 use Rattle.walk.proofs.Callers.{asks_of, asks-listed}
 use Rattle.walk.proofs.ListLaws.{counted-all, list-run}
 use Rattle.evaluation.proofs.ItemSteps.{some_there}
-use Rattle.engine.specs.Listing.{Listing, refused_list, lists, report, written, listed, listing_fits, with_stored, with_ids, listing_of, list_report, listing}
+use Rattle.engine.specs.Listing.{Listing, refused_list, lists, report, written, listed, reference_fits, listing_fits, with_stored, with_ids, listing_of, list_report, listing}
 use Rattle.engine.specs.Paper.{limits}
 use Rattle.engine.specs.Inner.Checked.{PassedIf}
 use Rattle.engine.specs.Inner.Listed.{Asked, Lists, LedBy, Leads}
 use Rattle.engine.specs.declared.Listed.{Listed}
 use Rattle.engine.proofs.MisfitLaws.{trail-fits}
+
+-- ---- sizes
+module _ (given : Bool) (r : List ℕ) where
+  pub reference-none : not given ≡ true → true ≡ reference_fits limits given r
+  reference-none e = rw (not-true given e)
+
+  pub reference-given : not given ≡ false → leb (length r) limits.reference ≡ reference_fits limits given r
+  reference-given e = rw (not-false given e)
 
 -- ---- what a plan names
 pub asked_so : (t q v : List ℕ) → Asked t q v → Asks t q [] v

@@ -67,7 +67,10 @@ fn admit(table: &[u8], w: &mut [u64; 256]) -> Result<(), Refusal>
 fn reference_fits(given: bool, reference: &[u8]) -> bool
     ensures { result ≡ reference_fits limits given reference.now }
 {
-    !given || reference.len() <= Listed::MAX_REFERENCE
+    if !given {
+        return true;
+    }
+    reference.len() <= Listed::MAX_REFERENCE
 }
 
 #[tactic(auto, unfolding(crate::specs::Listing::listing_fits))]
