@@ -83,6 +83,11 @@ module _ (w s : List ℕ) (at : ℕ) (r : Option ℕ) (e : r ≡ word_at w s at)
   word_not q = if_none (starts w (drop at s)) (at + length w) (at_none r e q)
 
 -- ---- spaces at the end
+pub trimmed-space : (l : List ℕ) → trimmed (l ++ (32 ∷ [])) ≡ trimmed l
+unfolding trimmed
+trimmed-space [] = refl
+trimmed-space (b ∷ l) = rw (trimmed-space l)
+
 pub trimmed-other : (l : List ℕ) (b : ℕ) → (b ≡ 32 → ⊥) → trimmed (l ++ (b ∷ [])) ≡ l ++ (b ∷ [])
 unfolding trimmed
 trimmed-other [] b n = rw (ne_eqb b 32 n)

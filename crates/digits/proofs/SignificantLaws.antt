@@ -120,6 +120,9 @@ ended : (hexed : Bool) (h : List ℕ) (n : ℕ) → ends_before hexed h n ≡ tr
 ended true h n e = let l = ltb-true (length h) (n / 4) e in let q = hex-length h in omega arith
 ended false h n e = let l = ltb-true (length h) n e in let q = text-length h in omega arith
 
+pub ends_some : (hexed : Bool) (h : List ℕ) (n : ℕ) (u : Bool) → u ≡ ends_before hexed h n → u ≡ true → 1 ≤ n
+ends_some hexed h n u told e = let l = ended hexed h n (sym told ∙ e) in omega arith
+
 -- where the last of the stored bits isn't 0, and fewer are asserted, they differ
 pub last_differs : (s t : List ℕ) (n y : ℕ) → length t < n → y ≡ get_or s (n - 1) 0 → (y ≡ 0 → ⊥) → false ≡ alike s t
 last_differs s t n y l e d = go (alike s t) refl

@@ -1,17 +1,58 @@
 -- Writing an operand: one lemma for each need, its premises as the code has them.
 use mathlib.Core.Path.{◌≡◌, sym, ap, ap₂, ◌∙◌}
 use mathlib.Core.Bool.{true}
-use mathlib.Core.List.{List, [], ◌∷◌, ◌++◌, append_assoc}
+use mathlib.Core.List.{List, [], ◌∷◌, ◌++◌, append_assoc, append-nil}
 use Prim.Native.Nat.{ℕ, suc, ◌≤◌, ◌<◌, ◌+◌, ◌-◌, ◌*◌, ◌/◌, ◌%◌}
 use native.Mathlib.Omega.{arith}
 use native.Mathlib.Numerals.{add-one}
 use lib.ListN.{length, take, drop, set, length-set}
 use lib.Seq.{take-suc-set, length-take-le}
+use Rattle.octets.specs.Octets.{octet}
 use Rattle.octets.specs.Inner.Answers.{between}
-use Rattle.octets.proofs.Laws.{rest-length}
+use Rattle.octets.proofs.Laws.{rest-cons, rest-length}
 use Rattle.strings.specs.Prepared.{prepared}
 use Rattle.strings.specs.Inner.Escaped.{unescaped}
 use Rattle.names.specs.Inner.Operand.{two_octets, attribute_octets}
+
+-- ---- copying: the octets before place i stand in the memory, those from it on are to come
+pub record Copying (p : List ℕ) (from to n : ℕ) (m₀ : List ℕ) (i : ℕ) (m : List ℕ) : Type 0 where
+  pub start : take (n + (i - from)) m ++ between p i to ≡ take n m₀ ++ between p from to
+
+pub copy_start : (p : List ℕ) (from to n : ℕ) (m : List ℕ) → Copying p from to n m from m
+copy_start p from to n m = record { start = let e : n + (from - from) ≡ n = omega arith in ap (λ (k : ℕ). take k m ++ between p from to) e }
+
+between_first : (p : List ℕ) (i to : ℕ) → i < to → to ≤ length p → between p i to ≡ octet p i ∷ between p (i + 1) to
+between_first p i to h w = go
+  where
+    go : between p i to ≡ octet p i ∷ between p (i + 1) to
+    go = ap (λ (l : List ℕ). take (to - i) l) (rest-cons p i (omega arith)) ∙ ap (λ (k : ℕ). take k (octet p i ∷ drop (i + 1) p)) more
+      where
+        more : to - i ≡ suc (to - (i + 1))
+        more = omega arith
+
+module _ (p : List ℕ) (from to n : ℕ) (m₀ : List ℕ) (i : ℕ) (m : List ℕ) (v : Copying p from to n m₀ i m) where
+  pub copy_done : i ≡ to → take (n + (to - from)) m ≡ take n m₀ ++ between p from to
+  copy_done e =
+      ap (λ (k : ℕ). take (n + (k - from)) m) (sym e)
+      ∙ sym (append-nil (take (n + (i - from)) m))
+      ∙ ap (λ (l : List ℕ). take (n + (i - from)) m ++ l) (sym none)
+      ∙ v.start
+    where
+      none : between p i to ≡ []
+      none = let z : to - i ≡ 0 = omega arith in ap (λ (k : ℕ). take k (drop i p)) z
+
+  pub copy_more : length m ≡ 5120 → from ≤ i → i < to → n + (to - from) ≤ 5120 → to ≤ length p
+      → Copying p from to n m₀ (i + 1) (set m (n + (i - from)) (octet p i))
+  copy_more l b h short w = record {
+    start =
+        let e : n + (i + 1 - from) ≡ suc (n + (i - from)) = omega arith in
+        rw (
+          e,
+          take-suc-set m (n + (i - from)) (octet p i) (omega arith),
+          append_assoc (take (n + (i - from)) m) (octet p i ∷ []) (between p (i + 1) to),
+        )
+        (ap (λ (l : List ℕ). take (n + (i - from)) m ++ l) (sym (between_first p i to h w)) ∙ v.start);
+  }
 
 -- ---- a number in two octets
 pub two-written : (m : List ℕ) (n k : ℕ) → length m ≡ 5120 → n + 2 ≤ 5120

@@ -23,9 +23,11 @@ fn copy(p: &[u8], from: usize, to: usize, n: usize, memory: &mut [u8; 5120]) -> 
     ensures written { part memory.new 0 result ≡ part memory.old 0 n ++ between p.now from to }
     ensures place { result ≡ n + (to - from) }
 {
-    let end = n + (to - from);
-    memory[n..end].copy_from_slice(&p[from..to]);
-    end
+    // Octet by octet: `copy_from_slice` would be a call of the C library's memmove.
+    for i in from..to {
+        memory[n + (i - from)] = p[i];
+    }
+    n + (to - from)
 }
 
 // Writes a number in two octets, and answers the place after them.

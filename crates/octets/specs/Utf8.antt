@@ -4,8 +4,8 @@ use Rattle.std.specs.Prelude.{ℕ, ◌-◌, Bool, false, List, [], ◌∷◌, lt
 use Rattle.octets.specs.Pick.{pick}
 use Rattle.octets.specs.Text.{within}
 
--- What may come next (`Awaiting`): `Tails n least most`, n octets after the first of a character, the next of them from `least` to `most`, and with
--- none to come a new character; or `Broken`, since an octet was not one of UTF-8
+-- What may come next (`Awaiting`): `Some (n, least, most)`, n octets after the first of a character, the next of them from `least` to `most`, and with
+-- none to come a new character; or `None`, since an octet was not one of UTF-8
 -- UTF8-tail: 80 to BF
 abbrev pub awaits : ℕ → Option (ℕ × ℕ × ℕ)
 awaits n = Some (n, 128, 191)

@@ -1,7 +1,7 @@
 -- Quoted strings and characters: one lemma for each return; its premises are the facts as the code has them.
 use Rattle.std.specs.Prelude.{Option}
 use mathlib.Core.Path.{◌≡◌, refl, sym, ap, ap₂, ◌∙◌}
-use mathlib.Core.Bool.{Bool, true, false, false≢true}
+use mathlib.Core.Bool.{Bool, true, false, not, false≢true}
 use Rattle.std.specs.Prelude.{None, Some}
 use mathlib.Core.List.{List, [], ◌∷◌}
 use Prim.Native.Nat.{ℕ, ◌≤◌, ◌<◌, ◌+◌, ◌-◌, ◌*◌}
@@ -194,3 +194,7 @@ module _ (s : List ℕ) (form : Form) (at : ℕ) where
       go Form.Stored q = sym (rest-cons s at h)
       go Form.Quoted q = quoted-other s at h (other (octet s at) 34 q)
       go Form.Escaped q = escaped-other s at h (other (octet s at) 92 q)
+
+pub not_no : (u : Bool) → not u ≡ no u
+not_no true = refl
+not_no false = refl
