@@ -171,7 +171,11 @@ fn value_case<R: Read, W: Write>(input: &mut R, out: &mut W) -> io::Result<bool>
 
 // A hexadecimal digit.
 fn digit(n: u8) -> u8 {
-    octets::octet(b"0123456789ABCDEF", n as usize)
+    match n {
+        0..=9 => b'0' + n,
+        10..=15 => b'A' - 10 + n,
+        _ => b'?',
+    }
 }
 
 // Octets as hexadecimal digits: as many octets as a value may have.

@@ -44,7 +44,11 @@ fn print_number<W: Write>(out: &mut W, word: &[u8], n: u64) -> io::Result<()> {
 }
 
 fn digit(n: u8) -> u8 {
-    octets::octet(b"0123456789ABCDEF", n as usize)
+    match n {
+        0..=9 => b'0' + n,
+        10..=15 => b'A' - 10 + n,
+        _ => b'?',
+    }
 }
 
 fn print_octet<W: Write>(out: &mut W, b: u8) -> io::Result<()> {
