@@ -1,6 +1,6 @@
 -- One lemma for each return and each turn of a loop; its premises are the facts as the code has them.
 use mathlib.Core.Path.{◌≡◌, refl, sym, ap, ◌∙◌}
-use mathlib.Core.Bool.{Bool, true, false}
+use mathlib.Core.Bool.{Bool, true, false, not, false≢true}
 use Rattle.std.specs.Prelude.{Option, None, Some}
 use mathlib.Core.List.{List, [], ◌∷◌}
 use Prim.Native.Nat.{ℕ, suc, ◌≤◌, ◌<◌, ◌+◌, ◌-◌, ◌*◌, max}
@@ -11,6 +11,7 @@ use lib.Dec.{ltb, leb, eqb}
 use lib.ListN.{length, take, drop}
 use lib.Seq.{take-nil}
 use Rattle.std.specs.Cmp.Lexicographic.{pointwise}
+use Rattle.std.specs.Option.{is_some}
 use Rattle.std.proofs.lemmas.Bool.Decides.{nat_tests}
 use Rattle.octets.specs.Pick.{pick, both, either}
 use Rattle.octets.specs.Octets.{octet, part, larger, same}
@@ -85,10 +86,20 @@ unfolding decimal_from
 decimal-done s i size p h = p.clipped ∙ ap clip (rw (rest-none s i h) at p.so_far)
 
 -- ---- UTF-8
+-- no octets are UTF-8 after one that may not come
+none_from : (b : Option (ℕ × ℕ × ℕ)) (s : List ℕ) → is_some b ≡ false → false ≡ utf8_from b s
+unfolding utf8_from after
+none_from None [] e = refl
+none_from None (x ∷ s) e = none_from None s e
+none_from (Some t) s e = absurd (false≢true (sym e))
+
 module _ (s : List ℕ) (i : ℕ) (a : Option (ℕ × ℕ × ℕ)) (inv : utf8_from a (drop i s) ≡ utf8 s) where
   pub utf8-more : (b : Option (ℕ × ℕ × ℕ)) → i < length s → b ≡ after a (octet s i) → utf8_from b (drop (i + 1) s) ≡ utf8 s
   unfolding utf8_from
   utf8-more b h e = rw e (sym (ap (utf8_from a) (rest-cons s i h)) ∙ inv)
+
+  pub utf8-broken : (b : Option (ℕ × ℕ × ℕ)) → i < length s → b ≡ after a (octet s i) → (u : Bool) → is_some b ≡ not u → u ≡ true → false ≡ utf8 s
+  utf8-broken b h e u n t = none_from b (drop (i + 1) s) (n ∙ ap not t) ∙ utf8-more b h e
 
   pub utf8-done : (u : Bool) → length s ≤ i → u ≡ may_end a → u ≡ utf8 s
   unfolding utf8_from

@@ -282,7 +282,7 @@ pub fn may_end(a: Awaiting) -> bool
     matches!(a, Some((0, _, _)))
 }
 
-// Whether octets are valid UTF-8. Text in which no octet is above 127 needs no more than the largest octet.
+// Whether octets are valid UTF-8. Text in which no octet is above 127 needs no more than the largest octet. The first octet that may not come ends the loop.
 pub fn utf8(s: &[u8]) -> bool
     ensures { result ≡ unicode.utf8 s.now }
 {
@@ -292,6 +292,9 @@ pub fn utf8(s: &[u8]) -> bool
     let mut a = Some((0, 128, 191));
     for b in s {
         a = after(a, *b);
+        if a.is_none() {
+            return false;
+        }
     }
     may_end(a)
 }
