@@ -9,7 +9,7 @@ use native.Mathlib.Omega.{arith}
 use borrow.Author.Tests.{eq-eqb, ne_eqb, not-true, not-false}
 use lib.Dec.{eqb}
 use lib.ListN.{length, drop}
-use Rattle.octets.specs.Pick.{no, both, either}
+use Rattle.octets.specs.Pick.{pick, no, both, either}
 use Rattle.octets.specs.Octets.{octet, part, every, bytes}
 use Rattle.octets.specs.Inner.Answers.{between}
 use Rattle.octets.specs.Text.{is_digit, is_lower, is_upper, is_letter, is_alnum, starts, skip, trimmed}
@@ -97,6 +97,17 @@ module _ (s : List ℕ) (at i inner : ℕ) (quoted : Bool) (v : Braces s at i in
       unfolding brace_from
       brace_hidden e = (omega arith, rw e (rw (ne_eqb _ _ n, e) at brace-here))
 
+      pub brace-other : (octet s i ≡ 123 → ⊥) → (octet s i ≡ 125 → ⊥) → Braces s at (i + 1) inner quoted
+      unfolding brace_from
+      brace-other o m = (omega arith, whichever quoted (rw (ne_eqb _ _ n, ne_eqb _ _ o, ne_eqb _ _ m) at brace-here))
+        where
+          whichever : (t : Bool) → pick t (brace_from (drop (i + 1) s) (i + 1) inner t) (brace_from (drop (i + 1) s) (i + 1) inner t) ≡ brace_at s at → brace_from (drop (i + 1) s) (i + 1) inner t ≡ brace_at s at
+          whichever true e = e
+          whichever false e = e
+
+      pub brace-before-both : octet s i < 123 → Braces s at (i + 1) inner quoted
+      brace-before-both e = brace-other (λ (z : octet s i ≡ 123). omega arith) (λ (z : octet s i ≡ 125). omega arith)
+
       module _ (plain : quoted ≡ false) where
         brace-plain : brace_from (octet s i ∷ drop (i + 1) s) i inner false ≡ brace_at s at
         brace-plain = rw plain at brace-here
@@ -106,10 +117,6 @@ module _ (s : List ℕ) (at i inner : ℕ) (quoted : Bool) (v : Braces s at i in
         brace-opens e = (omega arith, rw plain (rw (ne_eqb _ _ n, eq-eqb _ _ e) at brace-plain))
 
         module _ (o : octet s i ≡ 123 → ⊥) where
-          pub brace-other : (octet s i ≡ 125 → ⊥) → Braces s at (i + 1) inner quoted
-          unfolding brace_from
-          brace-other m = (omega arith, rw plain (rw (ne_eqb _ _ n, ne_eqb _ _ o, ne_eqb _ _ m) at brace-plain))
-
           module _ (c : octet s i ≡ 125) where
             pub brace-found : inner ≡ 0 → Some i ≡ brace_at s at
             unfolding brace_from

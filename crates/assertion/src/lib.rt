@@ -82,23 +82,27 @@ pub fn mark_at(s: &[u8], at: usize, c: u8) -> Option<usize>
 }
 
 // ---- the value text
-// The closing brace from a place on that is neither in double quotes nor paired with an opening one behind that place.
+// The closing brace from a place on that is neither in double quotes nor paired with an opening one behind that place. Most octets are less than both braces,
+// so that one comparison passes them by.
 fn brace_at(s: &[u8], at: usize) -> Option<usize>
     ensures { result ≡ text.brace_at s.now at }
 {
     let mut inner: usize = 0;
     let mut quoted = false;
     for i in at..s.len() {
-        if s[i] == b'"' {
+        let b = s[i];
+        if b == b'"' {
             quoted = !quoted;
-        } else if !quoted {
-            if s[i] == b'{' {
-                inner += 1;
-            } else if s[i] == b'}' {
-                if inner == 0 {
-                    return Some(i);
+        } else if b'{' <= b {
+            match b {
+                b'{' if !quoted => inner += 1,
+                b'}' if !quoted => {
+                    if inner == 0 {
+                        return Some(i);
+                    }
+                    inner -= 1;
                 }
-                inner -= 1;
+                _ => {}
             }
         }
     }
