@@ -12,7 +12,7 @@ use lib.ListN.{length, take, drop}
 use lib.Seq.{drop-drop}
 use Rattle.octets.specs.Pick.{pick, both, no, bind, consed}
 use Rattle.octets.specs.Octets.{octet, part, same, every, bytes}
-use Rattle.octets.specs.Text.{is_lower, is_digit, may_follow, name_from, is_name, is_number, decimal, onto_first, pieces}
+use Rattle.octets.specs.Text.{is_lower, is_letter, is_alnum, is_digit, may_follow, name_from, is_name, is_number, decimal, onto_first, pieces}
 use Rattle.octets.specs.Inner.Answers.{clip}
 use Rattle.octets.proofs.Laws.{rest-cons, rest-none, rest-length, part-rest}
 use Rattle.octets.proofs.TextLaws.{every-cons, number-nil, number-cons, pieces-nil, pieces-cons, same-nil, same-cons}
@@ -42,6 +42,10 @@ module _ (p : List ℕ) (a : ℕ) (u : Bool) (read : a ≡ octet p 0) (told : u 
       go [] e = absurd (false≢true e)
       go (b ∷ s) e = rw e
 
+letter-follows : (a b : ℕ) → is_letter b ≡ true → true ≡ may_follow a b
+unfolding may_follow is_alnum
+letter-follows a b e = rw e refl
+
 module _ (p : List ℕ) (a i : ℕ) (m : Bool) (inv : name_from a (drop i p) ≡ m) where
   module _ (h : i < length p) (u : Bool) (told : u ≡ may_follow a (octet p i)) where
     name-here : both u (name_from (octet p i) (drop (i + 1) p)) ≡ m
@@ -53,6 +57,9 @@ module _ (p : List ℕ) (a i : ℕ) (m : Bool) (inv : name_from a (drop i p) ≡
 
     pub name-more : not u ≡ false → name_from (octet p i) (drop (i + 1) p) ≡ m
     name-more e = rw (not-false u e) at name-here
+
+  pub name-letter : i < length p → (u : Bool) → u ≡ is_letter (octet p i) → not u ≡ false → name_from (octet p i) (drop (i + 1) p) ≡ m
+  name-letter h u told e = name-more h true (letter-follows a (octet p i) (sym told ∙ not-false u e)) refl
 
   module _ (h : length p ≤ i) where
     name-end : no (eqb a 45) ≡ m

@@ -48,11 +48,13 @@ fn is_name(p: &[u8]) -> bool
     if !octets::is_lower(a) {
         return false;
     }
+    // Most octets of names are letters: these first.
     for i in 1..p.len() {
-        if !octets::may_follow(a, p[i]) {
+        let b = p[i];
+        if !octets::is_letter(b) && !octets::may_follow(a, b) {
             return false;
         }
-        a = p[i];
+        a = b;
     }
     a != b'-'
 }
