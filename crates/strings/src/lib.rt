@@ -161,7 +161,8 @@ fn escaped_octet(s: &[u8], at: usize) -> Option<(u8, usize)>
     pair_octet(s, at)
 }
 
-// The octet at a place of a string of a form.
+// The octet at a place of a string of a form. Inlined: a call hands its answer over in memory, which costs more than the reading.
+#[inline(always)]
 fn read_octet(s: &[u8], form: Form, at: usize) -> Option<(u8, usize)>
     ensures { inner.report_octet form s.now result ≡ inner.octets_of form (drop at s.now) }
 {
