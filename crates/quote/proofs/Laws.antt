@@ -2,7 +2,7 @@
 use mathlib.Core.Path.{◌≡◌, refl, ap, ◌∙◌}
 use mathlib.Core.Bool.{Bool, true, false}
 use mathlib.Core.List.{List, [], ◌∷◌, ◌++◌}
-use Prim.Native.Nat.{ℕ, ◌≤◌, ◌<◌, ◌+◌}
+use Prim.Native.Nat.{ℕ, ◌≤◌, ◌<◌, ◌+◌, ◌*◌}
 use native.Mathlib.Omega.{arith}
 use borrow.Author.Tests.{eq-eqb, ne_eqb, eqb-true, eqb-false}
 use lib.Dec.{eqb}
@@ -47,6 +47,17 @@ width-doubled b s = go (eqb b 34)
     go : (t : Bool) → length (pick t (34 ∷ 34 ∷ doubled s) (b ∷ doubled s)) ≡ pick t 2 1 + length (doubled s)
     go true = omega arith
     go false = omega arith
+
+-- no text has more than twice its octets
+pub doubled_most : (s : List ℕ) → length (doubled s) ≤ 2 * length s
+doubled_most s = by-octets (λ t d. length d ≤ 2 * length t) (omega arith) (λ t d h. omega arith) (λ b t d n h. omega arith) s
+
+-- no text has fewer octets quoted than itself
+pub doubled_least : (s : List ℕ) → length s ≤ length (doubled s)
+doubled_least s = by-octets (λ t d. length t ≤ length d) (omega arith) (λ t d h. omega arith) (λ b t d n h. omega arith) s
+
+pub width_few : (b : ℕ) → width b ≤ 2
+width_few b = pick_cases (λ n. n ≤ 2) (eqb b 34) 2 1 (λ _. omega arith) (λ _. omega arith)
 
 pub width-at : (s : List ℕ) (i : ℕ) → i < length s → length (doubled (drop i s)) ≡ width (octet s i) + length (doubled (drop (i + 1) s))
 width-at s i h = ap (λ (l : List ℕ). length (doubled l)) (rest-cons s i h) ∙ width-doubled (octet s i) (drop (i + 1) s)

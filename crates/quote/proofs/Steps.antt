@@ -3,39 +3,62 @@ use Rattle.std.specs.Prelude.{Ok}
 use mathlib.Core.Path.{◌≡◌, refl, sym, ap, ◌∙◌}
 use mathlib.Core.Bool.{Bool, true, false, not}
 use mathlib.Core.List.{List, [], ◌∷◌, ◌++◌, append_assoc, append-nil}
-use Prim.Native.Nat.{ℕ, ◌≤◌, ◌<◌, ◌+◌, ◌-◌}
+use Prim.Native.Nat.{ℕ, ◌≤◌, ◌<◌, ◌+◌, ◌-◌, ◌/◌}
 use native.Mathlib.Omega.{arith}
 use native.Mathlib.Numerals.{add-one}
-use borrow.Author.Tests.{le-leb, lt-leb, not-false}
-use lib.Dec.{eqb}
+use borrow.Author.Tests.{le-leb, lt-leb, leb-true, leb-false, not-false}
+use lib.Dec.{eqb, leb}
 use lib.ListN.{length, take, drop, set, length-set, length-append, take-append-drop}
 use lib.Seq.{take-suc-set, drop-set-lt, drop-drop}
 use Rattle.octets.specs.Octets.{octet}
 use Rattle.octets.specs.Utf8.{utf8}
 use Rattle.octets.proofs.Laws.{rest-cons, rest-none}
-use Rattle.quote.specs.declared.QuoteError.{QuoteError}
 use Rattle.quote.specs.Quote.{doubled, quoted, Quoting, quoting, written, fits, quoted_into, quoted_report}
 use Rattle.quote.specs.Inner.Work.{width}
-use Rattle.quote.proofs.Laws.{doubled-nil, doubled_quote, doubled-other, width_some, width-at, quoted-length}
+use Rattle.quote.proofs.Laws.{doubled-nil, doubled_quote, doubled-other, width_some, width-at, quoted-length, doubled_most, doubled_least, width_few}
 
--- ---- fits: the room that is left, and what is yet to be counted
+-- ---- fits: no room for the two quotes, room for any text as long, too little for any, or by the octets that are written twice
 pub fits-small : (t : List ℕ) (size : ℕ) → size < 2 → false ≡ fits t size
 fits-small t size h = let e = quoted-length t in sym (lt-leb (length (quoted t)) size (omega arith))
 
-pub fits-start : (t : List ℕ) (size : ℕ) → 2 ≤ size → length (quoted t) + (size - 2) ≡ size + length (doubled t)
-fits-start t size h = let e = quoted-length t in omega arith
+pub fits_twice : (t : List ℕ) (size : ℕ) → 2 ≤ size → length t ≤ (size - 2) / 2 → true ≡ fits t size
+fits_twice t size g h = let e = quoted-length t in let d = doubled_most t in sym (le-leb (length (quoted t)) size (omega arith))
 
-module _ (t : List ℕ) (size i left : ℕ) (inv : length (quoted t) + left ≡ size + length (doubled (drop i t))) where
-  pub fits-done : length t ≤ i → true ≡ fits t size
-  fits-done h = let e : length (doubled (drop i t)) ≡ 0 = ap (λ (l : List ℕ). length (doubled l)) (rest-none t i h) ∙ ap length doubled-nil in
-      sym (le-leb (length (quoted t)) size (omega arith))
+pub fits_short : (t : List ℕ) (size : ℕ) → size - 2 < length t → false ≡ fits t size
+fits_short t size h = let e = quoted-length t in let d = doubled_least t in sym (lt-leb (length (quoted t)) size (omega arith))
 
+-- of the octets up to i, so many are written twice
+pub record Counts (t : List ℕ) (i more : ℕ) : Type 0 where
+  pub few : more ≤ i
+  pub whole : i + more + length (doubled (drop i t)) ≡ length (doubled t)
+
+pub counts-start : (t : List ℕ) → Counts t 0 0
+counts-start t = record { few = omega arith; whole = omega arith }
+
+module _ (t : List ℕ) (i more : ℕ) (v : Counts t i more) where
   module _ (h : i < length t) (w : ℕ) (told : w ≡ width (octet t i)) where
-    pub fits_not : left < w → false ≡ fits t size
-    fits_not l = let e = width-at t i h in sym (lt-leb (length (quoted t)) size (omega arith))
+    pub counts_more : Counts t (i + 1) (more + (w - 1))
+    counts_more =
+        let e = width-at t i h in
+        let a = width_some (octet t i) in
+        let m = width_few (octet t i) in
+        let f = v.few in
+        let o = v.whole in
+        record { few = omega arith; whole = omega arith }
 
-    pub fits_more : w ≤ left → length (quoted t) + (left - w) ≡ size + length (doubled (drop (i + 1) t))
-    fits_more l = let e = width-at t i h in omega arith
+  pub counts_fit : (size : ℕ) → 2 ≤ size → length t ≤ size - 2 → i ≤ length t → length t ≤ i → leb more (size - 2 - length t) ≡ fits t size
+  counts_fit size g room low high = go (leb more (size - 2 - length t)) refl
+    where
+      whole : length t + more + 2 ≡ length (quoted t)
+      whole =
+          let n = ap (λ (l : List ℕ). length (doubled l)) (rest-none t i high) ∙ ap length doubled-nil in
+          let o = v.whole in
+          let e = quoted-length t in
+          omega arith
+
+      go : (u : Bool) → leb more (size - 2 - length t) ≡ u → u ≡ fits t size
+      go true e = let w = whole in let l = leb-true more (size - 2 - length t) e in sym (le-leb (length (quoted t)) size (omega arith))
+      go false e = let w = whole in let l = leb-false more (size - 2 - length t) e in sym (lt-leb (length (quoted t)) size (omega arith))
 
 -- ---- write: of `whole`, n octets stand in the memory s, and `rest` is to come; behind them the memory is as it was
 pub record Writing (whole room : List ℕ) (n : ℕ) (rest s : List ℕ) : Type 0 where

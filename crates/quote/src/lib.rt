@@ -21,22 +21,26 @@ fn width(b: u8) -> usize
     if b == b'"' { 2 } else { 1 }
 }
 
-// Whether the quoted form of a text fits a room of so many octets.
+// Whether the quoted form of a text fits a room of so many octets. Only where the room is neither enough for any text as long nor too little for each is
+// anything counted; that loop has no early end, so that a machine can compare many octets at once.
 fn fits(text: &[u8], size: usize) -> bool
     ensures { result ≡ specs.fits text.now size }
 {
     if size < 2 {
         return false;
     }
-    let mut left = size - 2;
-    for octet in text {
-        let w = width(*octet);
-        if left < w {
-            return false;
-        }
-        left -= w;
+    let free = size - 2;
+    if text.len() <= free / 2 {
+        return true;
     }
-    true
+    if free < text.len() {
+        return false;
+    }
+    let mut more = 0;
+    for octet in text {
+        more += width(*octet) - 1;
+    }
+    more <= free - text.len()
 }
 
 // Writes the quoted form of a text, and answers its length.

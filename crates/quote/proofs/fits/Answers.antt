@@ -1,17 +1,20 @@
-use Rattle.quote.proofs.Steps.{fits-small, fits-start, fits-done, fits_not, fits_more}
+use Rattle.quote.proofs.Steps.{fits-small, fits_twice, fits_short, counts-start, counts_more, counts_fit}
 use Rattle.quote.proofs.fits.Goals as goal
 
 pub returns-then-size-lt2 : goal.returns-then-size-lt2
 returns-then-size-lt2 c = search fits-small
 
-pub loop-octet-init : goal.loop-octet-init
-loop-octet-init c = search fits-start
+pub returns-then-text-free : goal.returns-then-text-free
+returns-then-text-free c = search fits_twice
 
-pub returns-then-left-w : goal.returns-then-left-w
-returns-then-left-w c = search fits_not
+pub returns-then-free-text : goal.returns-then-free-text
+returns-then-free-text c = search fits_short
+
+pub loop-octet-init : goal.loop-octet-init
+loop-octet-init c = search counts-start
 
 pub loop-octet-preserved : goal.loop-octet-preserved
-loop-octet-preserved c = search fits_more
+loop-octet-preserved c = search counts_more
 
 pub returns : goal.returns
-returns c = search fits-done
+returns c = search counts_fit
