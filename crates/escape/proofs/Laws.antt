@@ -2,7 +2,7 @@
 use mathlib.Core.Path.{◌≡◌, refl, sym, ap, ◌∙◌}
 use mathlib.Core.Bool.{Bool, true, false}
 use mathlib.Core.List.{List, [], ◌∷◌, ◌++◌}
-use Prim.Native.Nat.{ℕ, ◌≤◌, ◌<◌, ◌+◌}
+use Prim.Native.Nat.{ℕ, ◌≤◌, ◌<◌, ◌+◌, ◌*◌}
 use native.Mathlib.Omega.{arith}
 use borrow.Author.Tests.{eq-eqb, ne_eqb, eqb-true, eqb-false}
 use lib.Dec.{eqb}
@@ -41,6 +41,9 @@ module _ (first last : Bool) (b : ℕ) where
   pub width_three : (width first last b ≡ 1 → ⊥) → (width first last b ≡ 2 → ⊥) → escaped_octet first last b ≡ 92 ∷ 48 ∷ 48 ∷ []
   width_three = by_width (λ n l. (n ≡ 1 → ⊥) → (n ≡ 2 → ⊥) → l ≡ 92 ∷ 48 ∷ 48 ∷ []) (λ e g. refl) (λ e g. absurd (g refl)) (λ e g. absurd (e refl))
 
+  width_most : width first last b ≤ 3
+  width_most = by_width (λ n l. n ≤ 3) (omega arith) (omega arith) (omega arith)
+
 -- ---- a text
 pub escaped-nil : (first : Bool) → escaped_from first [] ≡ []
 unfolding escaped_from
@@ -77,4 +80,16 @@ width-at t i h =
     let a = length-append (octets_at t i) (to_come t (i + 1)) in
     let w = width_is (eqb i 0) (eqb (i + 1) (length t)) (octet t i) in
     let e = ap length (escaped-at t i h) in
+    omega arith
+
+-- no text has more than three times its octets
+pub escaped_most : (first : Bool) (s : List ℕ) → length (escaped_from first s) ≤ 3 * length s
+escaped_most first [] = rw (escaped-nil first) (omega arith)
+escaped_most first (b ∷ s) =
+    let last = eqb (length s) 0 in
+    let a = length-append (escaped_octet first last b) (escaped_from false s) in
+    let w = width_is first last b in
+    let m = width_most first last b in
+    let h = escaped_most false s in
+    let e = ap length (escaped-cons first b s) in
     omega arith

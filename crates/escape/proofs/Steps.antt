@@ -3,7 +3,7 @@ use Rattle.std.specs.Prelude.{Ok}
 use mathlib.Core.Path.{◌≡◌, sym, ap, ◌∙◌}
 use mathlib.Core.Bool.{Bool, true, false, not}
 use mathlib.Core.List.{List, [], ◌∷◌, ◌++◌, append_assoc, append-nil}
-use Prim.Native.Nat.{ℕ, ◌≤◌, ◌<◌, ◌+◌, ◌-◌}
+use Prim.Native.Nat.{ℕ, ◌≤◌, ◌<◌, ◌+◌, ◌-◌, ◌/◌}
 use native.Mathlib.Omega.{arith}
 use native.Mathlib.Numerals.{add-one}
 use borrow.Author.Tests.{le-leb, lt-leb, not-false}
@@ -15,9 +15,12 @@ use Rattle.octets.specs.Utf8.{utf8}
 use Rattle.escape.specs.declared.EscapeError.{EscapeError}
 use Rattle.escape.specs.Escape.{escaped_text, Escaping, escaping, written, fits, escaped_into, escaped_report}
 use Rattle.escape.specs.Inner.Work.{width_at}
-use Rattle.escape.proofs.Laws.{to_come, octets_at, escaped-at, escaped-end, width-at, width_some, width_one, width_two, width_three}
+use Rattle.escape.proofs.Laws.{to_come, octets_at, escaped-at, escaped-end, width-at, width_some, width_one, width_two, width_three, escaped_most}
 
 -- ---- fits: the room that is left, and what is yet to be counted
+pub fits_thrice : (t : List ℕ) (size : ℕ) → length t ≤ size / 3 → true ≡ fits t size
+fits_thrice t size h = let d = escaped_most true t in sym (le-leb (length (escaped_text t)) size (omega arith))
+
 module _ (t : List ℕ) (size i left : ℕ) (inv : length (escaped_text t) + left ≡ size + length (to_come t i)) where
   pub fits-done : length t ≤ i → true ≡ fits t size
   fits-done h = let e = ap length (escaped-end t i h) in sym (le-leb (length (escaped_text t)) size (omega arith))

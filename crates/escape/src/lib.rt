@@ -13,12 +13,15 @@ pub enum EscapeError {
     TooLittleRoom,
 }
 
-// Whether a character is escaped wherever it stands.
+// Whether a character is escaped wherever it stands. Letters, and all that isn't ASCII, need two comparisons.
 #[tactic(auto, unfolding(crate::specs::Escape::always_escaped))]
 fn always_escaped(b: u8) -> bool
     ensures { result ≡ specs.always_escaped b }
 {
-    matches!(b, b'"' | b'+' | b',' | b';' | b'<' | b'>' | b'\\')
+    if b'>' < b {
+        return b == b'\\';
+    }
+    matches!(b, b'"' | b'+' | b',' | b';' | b'<' | b'>')
 }
 
 // Whether a character is escaped as the first or the last of a text.
@@ -55,10 +58,13 @@ fn width_at(text: &[u8], i: usize) -> usize
     width(text[i], i == 0, i + 1 == text.len())
 }
 
-// Whether the escaped text fits a room of so many octets.
+// Whether the escaped text fits a room of so many octets. Three times the octets are enough for any text as long, and nothing is counted then.
 fn fits(text: &[u8], size: usize) -> bool
     ensures { result ≡ specs.fits text.now size }
 {
+    if text.len() <= size / 3 {
+        return true;
+    }
     let mut left = size;
     for i in 0..text.len() {
         let w = width_at(text, i);
