@@ -1,8 +1,10 @@
 // Matching rules: known rules, which rule is for which type, conforming value texts.
 #![tactic(auto)]
 
-ghost use Rattle.std.specs.Prelude.{◌≡◌, ◌<◌, length};
+ghost use Rattle.std.specs.Prelude.{◌≡◌, ◌<◌, true, false, eqb, length};
 ghost use Rattle.octets.specs.Pick.{all, bind, is_some};
+ghost use Rattle.octets.specs.Octets.{octet};
+ghost use Rattle.octets.specs.Text.{lower, is_digit, is_upper};
 ghost use Rattle.octets.specs.Quoted.{unquoted};
 ghost use Rattle.der.specs.Kind.{is_string};
 ghost use Rattle.names.specs.Compared.{asserted_name, asserted_rdn};
@@ -44,19 +46,64 @@ pub enum Rule {
 }
 
 // ---- known rules
-// Whether two names are the same without regard to case; mostly they are as they stand, so that is tried first.
+// A to Z.
+#[tactic(auto, unfolding(octets::specs::Text::is_upper))]
+fn is_upper(b: u8) -> bool
+    ensures { result ≡ is_upper b }
+{
+    octets::within(b'A', b'Z', b)
+}
+
+// Whether two octets are the same, or one letter in two cases.
+fn same_letter(a: u8, b: u8) -> bool
+    ensures { result ≡ eqb (lower a) (lower b) }
+{
+    if a == b {
+        return true;
+    }
+    if is_upper(a) {
+        return b == a + 32;
+    }
+    if is_upper(b) {
+        return a == b + 32;
+    }
+    false
+}
+
+// Whether two names of one length are the same without regard to case. Not inlined: the loop over the table then compares lengths alone,
+// and is unrolled.
+#[inline(never)]
+fn same_letters(a: &[u8], b: &[u8]) -> bool
+    requires alike { length a.now ≡ length b.now }
+    ensures { result ≡ same_name a.now b.now }
+{
+    for i in 0..a.len() {
+        if !same_letter(a[i], b[i]) {
+            return false;
+        }
+    }
+    true
+}
+
+// Whether two names are the same without regard to case.
 fn same_name(a: &[u8], b: &[u8]) -> bool
     ensures { result ≡ same_name a.now b.now }
 {
-    octets::same(a, b) || a.eq_ignore_ascii_case(b)
+    a.len() == b.len() && same_letters(a, b)
 }
 
-// Whether a text is a rule's name or OID.
-#[tactic(auto, unfolding(crate::specs::Inner::Answers::called))]
-fn is_called(t: &[u8], name: &[u8], oid: &[u8]) -> bool
+// Whether a text is a rule's name or OID. An OID begins with a digit and a name doesn't, so the text is compared with one of the two.
+fn is_called(dotted: bool, t: &[u8], name: &[u8], oid: &[u8]) -> bool
+    requires told { dotted ≡ is_digit (octet t.now 0) }
+    requires word { is_digit (lower (octet name.now 0)) ≡ false }
+    requires number { is_digit (octet oid.now 0) ≡ true }
     ensures { result ≡ answers.called t.now name.now oid.now }
 {
-    same_name(t, name) || octets::same(t, oid)
+    if dotted {
+        octets::same(t, oid)
+    } else {
+        same_name(t, name)
+    }
 }
 
 // The known rules: name, OID, rule.
@@ -89,8 +136,9 @@ const KNOWN_RULES: [(&[u8], &[u8], Rule); 14] = [
 pub fn rule_of(t: &[u8]) -> Option<Rule>
     ensures { answers.report_rule result ≡ rule_of known_rules t.now }
 {
+    let dotted = octets::is_digit(octets::octet(t, 0));
     for (name, oid, rule) in KNOWN_RULES.iter() {
-        if is_called(t, name, oid) {
+        if is_called(dotted, t, name, oid) {
             return Some(*rule);
         }
     }
