@@ -70,6 +70,10 @@ module _ (a b : ℕ) (n : a ≡ b → ⊥) (u : Bool) (upper : u ≡ is_upper a)
     letter-differs f = rw (lower_other a (sym upper ∙ h), lower_other b (sym other ∙ f)) (sym (ne_eqb a b n))
 
 -- ---- names: their letters one by one
+pub same_self : (a : List ℕ) → same a a ≡ true
+same_self [] = same-nil
+same_self (a ∷ l) = same-cons a a l l ∙ rw (eq-eqb a a refl) (same_self l)
+
 lowered_length : (a b : List ℕ) → (length a ≡ length b → ⊥) → false ≡ same (map lower a) (map lower b)
 lowered_length [] [] n = absurd (n refl)
 lowered_length [] (y ∷ b) n = sym (same_shorter (lower y) (map lower b))
