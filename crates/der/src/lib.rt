@@ -781,6 +781,22 @@ pub fn legal(kind: u8, s: &[u8], start: usize, end: usize) -> bool
     legal_contents(kind, c)
 }
 
+// The same of an element, one of many of its kind: contents that have few octets are seen without a call. An arm for each kind, so that one jump leads there.
+#[tactic(auto, unfolding(crate::specs::Legal::legal, crate::specs::Contents::legal_text))]
+pub fn legal_element(kind: u8, c: &[u8]) -> bool
+    ensures { result ≡ legal kind c.now }
+{
+    match kind {
+        Kind::BOOLEAN => legal_boolean(c),
+        Kind::INTEGER => legal_integer(c),
+        Kind::ENUMERATED => legal_integer(c),
+        Kind::NULL => legal_null(c),
+        Kind::OCTET_STRING => true,
+        Kind::PRINTABLE_STRING => legal_printable(c),
+        _ => legal_contents(kind, c),
+    }
+}
+
 // ---- what contents mean
 pub fn read_boolean(c: &[u8]) -> bool
     ensures { result ≡ meaning.boolean_of c.now }

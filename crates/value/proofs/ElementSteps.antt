@@ -190,6 +190,17 @@ leaves_are t s row e k r read kinded told = told ∙ ap is_basic (kinded ∙ ap 
 pub leaves_basic : (k : ℕ) (r : Bool) → r ≡ is_basic k → r ≡ true → is_basic k ≡ true
 leaves_basic k r e h = sym e ∙ h
 
+-- the kind of an element's type, by the row that the list's names
+pub leaf_kind : (t s : List ℕ) (row e k : ℕ) → e ≡ named_at t (row_at s row) → k ≡ kind_at t (row_at s e) → k ≡ kind_at t (row_at s (named_at t (row_at s row)))
+leaf_kind t s row e k read kinded = kinded ∙ ap (λ (x : ℕ). kind_at t (row_at s x)) read
+
+pub leaf_given : (t s : List ℕ) (row e k given : ℕ) → e ≡ named_at t (row_at s row) → k ≡ kind_at t (row_at s e) → k ≡ given
+    → given ≡ kind_at t (row_at s (named_at t (row_at s row)))
+leaf_given t s row e k given read kinded h = sym h ∙ leaf_kind t s row e k read kinded
+
+pub element_kind : (t s : List ℕ) (row e k : ℕ) → e ≡ named_at t (row_at s row) → k ≡ kind_at t (row_at s (named_at t (row_at s row))) → k ≡ kind_at t (row_at s e)
+element_kind t s row e k read kinded = rw read kinded
+
 pub element_basic : (t s : List ℕ) (row e : ℕ) → e ≡ named_at t (row_at s row) → is_basic (kind_at t (row_at s (named_at t (row_at s row)))) ≡ true
     → is_basic (kind_at t (row_at s e)) ≡ true
 element_basic t s row e read h = rw read h

@@ -5,25 +5,25 @@ use Rattle.std.specs.Prelude.{Option, None, Some}
 use mathlib.Core.List.{List}
 use Prim.Native.Nat.{ℕ, suc, ◌≤◌, ◌<◌, ◌+◌, ◌-◌, ◌*◌}
 use native.Mathlib.Omega.{arith}
-use borrow.Author.Tests.{not-true, not-false, eq-eqb, ne_eqb, eqb-true, eqb-false, leb-true}
+use borrow.Author.Tests.{not-true, not-false, eq-eqb, ne_eqb, eqb-true, eqb-false, leb-true, le-ltb}
 use lib.ListN.{length}
 use lib.Dec.{leb, eqb}
-use Rattle.octets.specs.Pick.{pick, both, bind, is_some}
+use Rattle.octets.specs.Pick.{pick, both, no, bind, is_some}
 use Rattle.octets.specs.Octets.{part, same}
 use Rattle.octets.proofs.Laws.{both_true}
 use Rattle.der.specs.Header.{inside_at}
 use Rattle.rows.specs.Row.{row_at, kind_at, is_member, named_at, members_at, mode_at, number_at, presence_at, default_at}
 use Rattle.clauses.specs.Clauses.{type_kind, default_allowed, default_legal}
 use Rattle.types.specs.Types.{Tagging, untagged, explicit, implicit, mandatory, optional, default, tagging_of, presence_of, Member, member_of, NamedBit, Ty}
-use Rattle.types.specs.Types.{basic, Members, more, members_from, bits_after, type_from}
+use Rattle.types.specs.Types.{basic, Members, no_more, more, members_from, bits_after, type_from}
 use Rattle.types.specs.Begins.{is_mandatory}
 use Rattle.types.specs.Inner.Work.{Sound}
 use Rattle.table.specs.Inner.Words.{is_basic, how, Ready}
 use Rattle.table.proofs.KindLaws.{basic_kind, small_basic}
-use Rattle.types.proofs.TagLaws.{mandatory_as}
+use Rattle.types.proofs.TagLaws.{mandatory_as, presence_as}
 use Rattle.value.specs.Value.{spot_at, spot_of, Fields, end_fields, present, absent}
 use Rattle.value.specs.Decode.{Decoded, after_of, tag_octet, in_wrapper, starts_here, is_default, unless_default, present_then, absent_then, unwrapped, fields_from, decode}
-use Rattle.value.specs.Inner.Work.{checked, up_to, within, contents_at, holds, stored_default, plain_checked, absent_checked, member_checked, fields_checked}
+use Rattle.value.specs.Inner.Work.{checked, up_to, within, contents_at, holds, stored_default, plain_checked, absent_checked, none_mandatory, rest_absent, member_checked, fields_checked}
 use Rattle.value.proofs.Views.{leaf_view, wrapper_view}
 use Rattle.rows.proofs.KindLaws.{member-names}
 use Rattle.types.proofs.TypeCases.{typed_basic}
@@ -201,6 +201,64 @@ fields_next mem ty ms v stop i = go (starts_here mem ty v stop i) (in_wrapper af
     go true (Some d) = found (is_default mem.presence (spot_of d.value).contents) d
     go false o = missing (is_mandatory mem.presence)
 
+-- ---- members none of which is there
+past_end : (m : Member) (ty : Ty) (v : List ℕ) (stop i : ℕ) → stop ≤ i → member_checked m ty v stop i ≡ pick (is_mandatory m.presence) None (Some i)
+unfolding member_checked starts_here
+past_end m ty v stop i h = rw (le-ltb i stop h)
+
+none_there : (ms : Members) (v : List ℕ) (stop i : ℕ) → stop ≤ i → is_some (fields_from ms v stop i) ≡ both (none_mandatory ms) (eqb i stop)
+unfolding unwrapped none_mandatory
+none_there no_more v stop i h = go (eqb i stop)
+  where
+    go : (x : Bool) → is_some (pick x (Some end_fields) None) ≡ x
+    go true = refl
+    go false = refl
+none_there (more m ty ms) v stop i h =
+    fields_next m ty ms v stop i ∙ ap (then_fields ms v stop) (past_end m ty v stop i h) ∙ go (is_mandatory m.presence) (none_there ms v stop i h)
+  where
+    go : (x : Bool) → is_some (fields_from ms v stop i) ≡ both (none_mandatory ms) (eqb i stop)
+        → then_fields ms v stop (pick x None (Some i)) ≡ both (both (no x) (none_mandatory ms)) (eqb i stop)
+    go true q = refl
+    go false q = q
+
+module _ (chain : ℕ) (t s : List ℕ) (row n : ℕ) where
+  abbrev on : ℕ → Members
+  on k = members_from (type_from chain t s) t s (row + 1 + k) (n - k)
+
+  module _ (ms : Members) (stop i k : ℕ) (same : none_mandatory ms ≡ none_mandatory (members_from (type_from chain t s) t s (row + 1 + k) (n - k))) where
+    module _ (l : n ≤ k) where
+      all_absent : none_mandatory ms ≡ true
+      unfolding members_from none_mandatory
+      all_absent =
+          let q : n - k ≡ 0 = omega arith in
+          same ∙ ap (λ (x : ℕ). none_mandatory (members_from (type_from chain t s) t s (row + 1 + k) x)) q
+
+      pub rest_beyond : (i ≡ stop → ⊥) → None ≡ rest_absent ms stop i
+      unfolding rest_absent
+      rest_beyond h = rw (all_absent, ne_eqb i stop h)
+
+      pub rest_ends : i ≡ stop → Some stop ≡ rest_absent ms stop i
+      unfolding rest_absent
+      rest_ends h = rw (all_absent, eq-eqb i stop h)
+
+    module _ (l : k < n) (p : ℕ) (read : p ≡ presence_at t (row_at s (row + 1 + k))) where
+      one_absent : none_mandatory ms ≡ both (no (eqb p 0)) (none_mandatory (on (k + 1)))
+      unfolding members_from none_mandatory
+      one_absent =
+          let q : n - k ≡ suc (n - (k + 1)) = omega arith in
+          let a : row + 1 + k + 1 ≡ row + 1 + (k + 1) = omega arith in
+          same
+          ∙ ap (λ (x : ℕ). none_mandatory (members_from (type_from chain t s) t s (row + 1 + k) x)) q
+          ∙ ap₂ (λ (x : Bool) (y : ℕ). both (no x) (none_mandatory (members_from (type_from chain t s) t s y (n - (k + 1)))))
+          (presence_as t (row + 1 + k) (row_at s (row + 1 + k)) ∙ ap (λ (x : ℕ). eqb x 0) (sym read)) a
+
+      pub rest_mandatory : p ≡ 0 → None ≡ rest_absent ms stop i
+      unfolding rest_absent
+      rest_mandatory h = rw (one_absent, eq-eqb p 0 h)
+
+      pub rest_again : (p ≡ 0 → ⊥) → none_mandatory ms ≡ none_mandatory (members_from (type_from chain t s) t s (row + 1 + (k + 1)) (n - (k + 1)))
+      rest_again h = one_absent ∙ ap (λ (x : Bool). both (no x) (none_mandatory (on (k + 1)))) (ne_eqb p 0 h)
+
 -- ---- the loop over the members of a SEQUENCE
 -- the members from j on at i, of n in all, have the answer of all of them
 pub record Fielded (chain : ℕ) (t s : List ℕ) (row : ℕ) (v : List ℕ) (start stop n i j : ℕ) : Type 0 where
@@ -219,6 +277,16 @@ module _ (chain : ℕ) (t s m : List ℕ) (row : ℕ) (ok : Sound chain t s m) (
     whole : up_to stop (is_some (fields_from (members_from (type_from chain t s) t s (row + 1 + j) (n - j)) v stop i)) ≡ fields_checked (members_from (type_from chain t s) t s (row + 1) (members_at t (row_at s row))) v stop start
     unfolding fields_checked
     whole = ap (up_to stop) (w.same ∙ ap (λ (x : ℕ). is_some (fields_from (members_from (type_from chain t s) t s (row + 1) x) v stop start)) w.count)
+
+    pub fields_absent : (r : Option ℕ) → stop ≤ i
+        → r ≡ rest_absent (members_from (type_from chain t s) t s (row + 1 + j) (members_at t (row_at s row) - j)) stop i
+        → r ≡ fields_checked (members_from (type_from chain t s) t s (row + 1) (members_at t (row_at s row))) v stop start
+    unfolding rest_absent
+    fields_absent r h e =
+        e
+        ∙ ap (λ (x : ℕ). rest_absent (members_from (type_from chain t s) t s (row + 1 + j) (x - j)) stop i) (sym w.count)
+        ∙ ap (up_to stop) (sym (none_there (members_from (type_from chain t s) t s (row + 1 + j) (n - j)) v stop i h))
+        ∙ whole
 
     module _ (l : j < n) where
       in_row : j < members_at t (row_at s row)

@@ -92,6 +92,33 @@ fn absent(t: &[u8], w: &[u64; 256], row: usize, i: usize) -> Option<usize>
     Some(i)
 }
 
+// The members of the SEQUENCE of a row from a number on, at a place, where none of them is there: none may be mandatory, and the place is the end.
+// Not inlined, so that the loop of `check_fields` has the registers.
+#[inline(never)]
+fn rest_absent(
+    t: &[u8],
+    w: &[u64; 256],
+    row: usize,
+    from: usize,
+    i: usize,
+    stop: usize,
+) -> Option<usize>
+    requires worded { Worded t.now w.now }
+    requires here { row < length (table_rows t.now) }
+    ensures { result ≡ work.rest_absent (work.members_on t.now row from) stop i }
+{
+    let n = table::members(t, w, row);
+    for j in from..n {
+        if table::presence(t, w, row + 1 + j) == 0 {
+            return None;
+        }
+    }
+    if i != stop {
+        return None;
+    }
+    Some(stop)
+}
+
 // Whether contents are the default of the member of a row, which has one.
 fn equals_default(t: &[u8], w: &[u64; 256], row: usize, c: &[u8]) -> bool
     requires worded { Worded t.now w.now }
@@ -131,28 +158,42 @@ fn check_basic(kind: u8, v: &[u8], start: usize, stop: usize) -> Option<usize>
     None
 }
 
-// A value of the basic type of a row at a place, before an end, behind a tag octet.
+// The same of an element, which is one of many of its kind.
+fn check_element(kind: u8, v: &[u8], start: usize, stop: usize) -> Option<usize>
+    requires ordered { start ≤ stop }
+    requires inside { stop ≤ length v.now }
+    ensures { result ≡ work.up_to stop (legal kind (part v.now start (stop - start))) }
+{
+    if der::legal_element(kind, &v[start..stop]) {
+        return Some(stop);
+    }
+    None
+}
+
+// A value of the basic type of a row, of a kind, at a place, before an end, behind a tag octet. Inlined, as `check_alike` is.
+#[inline(always)]
 fn check_leaf(
     t: &[u8],
     w: &[u64; 256],
     v: &[u8],
     row: usize,
+    kind: u8,
     tag: usize,
     at: usize,
     end: usize,
 ) -> Option<usize>
     requires worded { Worded t.now w.now }
     requires here { row < length (table_rows t.now) }
+    requires kinded { kind ≡ kind_at t.now (place_at t.now row) }
     requires basic { is_basic (kind_at t.now (place_at t.now row)) ≡ true }
     requires inside { end ≤ length v.now }
     requires usable { number tag < 31 }
     ensures { work.Answers (type_at t.now row) (kind_at t.now (place_at t.now row)) tag v.now at end result }
 {
-    let kind = table::kind(t, w, row);
     let Some((start, n)) = der::open_within(tag, v, at, end) else {
         return None;
     };
-    check_basic(kind, v, start, start + n)
+    check_element(kind, v, start, start + n)
 }
 
 // The plain member of a row, at a place where its tag octet was seen: one header, contents of the kind, and not its default.
@@ -345,7 +386,48 @@ fn has_leaves(t: &[u8], w: &[u64; 256], row: usize) -> bool
     table::is_basic(table::kind(t, w, table::named(t, w, row)))
 }
 
-// The elements of the list of a row, whose type is basic, from start up to stop: without a call of the recursion for each.
+// The elements of the list of a row, whose type is basic, of a kind, from start up to stop: without a call of the recursion for each. Inlined, so that
+// the loop is compiled for the kind that a caller names.
+#[inline(always)]
+fn check_alike(
+    t: &[u8],
+    w: &[u64; 256],
+    v: &[u8],
+    row: usize,
+    element_kind: u8,
+    start: usize,
+    stop: usize,
+) -> Option<usize>
+    requires worded { Worded t.now w.now }
+    requires here { row < length (table_rows t.now) }
+    requires list { is_list (kind_at t.now (place_at t.now row)) ≡ true }
+    requires kinded { element_kind ≡ kind_at t.now (place_at t.now (named_at t.now (place_at t.now row))) }
+    requires basic { is_basic (kind_at t.now (place_at t.now (named_at t.now (place_at t.now row)))) ≡ true }
+    requires ordered { start ≤ stop }
+    requires inside { stop ≤ length v.now }
+    ensures { result
+        ≡ work.elements_checked (kind_at t.now (place_at t.now row))
+        (type_at t.now (named_at t.now (place_at t.now row))) v.now stop start }
+{
+    let kind = table::kind(t, w, row);
+    let element = table::named(t, w, row);
+    let tag = table::own_first(t, w, element);
+    let mut before = start;
+    let mut i = start;
+    // A cursor: each element says where the next one starts.
+    while i < stop {
+        let next = check_leaf(t, w, v, element, element_kind, tag, i, stop)?;
+        if !in_order(kind, v, before, i, next) {
+            return None;
+        }
+        before = i;
+        i = next;
+    }
+    Some(stop)
+}
+
+// The same, by the kind that the row of their type has; the most usual kinds have a loop each. Not inlined, so that `check` has the registers.
+#[inline(never)]
 fn check_leaves(
     t: &[u8],
     w: &[u64; 256],
@@ -364,21 +446,14 @@ fn check_leaves(
         ≡ work.elements_checked (kind_at t.now (place_at t.now row))
         (type_at t.now (named_at t.now (place_at t.now row))) v.now stop start }
 {
-    let kind = table::kind(t, w, row);
-    let element = table::named(t, w, row);
-    let tag = table::own_first(t, w, element);
-    let mut before = start;
-    let mut i = start;
-    // A cursor: each element says where the next one starts.
-    while i < stop {
-        let next = check_leaf(t, w, v, element, tag, i, stop)?;
-        if !in_order(kind, v, before, i, next) {
-            return None;
-        }
-        before = i;
-        i = next;
+    let element_kind = table::kind(t, w, table::named(t, w, row));
+    if element_kind == Kind::INTEGER {
+        return check_alike(t, w, v, row, Kind::INTEGER, start, stop);
     }
-    Some(stop)
+    if element_kind == Kind::PRINTABLE_STRING {
+        return check_alike(t, w, v, row, Kind::PRINTABLE_STRING, start, stop);
+    }
+    check_alike(t, w, v, row, element_kind, start, stop)
 }
 
 // ---- "a nested value is checked as its row says, one level deeper"
@@ -439,6 +514,9 @@ fn check_fields(
     let n = table::members(t, w, row);
     let mut i = start;
     for j in 0..n {
+        if stop <= i {
+            return rest_absent(t, w, row, j, i, stop);
+        }
         i = check_member(t, w, v, row + 1 + j, i, stop)?;
     }
     if i != stop {

@@ -1,6 +1,6 @@
 use mathlib.Core.Path.{◌∙◌}
 use Rattle.value.proofs.LeafSteps.{inside-fits, inside-ends}
-use Rattle.value.proofs.MemberSteps.{row_fits_lem, member-fits, field_falls, field_here, field_member, fields_again, fields_bad}
+use Rattle.value.proofs.MemberSteps.{row_fits_lem, member-fits, field_falls, field_here, field_member, fields_again, fields_bad, fields_absent}
 use Rattle.value.proofs.MemberSteps.{fields_done, fields_short, fields-start, member_absent, member-default, member_is}
 use Rattle.value.proofs.ModeSteps.{is_plain, is-other}
 use Rattle.value.proofs.TagSteps.{own_usable, first_usable}
@@ -100,6 +100,9 @@ check_fields-returns-in_err-i t c = c.from_residual.ensures ∙ search (fields_b
 
 pub check_fields-loop-j-preserved : goal.check_fields-loop-j-preserved
 check_fields-loop-j-preserved t c = search (fields_again, c.in_ok-i.was)
+
+pub check_fields-returns-then-stop-i : goal.check_fields-returns-then-stop-i
+check_fields-returns-then-stop-i t c = search fields_absent
 
 pub check_fields-returns-then-i-stop : goal.check_fields-returns-then-i-stop
 check_fields-returns-then-i-stop t c = search fields_short

@@ -9,8 +9,8 @@ returns-in_default c = search leaf_misfit
 pub overflow_add-start : goal.overflow_add-start
 overflow_add-start c = record { fits = search inside-fits }
 
-pub check_basic-requires : goal.check_basic-requires
-check_basic-requires c = record { ordered = search rules; inside = search inside-ends }
+pub check_element-requires : goal.check_element-requires
+check_element-requires c = record { ordered = search rules; inside = search inside-ends }
 
 pub returns : goal.returns
 returns c = search leaf_basic

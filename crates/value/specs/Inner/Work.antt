@@ -1,5 +1,5 @@
 -- What the functions of the check answer, by the definitions: the place after a value that is as its row says, or none.
-use Rattle.std.specs.Prelude.{ℕ, zero, suc, ◌<◌, ◌+◌, ◌-◌, ◌≡◌, Bool, true, false, List, [], length, eqb}
+use Rattle.std.specs.Prelude.{ℕ, zero, suc, ◌<◌, ◌+◌, ◌-◌, ◌≡◌, Bool, true, false, List, length, eqb}
 use Rattle.std.specs.Prelude.{Option, None, Some}
 use Rattle.octets.specs.Pick.{pick, both, either, no, bind, is_some}
 use Rattle.octets.specs.Octets.{part, same}
@@ -8,8 +8,9 @@ use Rattle.der.specs.Tag.{class, number, tag_of, wrapper_octet}
 use Rattle.der.specs.Header.{inside_at}
 use Rattle.der.specs.Legal.{legal}
 use Rattle.der.specs.Order.{not_above}
-use Rattle.rows.specs.Row.{row_at, kind_at, named_at, mode_at, number_at, presence_at, default_at}
-use Rattle.types.specs.Types.{Tagging, untagged, explicit, implicit, tagging_of, Member, member_of, Ty, type_from, Members}
+use Rattle.rows.specs.Paper.{table_limits}
+use Rattle.rows.specs.Row.{row_at, kind_at, named_at, members_at, mode_at, number_at, presence_at, default_at}
+use Rattle.types.specs.Types.{Tagging, untagged, explicit, implicit, tagging_of, Member, member_of, Ty, type_from, Members, no_more, more, members_from}
 use Rattle.types.specs.Begins.{is_mandatory}
 use Rattle.types.specs.Inner.Work.{bit_of}
 use Rattle.table.specs.Inner.Rows.{table_rows, place_at, MemberRow, members_after, tagging_at, member_type_at}
@@ -80,6 +81,19 @@ plain_checked t p k g v at end = plain_of t p k v (inside_at (tag_octet g k) v a
 -- the member row at p, where it is not there
 unfoldable pub absent_checked : List ℕ → ℕ → ℕ → Option ℕ
 absent_checked t p i = pick (eqb (presence_at t p) 0) None (Some i)
+
+-- the members that stand after a row, from number j on
+abbrev pub members_on : List ℕ → ℕ → ℕ → Members
+members_on t row j = members_from (type_from table_limits.chain t (table_rows t)) t (table_rows t) (row + 1 + j) (members_at t (place_at t row) - j)
+
+-- none of the members has to be there
+unfoldable pub none_mandatory : Members → Bool
+none_mandatory no_more = true
+none_mandatory (more m ty ms) = let r = none_mandatory ms in both (no (is_mandatory m.presence)) r
+
+-- members from a place on, none of which is there
+unfoldable pub rest_absent : Members → ℕ → ℕ → Option ℕ
+rest_absent ms stop i = up_to stop (both (none_mandatory ms) (eqb i stop))
 
 -- one member: the place after it, or its own where it is not there and may be absent
 unfoldable pub member_checked : Member → Ty → List ℕ → ℕ → ℕ → Option ℕ
